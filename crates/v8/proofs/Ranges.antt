@@ -1,0 +1,73 @@
+-- The ranges of a written word's parts: each part fits its field, and each opcode is below 64, so that the sum of the
+-- parts is a word.
+use Prim.Native.Nat.{ℕ, _+_, _%_, _^_, _<_}
+use mathlib.Core.Bool.{Bool, true, false}
+use native.Mathlib.Omega.{arith}
+use lib.Dec.{ltb, eqb}
+use borrow.Author.Tests.{ltb-true}
+use Rattle.v8.specs.Choice.{cond-both}
+use Rattle.v8.specs.Signed.{signExtend}
+use Rattle.v8.specs.Write.{Fits, iBit, signedBits, fiveBits, operandBits, countBits, displacementBits, aluCode, aluCodeCc, shiftCode, loadCode, storeCode}
+use Rattle.v8.specs.declared.AluOp.{AluOp}
+use Rattle.v8.specs.declared.AluOp.the-variants.{Add, And, Or, Xor, Sub, Andn, Orn, Xnor}
+use Rattle.v8.specs.declared.ShiftOp.{ShiftOp}
+use Rattle.v8.specs.declared.ShiftOp.the-variants.{Sll, Srl, Sra}
+use Rattle.v8.specs.declared.LoadOp.{LoadOp}
+use Rattle.v8.specs.declared.LoadOp.the-variants.{Ld, Ldub, Lduh, Ldsb, Ldsh}
+use Rattle.v8.specs.declared.StoreOp.{StoreOp}
+use Rattle.v8.specs.declared.StoreOp.the-variants.{St, Stb, Sth}
+use Rattle.v8.specs.declared.Operand.{Operand}
+use Rattle.v8.specs.declared.Operand.the-variants.{Reg, Imm}
+use Rattle.v8.specs.declared.Displacement.{Displacement}
+use Rattle.v8.specs.declared.Displacement.the-variants.{Index, Bytes}
+
+pub signed-fits : (n i k v : ℕ) → i + v % 2 ^ n < 2 ^ k → Fits k (signedBits n i v)
+unfolding signedBits
+signed-fits n i k v h = cond-both (Fits k) (eqb v (signExtend n (v % 2 ^ n))) (λ t. h) (λ t. tt)
+
+five-fits : (i k v : ℕ) → (v < 32 → i + v < 2 ^ k) → Fits k (fiveBits i v)
+unfolding fiveBits
+five-fits i k v h = cond-both (Fits k) (ltb v 32) (λ t. h (ltb-true v 32 t)) (λ t. tt)
+
+pub operand-fits : (x : Operand) → Fits 14 (operandBits x)
+operand-fits (Reg r) = five-fits 0 14 r (λ h. omega arith)
+operand-fits (Imm v) = signed-fits 13 iBit 14 v (omega arith)
+
+pub count-fits : (x : Operand) → Fits 14 (countBits x)
+count-fits (Reg r) = five-fits 0 14 r (λ h. omega arith)
+count-fits (Imm v) = five-fits iBit 14 v (λ h. omega arith)
+
+pub displacement-fits : (d : Displacement) → Fits 14 (displacementBits d)
+displacement-fits (Index r) = operand-fits (Reg r)
+displacement-fits (Bytes d) = operand-fits (Imm (d .0))
+
+pub alu-small : (op : AluOp) → aluCode op < 8
+alu-small Add = omega arith
+alu-small And = omega arith
+alu-small Or = omega arith
+alu-small Xor = omega arith
+alu-small Sub = omega arith
+alu-small Andn = omega arith
+alu-small Orn = omega arith
+alu-small Xnor = omega arith
+
+pub alu-cc-small : (op : AluOp) (cc : Bool) → aluCodeCc op cc < 64
+alu-cc-small op true = omega (arith, alu-small op)
+alu-cc-small op false = omega (arith, alu-small op)
+
+pub shift-small : (op : ShiftOp) → shiftCode op < 64
+shift-small Sll = omega arith
+shift-small Srl = omega arith
+shift-small Sra = omega arith
+
+pub load-small : (op : LoadOp) → loadCode op < 64
+load-small Ld = omega arith
+load-small Ldub = omega arith
+load-small Lduh = omega arith
+load-small Ldsb = omega arith
+load-small Ldsh = omega arith
+
+pub store-small : (op : StoreOp) → storeCode op < 64
+store-small St = omega arith
+store-small Stb = omega arith
+store-small Sth = omega arith

@@ -1,0 +1,54 @@
+use Rattle.v8.specs.Read.{format00}
+use borrow.Author.Tests.{eq-eqb, ne-eqb, lt-ltb, le-ltb, le-leb, lt-leb}
+use mathlib.Core.Path.{sym, ap, _∙_}
+use borrow.Author.Needs.{needs}
+use Rattle.v8.proofs.read.read_format_00.Statement.{statement}
+use Rattle.v8.proofs.read.read_format_00.Tie as tie
+
+op2-of-requires : tie.Need-op2-of-requires
+op2-of-requires c κs = search needs
+
+rd-of-requires : tie.Need-rd-of-requires
+rd-of-requires c κs = search needs
+
+low22-of-requires : tie.Need-low22-of-requires
+low22-of-requires c κs = search needs
+
+annul-of-requires : tie.Need-annul-of-requires
+annul-of-requires c κs = search needs
+
+cond-of-requires : tie.Need-cond-of-requires
+cond-of-requires c κs = search needs
+
+low22-of-requires-2 : tie.Need-low22-of-requires-2
+low22-of-requires-2 c κs = search needs
+
+sign-extend-requires : tie.Need-sign-extend-requires
+sign-extend-requires c κs = search needs
+
+returns : tie.Need-returns
+unfolding format00
+returns c = rw (← c .before .before .before .op2-of .ensures) (simp (c .before .before .match .keys1) (cc))
+
+returns-2 : tie.Need-returns-2
+unfolding format00
+returns-2 c = rw (← c .before .before .before .before .before .op2-of .ensures) (simp (c .before .before .before .before .match .keys2) (cc))
+
+returns-3 : tie.Need-returns-3
+unfolding format00
+returns-3 c = rw (← c .before .op2-of .ensures) (simp (ne-eqb _ _ (c .match .rest .0 .1), ne-eqb _ _ (c .match .rest .1)))
+
+pub read-format-00-spec : {M : Type 1} → statement M
+read-format-00-spec =
+    tie.close
+    (tie.spec
+    op2-of-requires
+    rd-of-requires
+    low22-of-requires
+    annul-of-requires
+    cond-of-requires
+    low22-of-requires-2
+    sign-extend-requires
+    returns
+    returns-2
+    returns-3)

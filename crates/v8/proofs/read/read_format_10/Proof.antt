@@ -1,0 +1,104 @@
+use Rattle.v8.specs.Read.{format10, leafReturn}
+use Rattle.v8.specs.Field.{op3Of}
+use native.Mathlib.Omega.{arith}
+use borrow.Author.Tests.{eq-eqb, ne-eqb, lt-ltb, le-ltb, le-leb, lt-leb}
+use mathlib.Core.Path.{sym, ap, _∙_}
+use borrow.Author.Needs.{needs}
+use Rattle.v8.proofs.read.read_format_10.Statement.{statement}
+use Rattle.v8.proofs.read.read_format_10.Tie as tie
+
+op3-of-requires : tie.Need-op3-of-requires
+op3-of-requires c κs = search needs
+
+read-shift-requires : tie.Need-read-shift-requires
+read-shift-requires c κs = search needs
+
+read-shift-requires-2 : tie.Need-read-shift-requires-2
+read-shift-requires-2 c κs = search needs
+
+read-shift-requires-3 : tie.Need-read-shift-requires-3
+read-shift-requires-3 c κs = search needs
+
+alu-op-requires : tie.Need-alu-op-requires
+alu-op-requires c κs = search needs
+
+read-alu-requires : tie.Need-read-alu-requires
+read-alu-requires c κs = search needs
+
+alu-op-requires-2 : tie.Need-alu-op-requires-2
+alu-op-requires-2 c κs = search needs
+
+read-alu-requires-2 : tie.Need-read-alu-requires-2
+read-alu-requires-2 c κs = search needs
+
+returns : tie.Need-returns
+unfolding format10
+returns c = rw (← c .before .before .op3-of .ensures) (simp (c .before .match .keys1) (c .read-shift .ensures))
+
+returns-2 : tie.Need-returns-2
+unfolding format10
+returns-2 c = rw (← c .before .before .op3-of .ensures) (simp (c .before .match .keys2) (c .read-shift2 .ensures))
+
+returns-3 : tie.Need-returns-3
+unfolding format10
+returns-3 c = rw (← c .before .before .op3-of .ensures) (simp (c .before .match .keys3) (c .read-shift3 .ensures))
+
+returns-4 : tie.Need-returns-4
+unfolding format10
+returns-4 c = rw (← c .before .before .op3-of .ensures) (simp (c .before .match .keys4, c .if1 .taken))
+
+returns-5 : tie.Need-returns-5
+unfolding format10
+returns-5 c = rw (← c .before .before .op3-of .ensures) (simp (c .before .match .keys4, ne-eqb _ _ (c .if1 .left)))
+
+returns-6 : tie.Need-returns-6
+unfolding format10
+returns-6 c = let w = c .before .before .before .before .before .args .w in
+    simp (le-leb (op3Of w) 7 (omega arith))
+    (rw (← c .before .before .before .before .op3-of .ensures, ← c .before .alu-op .ensures) (c .read-alu .ensures))
+
+returns-7 : tie.Need-returns-7
+unfolding format10
+returns-7 c = let w = c .before .before .before .before .before .before .before .args .w in
+    simp (lt-leb (op3Of w) 7 (omega arith), le-ltb (op3Of w) 16 (omega arith), le-leb (op3Of w) 23 (omega arith))
+    (rw (← c .before .before .before .before .before .before .op3-of .ensures, ← c .before .alu-op2 .ensures) (c .read-alu2 .ensures))
+
+returns-8 : tie.Need-returns-8
+unfolding format10
+returns-8 c = rw (← c .before .before .before .op3-of .ensures) (simp (lt-leb _ 7 (c .before .if2 .left), lt-ltb _ 16 (c .if3 .taken)))
+
+returns-9 : tie.Need-returns-9
+unfolding format10
+returns-9 c = let r = c .before .before .before .match .rest in
+    rw (← c .before .before .before .before .op3-of .ensures)
+    (simp (
+      lt-leb _ 7 (c .before .before .if2 .left),
+      le-ltb _ _ (c .before .if3 .left),
+      lt-leb _ 23 (c .if4 .left),
+      ne-eqb _ _ (r .0 .0 .0 .1),
+      ne-eqb _ _ (r .0 .0 .1),
+      ne-eqb _ _ (r .0 .1),
+      ne-eqb (c .before .before .before .before .before .args .w) leafReturn (λ e. r .1 (c .before .before .before .before .op3-of .ensures ∙ ap op3Of e)),
+    ))
+
+pub read-format-10-spec : {M : Type 1} → statement M
+read-format-10-spec =
+    tie.close
+    (tie.spec
+    op3-of-requires
+    read-shift-requires
+    read-shift-requires-2
+    read-shift-requires-3
+    alu-op-requires
+    read-alu-requires
+    alu-op-requires-2
+    read-alu-requires-2
+    returns
+    returns-2
+    returns-3
+    returns-4
+    returns-5
+    returns-6
+    returns-7
+    returns-8
+    returns-9)

@@ -1,0 +1,43 @@
+use Rattle.v8.specs.Read.{readingOf}
+use borrow.Author.Tests.{eq-eqb, ne-eqb, lt-ltb, le-ltb, le-leb, lt-leb}
+use mathlib.Core.Path.{sym, ap, _∙_}
+use borrow.Author.Needs.{needs}
+use Rattle.v8.proofs.read.read_word.Statement.{statement}
+use Rattle.v8.proofs.read.read_word.Tie as tie
+
+read-format-00-requires : tie.Need-read-format-00-requires
+read-format-00-requires c κs = search needs
+
+read-format-10-requires : tie.Need-read-format-10-requires
+read-format-10-requires c κs = search needs
+
+read-format-11-requires : tie.Need-read-format-11-requires
+read-format-11-requires c κs = search needs
+
+returns : tie.Need-returns
+unfolding readingOf
+returns c = simp (c .before .match .keys1) (c .read-format-00 .ensures)
+
+returns-2 : tie.Need-returns-2
+unfolding readingOf
+returns-2 c = simp (c .before .match .keys2) (c .read-format-10 .ensures)
+
+returns-3 : tie.Need-returns-3
+unfolding readingOf
+returns-3 c = simp (c .before .match .keys3) (c .read-format-11 .ensures)
+
+returns-4 : tie.Need-returns-4
+unfolding readingOf
+returns-4 c = let r = c .match .rest in simp (ne-eqb _ _ (r .0 .0 .1), ne-eqb _ _ (r .0 .1), ne-eqb _ _ (r .1))
+
+pub read-word-spec : {M : Type 1} → statement M
+read-word-spec =
+    tie.close
+    (tie.spec
+    read-format-00-requires
+    read-format-10-requires
+    read-format-11-requires
+    returns
+    returns-2
+    returns-3
+    returns-4)

@@ -1,0 +1,19 @@
+use Rattle.v8.specs.Write.{fiveBits}
+use borrow.Author.Tests.{eq-eqb, ne-eqb, lt-ltb, le-ltb, le-leb, lt-leb}
+use borrow.Author.Needs.{needs}
+use Rattle.v8.proofs.write.five_bits.Statement.{statement}
+use Rattle.v8.proofs.write.five_bits.Tie as tie
+
+add-t4 : tie.Need-add-t4
+add-t4 c = search needs
+
+returns : tie.Need-returns
+unfolding fiveBits
+returns c = simp (lt-ltb _ _ (c .if1 .taken))
+
+returns-2 : tie.Need-returns-2
+unfolding fiveBits
+returns-2 c = simp (le-ltb _ _ (c .if1 .left))
+
+pub five-bits-spec : {M : Type 1} → statement M
+five-bits-spec = tie.close (tie.spec add-t4 returns returns-2)

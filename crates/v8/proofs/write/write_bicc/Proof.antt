@@ -1,0 +1,59 @@
+use Rattle.v8.specs.declared.Writing.the-variants.{Written}
+use Rattle.v8.proofs.Ranges.{signed-fits}
+use native.Mathlib.Omega.{arith}
+use mathlib.Core.Path.{sym, ap, _∙_}
+use borrow.Author.Tests.{eq-eqb, ne-eqb, lt-ltb, le-ltb, le-leb, lt-leb}
+use borrow.Author.Needs.{needs}
+use Rattle.v8.proofs.write.write_bicc.Statement.{statement}
+use Rattle.v8.proofs.write.write_bicc.Tie as tie
+
+signed-bits-requires : tie.Need-signed-bits-requires
+signed-bits-requires c κs = search needs
+
+enum-known-b : tie.Need-enum-known-b
+enum-known-b c = search needs
+
+mul-word : tie.Need-mul-word
+mul-word c = search needs
+
+add-word : tie.Need-add-word
+add-word c = search needs
+
+add-word-2 : tie.Need-add-word-2
+add-word-2 c = let g = rw (← c .before .before .before .before .signed-bits .ensures, c .before .before .b .given .1) at (signed-fits 22 0 22 (c .before .before .before .before .before .args .distance .0) (omega arith)) in
+    record { fits = omega arith }
+
+add-t13 : tie.Need-add-t13
+add-t13 c = let g = rw (← c .before .before .before .before .before .signed-bits .ensures, c .before .before .before .b .given .1) at (signed-fits 22 0 22 (c .before .before .before .before .before .before .args .distance .0) (omega arith)) in
+    record { fits = omega arith }
+
+returns : tie.Need-returns
+returns c = rw (← c .before .before .before .before .before .signed-bits .ensures, c .before .before .before .b .given .1) (simp (c .if2 .taken, lt-ltb _ _ (c .before .if1 .taken)) (ap Written (omega arith)))
+
+returns-2 : tie.Need-returns-2
+returns-2 c = rw (← c .before .before .before .before .before .signed-bits .ensures, c .before .before .before .b .given .1) (simp (c .if2 .left, lt-ltb _ _ (c .before .if1 .taken)) (ap Written (omega arith)))
+
+enum-told : tie.Need-enum-told
+enum-told c = search needs
+
+returns-3 : tie.Need-returns-3
+returns-3 c = rw (← c .before .before .before .before .signed-bits .ensures, c .before .before .b .given .1) (simp (le-ltb _ _ (c .if1 .left)))
+
+returns-4 : tie.Need-returns-4
+returns-4 c = rw (← c .before .before .signed-bits .ensures, c .enum-told .given .1)
+
+pub write-bicc-spec : {M : Type 1} → statement M
+write-bicc-spec =
+    tie.close
+    (tie.spec
+    signed-bits-requires
+    enum-known-b
+    mul-word
+    add-word
+    add-word-2
+    add-t13
+    returns
+    returns-2
+    enum-told
+    returns-3
+    returns-4)

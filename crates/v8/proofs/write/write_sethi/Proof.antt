@@ -1,0 +1,29 @@
+use Rattle.v8.specs.Write.{sethiOf}
+use borrow.Author.Tests.{eq-eqb, ne-eqb, lt-ltb, le-ltb, le-leb, lt-leb}
+use borrow.Author.Needs.{needs}
+use Rattle.v8.proofs.write.write_sethi.Statement.{statement}
+use Rattle.v8.proofs.write.write_sethi.Tie as tie
+
+mul-t6 : tie.Need-mul-t6
+mul-t6 c = search needs
+
+add-t7 : tie.Need-add-t7
+add-t7 c = search needs
+
+add-t8 : tie.Need-add-t8
+add-t8 c = search needs
+
+returns : tie.Need-returns
+unfolding sethiOf
+returns c = simp (lt-ltb _ _ (c .before .if1 .taken), lt-ltb _ _ (c .if2 .taken))
+
+returns-2 : tie.Need-returns-2
+unfolding sethiOf
+returns-2 c = simp (lt-ltb _ _ (c .before .if1 .taken), le-ltb _ _ (c .if2 .left))
+
+returns-3 : tie.Need-returns-3
+unfolding sethiOf
+returns-3 c = simp (le-ltb _ _ (c .if1 .left))
+
+pub write-sethi-spec : {M : Type 1} → statement M
+write-sethi-spec = tie.close (tie.spec mul-t6 add-t7 add-t8 returns returns-2 returns-3)

@@ -1,0 +1,119 @@
+-- What a word is read as (document 01, "Words we read"): an instruction of the subset, or refusal 2.
+use Prim.Native.Nat.{ℕ, _-_}
+use mathlib.Core.Bool.{Bool, true, false, cond}
+use mathlib.Core.List.{List, [], _∷_}
+use lib.Dec.{leb, ltb, eqb}
+use lib.ListN.{getD}
+use Rattle.v8.specs.Field.{opOf, rdOf, annulOf, condOf, op2Of, low22Of, op3Of, rs1Of, iOf, unusedOf, rs2Of, simm13Of}
+use Rattle.v8.specs.Signed.{signExtend}
+use Rattle.v8.specs.declared.AluOp.{AluOp}
+use Rattle.v8.specs.declared.AluOp.the-variants.{Add, And, Or, Xor, Sub, Andn, Orn, Xnor}
+use Rattle.v8.specs.declared.ShiftOp.{ShiftOp}
+use Rattle.v8.specs.declared.ShiftOp.the-variants.{Sll, Srl, Sra}
+use Rattle.v8.specs.declared.LoadOp.{LoadOp}
+use Rattle.v8.specs.declared.LoadOp.the-variants.{Ld, Ldub, Lduh, Ldsb, Ldsh}
+use Rattle.v8.specs.declared.StoreOp.{StoreOp}
+use Rattle.v8.specs.declared.StoreOp.the-variants.{St, Stb, Sth}
+use Rattle.v8.specs.declared.Operand.{Operand}
+use Rattle.v8.specs.declared.Operand.the-variants.{Reg, Imm}
+use Rattle.v8.specs.declared.Displacement.{Displacement}
+use Rattle.v8.specs.declared.Displacement.the-variants.{Index, Bytes}
+use Rattle.v8.specs.declared.Instruction.{Instruction}
+use Rattle.v8.specs.declared.Instruction.the-variants.{Sethi, Bicc, Alu, Shift, Load, Store, Return}
+use Rattle.v8.specs.declared.Reading.{Reading}
+use Rattle.v8.specs.declared.Reading.the-variants.{Read, Unread}
+use Rattle.v8.specs.declared.read.OperandReading.{OperandReading}
+use Rattle.v8.specs.declared.read.OperandReading.the-variants.{Second, Reserved}
+
+-- "Read a word: 2."
+abbrev pub readNumber : Reading → ℕ
+readNumber (Read x) = 0
+readNumber Unread = 2
+
+-- the leaf return, "only as the word 81C3E008"
+abbrev pub leafReturn : ℕ
+leafReturn = 0x81C3E008
+
+-- "ADD 00, AND 01, OR 02, XOR 03, SUB 04, ANDN 05, ORN 06, XNOR 07"
+abbrev pub aluOps : List AluOp
+aluOps = Add ∷ And ∷ Or ∷ Xor ∷ Sub ∷ Andn ∷ Orn ∷ Xnor ∷ []
+
+abbrev pub aluOpOf : ℕ → AluOp
+aluOpOf k = getD aluOps k Add
+
+-- "i 13, then rs2 4:0 or a signed 13-bit number"; "Bits 12:5 must be zero with i = 0"
+unfoldable pub operandOf : ℕ → OperandReading
+operandOf w =
+    cond (eqb (iOf w) 1) (Second (Imm (signExtend 13 (simm13Of w))))
+    (cond (eqb (unusedOf w) 0) (Second (Reg (rs2Of w)))
+    Reserved)
+
+-- "Bits 12:5 must be zero .. for shifts always": the count is rs2, or the number in its place
+unfoldable pub countOf : ℕ → OperandReading
+countOf w =
+    cond (eqb (unusedOf w) 0)
+    (cond (eqb (iOf w) 1) (Second (Imm (rs2Of w))) (Second (Reg (rs2Of w))))
+    Reserved
+
+-- "00 with bits 24:22 = 100 is SETHI; with 010 it is Bicc (annul bit 29, condition 28:25, signed distance 21:0 in words)"
+unfoldable pub format00 : ℕ → Reading
+format00 w =
+    cond (eqb (op2Of w) 4) (Read (Sethi (rdOf w) (low22Of w)))
+    (cond (eqb (op2Of w) 2) (Read (Bicc (eqb (annulOf w) 1) (condOf w) (record { 0 = signExtend 22 (low22Of w) })))
+    Unread)
+
+abbrev pub aluWith : AluOp → Bool → ℕ → OperandReading → Reading
+aluWith op cc w (Second x) = Read (Alu op cc (rdOf w) (rs1Of w) x)
+aluWith op cc w Reserved = Unread
+
+abbrev pub shiftWith : ShiftOp → ℕ → OperandReading → Reading
+shiftWith op w (Second x) = Read (Shift op (rdOf w) (rs1Of w) x)
+shiftWith op w Reserved = Unread
+
+-- format 10: "the same plus 10 also set the codes; SLL 25, SRL 26, SRA 27; and the leaf return"
+unfoldable pub format10 : ℕ → Reading
+format10 w =
+    cond (leb (op3Of w) 0x07) (aluWith (aluOpOf (op3Of w)) false w (operandOf w))
+    (cond (ltb (op3Of w) 0x10) Unread
+    (cond (leb (op3Of w) 0x17) (aluWith (aluOpOf (op3Of w - 0x10)) true w (operandOf w))
+    (cond (eqb (op3Of w) 0x25) (shiftWith Sll w (countOf w))
+    (cond (eqb (op3Of w) 0x26) (shiftWith Srl w (countOf w))
+    (cond (eqb (op3Of w) 0x27) (shiftWith Sra w (countOf w))
+    (cond (eqb w leafReturn) (Read Return)
+    Unread))))))
+
+-- an address's second part: a register, or a signed count of bytes
+abbrev pub displacementOf : Operand → Displacement
+displacementOf (Reg r) = Index r
+displacementOf (Imm v) = Bytes (record { 0 = v })
+
+abbrev pub loadOf : LoadOp → ℕ → Displacement → Reading
+loadOf op w d = Read (Load op (rdOf w) (rs1Of w) d)
+
+abbrev pub storeOf : StoreOp → ℕ → Displacement → Reading
+storeOf op w d = Read (Store op (rdOf w) (rs1Of w) d)
+
+-- "LD 00, LDUB 01, LDUH 02, ST 04, STB 05, STH 06, LDSB 09, LDSH 0A", with the address read
+unfoldable pub memoryOf : ℕ → Displacement → Reading
+memoryOf w d =
+    cond (eqb (op3Of w) 0x00) (loadOf Ld w d)
+    (cond (eqb (op3Of w) 0x01) (loadOf Ldub w d)
+    (cond (eqb (op3Of w) 0x02) (loadOf Lduh w d)
+    (cond (eqb (op3Of w) 0x04) (storeOf St w d)
+    (cond (eqb (op3Of w) 0x05) (storeOf Stb w d)
+    (cond (eqb (op3Of w) 0x06) (storeOf Sth w d)
+    (cond (eqb (op3Of w) 0x09) (loadOf Ldsb w d)
+    (cond (eqb (op3Of w) 0x0A) (loadOf Ldsh w d)
+    Unread)))))))
+
+abbrev pub memoryWith : ℕ → OperandReading → Reading
+memoryWith w (Second x) = memoryOf w (displacementOf x)
+memoryWith w Reserved = Unread
+
+-- "Bits 31:30 choose the format."
+unfoldable pub readingOf : ℕ → Reading
+readingOf w =
+    cond (eqb (opOf w) 0) (format00 w)
+    (cond (eqb (opOf w) 2) (format10 w)
+    (cond (eqb (opOf w) 3) (memoryWith w (operandOf w))
+    Unread))

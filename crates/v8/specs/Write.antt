@@ -1,0 +1,119 @@
+-- What an instruction is written as (document 01, "Write an instruction"): a word, or refusal 17 for
+-- "a part out of range or not of the subset".
+use Prim.Native.Nat.{ℕ, _+_, _*_, _%_, _^_, _<_}
+use mathlib.Core.Bool.{Bool, true, false, cond}
+use lib.Dec.{ltb, eqb}
+use Rattle.v8.specs.Signed.{signExtend}
+use Rattle.v8.specs.Read.{leafReturn}
+use Rattle.v8.specs.declared.AluOp.{AluOp}
+use Rattle.v8.specs.declared.AluOp.the-variants.{Add, And, Or, Xor, Sub, Andn, Orn, Xnor}
+use Rattle.v8.specs.declared.ShiftOp.{ShiftOp}
+use Rattle.v8.specs.declared.ShiftOp.the-variants.{Sll, Srl, Sra}
+use Rattle.v8.specs.declared.LoadOp.{LoadOp}
+use Rattle.v8.specs.declared.LoadOp.the-variants.{Ld, Ldub, Lduh, Ldsb, Ldsh}
+use Rattle.v8.specs.declared.StoreOp.{StoreOp}
+use Rattle.v8.specs.declared.StoreOp.the-variants.{St, Stb, Sth}
+use Rattle.v8.specs.declared.Operand.{Operand}
+use Rattle.v8.specs.declared.Operand.the-variants.{Reg, Imm}
+use Rattle.v8.specs.declared.Displacement.{Displacement}
+use Rattle.v8.specs.declared.Displacement.the-variants.{Index, Bytes}
+use Rattle.v8.specs.declared.Instruction.{Instruction}
+use Rattle.v8.specs.declared.Instruction.the-variants.{Sethi, Bicc, Alu, Shift, Load, Store, Return}
+use Rattle.v8.specs.declared.Writing.{Writing}
+use Rattle.v8.specs.declared.Writing.the-variants.{Written, Unwritable}
+use Rattle.v8.specs.declared.write.Part.{Part}
+use Rattle.v8.specs.declared.write.Part.the-variants.{Bits, OutOfRange}
+
+-- "Write an instruction: 17."
+abbrev pub writeNumber : Writing → ℕ
+writeNumber (Written w) = 0
+writeNumber Unwritable = 17
+
+-- bit 13, i = 1: a number stands in the place of rs2
+abbrev pub iBit : ℕ
+iBit = 2 ^ 13
+
+-- a signed number in the low n bits, above which stands i; it fits if sign extension gives it back
+unfoldable pub signedBits : ℕ → ℕ → ℕ → Part
+signedBits n i v = cond (eqb v (signExtend n (v % 2 ^ n))) (Bits (i + v % 2 ^ n)) OutOfRange
+
+-- a number below 32 in the low five bits, above which stands i
+unfoldable pub fiveBits : ℕ → ℕ → Part
+fiveBits i v = cond (ltb v 32) (Bits (i + v)) OutOfRange
+
+-- bits 13:0 of the second operand
+abbrev pub operandBits : Operand → Part
+operandBits (Reg r) = fiveBits 0 r
+operandBits (Imm v) = signedBits 13 iBit v
+
+-- bits 13:0 of a shift's count
+abbrev pub countBits : Operand → Part
+countBits (Reg r) = fiveBits 0 r
+countBits (Imm v) = fiveBits iBit v
+
+-- bits 13:0 of an address's second part
+abbrev pub displacementBits : Displacement → Part
+displacementBits (Index r) = operandBits (Reg r)
+displacementBits (Bytes d) = operandBits (Imm (d .0))
+
+abbrev pub aluCode : AluOp → ℕ
+aluCode Add = 0x00
+aluCode And = 0x01
+aluCode Or = 0x02
+aluCode Xor = 0x03
+aluCode Sub = 0x04
+aluCode Andn = 0x05
+aluCode Orn = 0x06
+aluCode Xnor = 0x07
+
+-- "the same plus 10 also set the codes"
+abbrev pub aluCodeCc : AluOp → Bool → ℕ
+aluCodeCc op cc = cond cc (aluCode op + 0x10) (aluCode op)
+
+abbrev pub shiftCode : ShiftOp → ℕ
+shiftCode Sll = 0x25
+shiftCode Srl = 0x26
+shiftCode Sra = 0x27
+
+abbrev pub loadCode : LoadOp → ℕ
+loadCode Ld = 0x00
+loadCode Ldub = 0x01
+loadCode Lduh = 0x02
+loadCode Ldsb = 0x09
+loadCode Ldsh = 0x0A
+
+abbrev pub storeCode : StoreOp → ℕ
+storeCode St = 0x04
+storeCode Stb = 0x05
+storeCode Sth = 0x06
+
+-- a part of n bits
+abbrev pub Fits : ℕ → Part → Type 0
+Fits n (Bits b) = b < 2 ^ n
+Fits n OutOfRange = Unit {0}
+
+-- a word of format 10 or 11, from its fields
+unfoldable pub packOf : ℕ → ℕ → ℕ → ℕ → ℕ → ℕ
+packOf op rd op3 rs1 low = op * 2 ^ 30 + rd * 2 ^ 25 + op3 * 2 ^ 19 + rs1 * 2 ^ 14 + low
+
+unfoldable pub packed : ℕ → ℕ → ℕ → ℕ → Part → Writing
+packed op rd op3 rs1 (Bits b) = cond (ltb rd 32) (cond (ltb rs1 32) (Written (packOf op rd op3 rs1 b)) Unwritable) Unwritable
+packed op rd op3 rs1 OutOfRange = Unwritable
+
+-- SETHI: format 00 with bits 24:22 = 100
+unfoldable pub sethiOf : ℕ → ℕ → Writing
+sethiOf rd imm22 = cond (ltb rd 32) (cond (ltb imm22 (2 ^ 22)) (Written (rd * 2 ^ 25 + 4 * 2 ^ 22 + imm22)) Unwritable) Unwritable
+
+-- Bicc: format 00 with bits 24:22 = 010
+abbrev pub biccWith : Bool → ℕ → Part → Writing
+biccWith annul cnd (Bits b) = cond (ltb cnd 16) (Written (cond annul (2 ^ 29) 0 + cnd * 2 ^ 25 + 2 * 2 ^ 22 + b)) Unwritable
+biccWith annul cnd OutOfRange = Unwritable
+
+unfoldable pub writingOf : Instruction → Writing
+writingOf (Sethi rd imm22) = sethiOf rd imm22
+writingOf (Bicc annul cnd d) = biccWith annul cnd (signedBits 22 0 (d .0))
+writingOf (Alu op cc rd rs1 x) = packed 2 rd (aluCodeCc op cc) rs1 (operandBits x)
+writingOf (Shift op rd rs1 x) = packed 2 rd (shiftCode op) rs1 (countBits x)
+writingOf (Load op rd rs1 d) = packed 3 rd (loadCode op) rs1 (displacementBits d)
+writingOf (Store op rd rs1 d) = packed 3 rd (storeCode op) rs1 (displacementBits d)
+writingOf Return = Written leafReturn

@@ -1,0 +1,122 @@
+// SPARC V8 words: the instructions of our subset, read from 32-bit words and written as such.
+// The lowest crate: everything above it speaks of these types and rests on the definitions in
+// specs/, never on the code here. (Document 01, "Words we read".)
+
+// The bit fields of a word.
+mod field;
+// Words as instructions.
+pub mod read;
+// Instructions as words.
+pub mod write;
+
+pub use read::read_word;
+pub use write::write_instruction;
+
+// A count of words: a word's index in the code, or a branch's signed distance (sign-extended).
+pub struct WordIndex(pub u32);
+
+// A count of bytes: an offset in memory, or a signed distance there (sign-extended).
+pub struct ByteOffset(pub u32);
+
+// Arithmetic and logic, in the order of the opcodes 00 to 07.
+pub enum AluOp {
+    Add,
+    And,
+    Or,
+    Xor,
+    Sub,
+    Andn,
+    Orn,
+    Xnor,
+}
+
+// Shifts, in the order of the opcodes 25 to 27.
+pub enum ShiftOp {
+    Sll,
+    Srl,
+    Sra,
+}
+
+// Loads: a word, an unsigned byte or half, a signed byte or half.
+pub enum LoadOp {
+    Ld,
+    Ldub,
+    Lduh,
+    Ldsb,
+    Ldsh,
+}
+
+// Stores: a word, a byte, a half.
+pub enum StoreOp {
+    St,
+    Stb,
+    Sth,
+}
+
+// The second operand: register rs2, or a signed 13-bit number, sign-extended to 32 bits.
+// As a shift's count: register rs2, or a number from 0 to 31.
+pub enum Operand {
+    Reg(u8),
+    Imm(u32),
+}
+
+// The second part of an address, added to rs1: register rs2, or a signed 13-bit count of bytes.
+pub enum Displacement {
+    Index(u8),
+    Bytes(ByteOffset),
+}
+
+// The instructions of the subset.
+pub enum Instruction {
+    // rd becomes imm22 times 1024.
+    Sethi {
+        rd: u8,
+        imm22: u32,
+    },
+    // A branch on the condition codes.
+    Bicc {
+        annul: bool,
+        cond: u8,
+        distance: WordIndex,
+    },
+    // Arithmetic and logic, plain or setting the condition codes.
+    Alu {
+        op: AluOp,
+        cc: bool,
+        rd: u8,
+        rs1: u8,
+        operand: Operand,
+    },
+    Shift {
+        op: ShiftOp,
+        rd: u8,
+        rs1: u8,
+        count: Operand,
+    },
+    Load {
+        op: LoadOp,
+        rd: u8,
+        rs1: u8,
+        displacement: Displacement,
+    },
+    Store {
+        op: StoreOp,
+        rd: u8,
+        rs1: u8,
+        displacement: Displacement,
+    },
+    // The leaf return, JMPL to r15 + 8.
+    Return,
+}
+
+// What a word is read as. Unread is refusal 2.
+pub enum Reading {
+    Read(Instruction),
+    Unread,
+}
+
+// What an instruction is written as. Unwritable is refusal 17.
+pub enum Writing {
+    Written(u32),
+    Unwritable,
+}

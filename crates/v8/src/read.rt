@@ -1,0 +1,234 @@
+// Words as instructions.
+ghost use mathlib.Core.Path.{_≡_};
+ghost use Prim.Native.Nat.{_<_, _≤_, _^_};
+ghost use Rattle.v8.specs.Signed.{signExtend};
+ghost use Rattle.v8.specs.Read.{readingOf, format00, format10, memoryOf, memoryWith, operandOf, countOf, displacementOf, aluWith, shiftWith, aluOpOf, loadOf, storeOf};
+use crate::AluOp;
+use crate::ByteOffset;
+use crate::Displacement;
+use crate::Instruction;
+use crate::LoadOp;
+use crate::Operand;
+use crate::Reading;
+use crate::ShiftOp;
+use crate::StoreOp;
+use crate::WordIndex;
+use crate::field::annul_of;
+use crate::field::cond_of;
+use crate::field::i_of;
+use crate::field::low22_of;
+use crate::field::op2_of;
+use crate::field::op3_of;
+use crate::field::rd_of;
+use crate::field::rs1_of;
+use crate::field::rs2_of;
+use crate::field::simm13_of;
+use crate::field::unused_of;
+
+// The leaf return, the one JMPL that is read.
+pub const LEAF_RETURN: u32 = 0x81C3_E008;
+
+// A second operand, or none where bits that must be zero are not.
+pub enum OperandReading {
+    Second(Operand),
+    Reserved,
+}
+
+// A field of `bits` bits, sign-extended to 32 bits.
+pub fn sign_extend(bits: u32, x: u32) -> u32
+    requires { ⌜ (1 ≤ bits) × (bits ≤ 31) × (x < 2 ^ bits) ⌝ }
+    ensures { λ r. ⌜ r ≡ signExtend bits x ⌝ }
+{
+    let half = 1u32 << (bits - 1);
+    if x < half {
+        return x;
+    }
+    x + (4294967295 - half - (half - 1))
+}
+
+// The second operand of arithmetic, logic, loads and stores.
+fn operand_of(w: u32) -> OperandReading
+    ensures { λ r. ⌜ r ≡ operandOf w ⌝ }
+{
+    if i_of(w) == 1 {
+        return OperandReading::Second(Operand::Imm(sign_extend(13, simm13_of(w))));
+    }
+    if unused_of(w) == 0 {
+        return OperandReading::Second(Operand::Reg(rs2_of(w)));
+    }
+    OperandReading::Reserved
+}
+
+// The count of a shift.
+fn count_of(w: u32) -> OperandReading
+    ensures { λ r. ⌜ r ≡ countOf w ⌝ }
+{
+    if unused_of(w) == 0 {
+        if i_of(w) == 1 {
+            return OperandReading::Second(Operand::Imm(rs2_of(w) as u32));
+        }
+        return OperandReading::Second(Operand::Reg(rs2_of(w)));
+    }
+    OperandReading::Reserved
+}
+
+// SETHI and Bicc.
+fn read_format_00(w: u32) -> Reading
+    ensures { λ r. ⌜ r ≡ format00 w ⌝ }
+{
+    match op2_of(w) {
+        4 => Reading::Read(Instruction::Sethi {
+            rd: rd_of(w),
+            imm22: low22_of(w),
+        }),
+        2 => Reading::Read(Instruction::Bicc {
+            annul: annul_of(w) == 1,
+            cond: cond_of(w),
+            distance: WordIndex(sign_extend(22, low22_of(w))),
+        }),
+        _ => Reading::Unread,
+    }
+}
+
+// The operations of the opcodes 00 to 07.
+const ALU_OPS: [AluOp; 8] = [
+    AluOp::Add,
+    AluOp::And,
+    AluOp::Or,
+    AluOp::Xor,
+    AluOp::Sub,
+    AluOp::Andn,
+    AluOp::Orn,
+    AluOp::Xnor,
+];
+
+fn alu_op(k: u32) -> AluOp
+    requires { ⌜ k < 8 ⌝ }
+    ensures { λ r. ⌜ r ≡ aluOpOf k ⌝ }
+{
+    let at = k as usize;
+    ALU_OPS[at]
+}
+
+fn read_alu(op: AluOp, cc: bool, w: u32) -> Reading
+    ensures { λ r. ⌜ r ≡ aluWith op cc w (operandOf w) ⌝ }
+{
+    let rd = rd_of(w);
+    let rs1 = rs1_of(w);
+    match operand_of(w) {
+        OperandReading::Second(operand) => Reading::Read(Instruction::Alu {
+            op,
+            cc,
+            rd,
+            rs1,
+            operand,
+        }),
+        OperandReading::Reserved => Reading::Unread,
+    }
+}
+
+fn read_shift(op: ShiftOp, w: u32) -> Reading
+    ensures { λ r. ⌜ r ≡ shiftWith op w (countOf w) ⌝ }
+{
+    let rd = rd_of(w);
+    let rs1 = rs1_of(w);
+    match count_of(w) {
+        OperandReading::Second(count) => Reading::Read(Instruction::Shift { op, rd, rs1, count }),
+        OperandReading::Reserved => Reading::Unread,
+    }
+}
+
+// Arithmetic, logic, shifts and the leaf return.
+fn read_format_10(w: u32) -> Reading
+    ensures { λ r. ⌜ r ≡ format10 w ⌝ }
+{
+    let op3 = op3_of(w);
+    match op3 {
+        0x00..=0x07 => read_alu(alu_op(op3), false, w),
+        0x10..=0x17 => read_alu(alu_op(op3 - 0x10), true, w),
+        0x25 => read_shift(ShiftOp::Sll, w),
+        0x26 => read_shift(ShiftOp::Srl, w),
+        0x27 => read_shift(ShiftOp::Sra, w),
+        0x38 => {
+            if w == LEAF_RETURN {
+                Reading::Read(Instruction::Return)
+            } else {
+                Reading::Unread
+            }
+        }
+        _ => Reading::Unread,
+    }
+}
+
+fn displacement_of(x: Operand) -> Displacement
+    ensures { λ r. ⌜ r ≡ displacementOf x ⌝ }
+{
+    match x {
+        Operand::Reg(r) => Displacement::Index(r),
+        Operand::Imm(v) => Displacement::Bytes(ByteOffset(v)),
+    }
+}
+
+fn load(op: LoadOp, w: u32, displacement: Displacement) -> Reading
+    ensures { λ r. ⌜ r ≡ loadOf op w displacement ⌝ }
+{
+    let rd = rd_of(w);
+    let rs1 = rs1_of(w);
+    Reading::Read(Instruction::Load {
+        op,
+        rd,
+        rs1,
+        displacement,
+    })
+}
+
+fn store(op: StoreOp, w: u32, displacement: Displacement) -> Reading
+    ensures { λ r. ⌜ r ≡ storeOf op w displacement ⌝ }
+{
+    let rd = rd_of(w);
+    let rs1 = rs1_of(w);
+    Reading::Read(Instruction::Store {
+        op,
+        rd,
+        rs1,
+        displacement,
+    })
+}
+
+// Loads and stores, their address read.
+fn read_memory(w: u32, displacement: Displacement) -> Reading
+    ensures { λ r. ⌜ r ≡ memoryOf w displacement ⌝ }
+{
+    match op3_of(w) {
+        0x00 => load(LoadOp::Ld, w, displacement),
+        0x01 => load(LoadOp::Ldub, w, displacement),
+        0x02 => load(LoadOp::Lduh, w, displacement),
+        0x04 => store(StoreOp::St, w, displacement),
+        0x05 => store(StoreOp::Stb, w, displacement),
+        0x06 => store(StoreOp::Sth, w, displacement),
+        0x09 => load(LoadOp::Ldsb, w, displacement),
+        0x0A => load(LoadOp::Ldsh, w, displacement),
+        _ => Reading::Unread,
+    }
+}
+
+fn read_format_11(w: u32) -> Reading
+    ensures { λ r. ⌜ r ≡ memoryWith w (operandOf w) ⌝ }
+{
+    match operand_of(w) {
+        OperandReading::Second(x) => read_memory(w, displacement_of(x)),
+        OperandReading::Reserved => Reading::Unread,
+    }
+}
+
+// Reads a word: an instruction of the subset, or refusal 2.
+pub fn read_word(w: u32) -> Reading
+    ensures { λ r. ⌜ r ≡ readingOf w ⌝ }
+{
+    match w >> 30 {
+        0 => read_format_00(w),
+        2 => read_format_10(w),
+        3 => read_format_11(w),
+        _ => Reading::Unread,
+    }
+}

@@ -1,0 +1,237 @@
+// Instructions as words.
+ghost use mathlib.Core.Path.{_≡_};
+ghost use Prim.Native.Nat.{_+_, _<_, _≤_, _^_};
+ghost use Rattle.v8.specs.Write.{writingOf, signedBits, fiveBits, operandBits, countBits, displacementBits, aluCode, aluCodeCc, shiftCode, loadCode, storeCode, packed, sethiOf, biccWith, Fits};
+use crate::AluOp;
+use crate::Displacement;
+use crate::Instruction;
+use crate::LoadOp;
+use crate::Operand;
+use crate::ShiftOp;
+use crate::StoreOp;
+use crate::WordIndex;
+use crate::Writing;
+use crate::read::LEAF_RETURN;
+use crate::read::sign_extend;
+
+// Where the fields of a word stand: what a field is multiplied by.
+const OP_AT: u32 = 0x4000_0000;
+
+const RD_AT: u32 = 0x0200_0000;
+
+const OP3_AT: u32 = 0x0008_0000;
+
+const RS1_AT: u32 = 0x4000;
+// Bit 29 of a branch.
+const ANNUL_BIT: u32 = 0x2000_0000;
+// Bits 24:22 of a branch, 010, and of SETHI, 100.
+const BICC_BITS: u32 = 0x0080_0000;
+
+const SETHI_BITS: u32 = 0x0100_0000;
+// Bit 13, i: a number stands in the place of rs2.
+const I_BIT: u32 = 0x2000;
+
+// A part of a word, or a number that does not fit there.
+pub enum Part {
+    Bits(u32),
+    OutOfRange,
+}
+
+// A signed number in the low `bits` bits, above which stands i.
+fn signed_bits(bits: u32, i: u32, v: u32) -> Part
+    requires { ⌜ (1 ≤ bits) × (bits ≤ 31) × (i < 2 ^ 31) ⌝ }
+    ensures { λ r. ⌜ r ≡ signedBits bits i v ⌝ }
+{
+    let field = v % (1u32 << bits);
+    if v == sign_extend(bits, field) {
+        return Part::Bits(i + field);
+    }
+    Part::OutOfRange
+}
+
+// A number below 32 in the low five bits, above which stands i.
+fn five_bits(i: u32, v: u32) -> Part
+    requires { ⌜ i < 2 ^ 31 ⌝ }
+    ensures { λ r. ⌜ r ≡ fiveBits i v ⌝ }
+{
+    if v < 32 {
+        return Part::Bits(i + v);
+    }
+    Part::OutOfRange
+}
+
+// Bits 13:0 of the second operand.
+fn operand_bits(x: Operand) -> Part
+    ensures { λ r. ⌜ r ≡ operandBits x ⌝ }
+{
+    match x {
+        Operand::Reg(r) => five_bits(0, r as u32),
+        Operand::Imm(v) => signed_bits(13, I_BIT, v),
+    }
+}
+
+// Bits 13:0 of a shift's count.
+fn count_bits(x: Operand) -> Part
+    ensures { λ r. ⌜ r ≡ countBits x ⌝ }
+{
+    match x {
+        Operand::Reg(r) => five_bits(0, r as u32),
+        Operand::Imm(v) => five_bits(I_BIT, v),
+    }
+}
+
+// Bits 13:0 of an address's second part.
+fn displacement_bits(x: Displacement) -> Part
+    ensures { λ r. ⌜ r ≡ displacementBits x ⌝ }
+{
+    match x {
+        Displacement::Index(r) => operand_bits(Operand::Reg(r)),
+        Displacement::Bytes(d) => operand_bits(Operand::Imm(d.0)),
+    }
+}
+
+fn alu_code(op: AluOp) -> u32
+    ensures { λ r. ⌜ r ≡ aluCode op ⌝ }
+{
+    match op {
+        AluOp::Add => 0x00,
+        AluOp::And => 0x01,
+        AluOp::Or => 0x02,
+        AluOp::Xor => 0x03,
+        AluOp::Sub => 0x04,
+        AluOp::Andn => 0x05,
+        AluOp::Orn => 0x06,
+        AluOp::Xnor => 0x07,
+    }
+}
+
+fn alu_code_cc(op: AluOp, cc: bool) -> u32
+    ensures { λ r. ⌜ r ≡ aluCodeCc op cc ⌝ }
+{
+    let code = alu_code(op);
+    if cc { code + 0x10 } else { code }
+}
+
+fn shift_code(op: ShiftOp) -> u32
+    ensures { λ r. ⌜ r ≡ shiftCode op ⌝ }
+{
+    match op {
+        ShiftOp::Sll => 0x25,
+        ShiftOp::Srl => 0x26,
+        ShiftOp::Sra => 0x27,
+    }
+}
+
+fn load_code(op: LoadOp) -> u32
+    ensures { λ r. ⌜ r ≡ loadCode op ⌝ }
+{
+    match op {
+        LoadOp::Ld => 0x00,
+        LoadOp::Ldub => 0x01,
+        LoadOp::Lduh => 0x02,
+        LoadOp::Ldsb => 0x09,
+        LoadOp::Ldsh => 0x0A,
+    }
+}
+
+fn store_code(op: StoreOp) -> u32
+    ensures { λ r. ⌜ r ≡ storeCode op ⌝ }
+{
+    match op {
+        StoreOp::St => 0x04,
+        StoreOp::Stb => 0x05,
+        StoreOp::Sth => 0x06,
+    }
+}
+
+// A word of format 10 or 11, from its fields.
+fn pack(op: u32, rd: u8, op3: u32, rs1: u8, low: Part) -> Writing
+    requires { ⌜ (op < 4) × (op3 < 64) × Fits 14 low ⌝ }
+    ensures { λ r. ⌜ r ≡ packed op rd op3 rs1 low ⌝ }
+{
+    match low {
+        Part::Bits(b) => {
+            let d = rd as u32;
+            let s = rs1 as u32;
+            if d < 32 {
+                if s < 32 {
+                    return Writing::Written(op * OP_AT + d * RD_AT + op3 * OP3_AT + s * RS1_AT + b);
+                }
+            }
+            Writing::Unwritable
+        }
+        Part::OutOfRange => Writing::Unwritable,
+    }
+}
+
+fn write_sethi(rd: u8, imm22: u32) -> Writing
+    ensures { λ r. ⌜ r ≡ sethiOf rd imm22 ⌝ }
+{
+    let d = rd as u32;
+    if d < 32 {
+        if imm22 < 0x40_0000 {
+            return Writing::Written(d * RD_AT + SETHI_BITS + imm22);
+        }
+    }
+    Writing::Unwritable
+}
+
+fn write_bicc(annul: bool, cond: u8, distance: WordIndex) -> Writing
+    ensures { λ r. ⌜ r ≡ biccWith annul cond (signedBits 22 0 (distance .0)) ⌝ }
+{
+    let c = cond as u32;
+    match signed_bits(22, 0, distance.0) {
+        Part::Bits(b) => {
+            if c < 16 {
+                let word = c * RD_AT + BICC_BITS + b;
+                if annul {
+                    return Writing::Written(ANNUL_BIT + word);
+                }
+                return Writing::Written(word);
+            }
+            Writing::Unwritable
+        }
+        Part::OutOfRange => Writing::Unwritable,
+    }
+}
+
+// Writes an instruction: a word, or refusal 17 where a part is out of range.
+pub fn write_instruction(x: Instruction) -> Writing
+    ensures { λ r. ⌜ r ≡ writingOf x ⌝ }
+{
+    match x {
+        Instruction::Sethi { rd, imm22 } => write_sethi(rd, imm22),
+        Instruction::Bicc {
+            annul,
+            cond,
+            distance,
+        } => write_bicc(annul, cond, distance),
+        Instruction::Alu {
+            op,
+            cc,
+            rd,
+            rs1,
+            operand,
+        } => pack(2, rd, alu_code_cc(op, cc), rs1, operand_bits(operand)),
+        Instruction::Shift { op, rd, rs1, count } => pack(
+            2,
+            rd,
+            shift_code(op),
+            rs1,
+            count_bits(count),
+        ),
+        Instruction::Load {
+            op,
+            rd,
+            rs1,
+            displacement,
+        } => pack(3, rd, load_code(op), rs1, displacement_bits(displacement)),
+        Instruction::Store {
+            op,
+            rd,
+            rs1,
+            displacement,
+        } => pack(3, rd, store_code(op), rs1, displacement_bits(displacement)),
+        Instruction::Return => Writing::Written(LEAF_RETURN),
+    }
+}
