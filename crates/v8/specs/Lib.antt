@@ -1,6 +1,6 @@
 pub mod Choice
+pub mod Table
+pub mod Power
 pub mod Signed
 pub mod Field
 pub mod Read
-pub mod Write
-pub mod Laws

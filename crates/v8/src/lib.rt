@@ -1,16 +1,13 @@
-// SPARC V8 words: the instructions of our subset, read from 32-bit words and written as such.
-// The lowest crate: everything above it speaks of these types and rests on the definitions in
-// specs/, never on the code here. (Document 01, "Words we read".)
+// SPARC V8 words: the instructions of our subset, and words read as such. The lowest crate:
+// everything above it speaks of these types and rests on the definitions in specs/, never on the
+// code here. (Document 01, "Words we read".)
 
 // The bit fields of a word.
 mod field;
 // Words as instructions.
 pub mod read;
-// Instructions as words.
-pub mod write;
 
 pub use read::read_word;
-pub use write::write_instruction;
 
 // A count of words: a word's index in the code, or a branch's signed distance (sign-extended).
 pub struct WordIndex(pub u32);
@@ -113,10 +110,4 @@ pub enum Instruction {
 pub enum Reading {
     Read(Instruction),
     Unread,
-}
-
-// What an instruction is written as. Unwritable is refusal 17.
-pub enum Writing {
-    Written(u32),
-    Unwritable,
 }

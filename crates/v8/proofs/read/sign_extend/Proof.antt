@@ -1,4 +1,4 @@
-use Rattle.v8.proofs.Power.{half}
+use Rattle.v8.specs.Power.{half}
 use mathlib.Core.Path.{sym, ap, _∙_}
 use Rattle.v8.specs.Choice.{tests}
 use native.Mathlib.Omega.{arith}

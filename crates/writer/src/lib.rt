@@ -1,18 +1,18 @@
-// Instructions as words.
+// SPARC V8 instructions written as 32-bit words. The laws that reading and writing undo each other
+// stand in specs/Laws.antt. (Document 01, "Write an instruction".)
 ghost use mathlib.Core.Path.{_≡_};
 ghost use Prim.Native.Nat.{_+_, _<_, _≤_, _^_};
-ghost use Rattle.v8.specs.Write.{writingOf, signedBits, fiveBits, operandBits, countBits, displacementBits, aluCode, aluCodeCc, shiftCode, loadCode, storeCode, packed, sethiOf, biccWith, Fits};
-use crate::AluOp;
-use crate::Displacement;
-use crate::Instruction;
-use crate::LoadOp;
-use crate::Operand;
-use crate::ShiftOp;
-use crate::StoreOp;
-use crate::WordIndex;
-use crate::Writing;
-use crate::read::LEAF_RETURN;
-use crate::read::sign_extend;
+ghost use Rattle.writer.specs.Write.{writingOf, signedBits, fiveBits, operandBits, countBits, displacementBits, aluCode, aluCodeCc, shiftCode, loadCode, storeCode, packed, sethiOf, biccWith, Fits};
+use v8::AluOp;
+use v8::Displacement;
+use v8::Instruction;
+use v8::LoadOp;
+use v8::Operand;
+use v8::ShiftOp;
+use v8::StoreOp;
+use v8::WordIndex;
+use v8::read::LEAF_RETURN;
+use v8::read::sign_extend;
 
 // Where the fields of a word stand: what a field is multiplied by.
 const OP_AT: u32 = 0x4000_0000;
@@ -30,6 +30,12 @@ const BICC_BITS: u32 = 0x0080_0000;
 const SETHI_BITS: u32 = 0x0100_0000;
 // Bit 13, i: a number stands in the place of rs2.
 const I_BIT: u32 = 0x2000;
+
+// What an instruction is written as. Unwritable is refusal 17.
+pub enum Writing {
+    Written(u32),
+    Unwritable,
+}
 
 // A part of a word, or a number that does not fit there.
 pub enum Part {

@@ -1,11 +1,11 @@
-use Rattle.v8.specs.declared.Writing.the-variants.{Written}
-use Rattle.v8.proofs.Ranges.{signed-fits}
+use Rattle.writer.specs.declared.Writing.the-variants.{Written}
+use Rattle.writer.proofs.Ranges.{signed-fits}
 use native.Mathlib.Omega.{arith}
 use mathlib.Core.Path.{sym, ap, _∙_}
 use borrow.Author.Tests.{eq-eqb, ne-eqb, lt-ltb, le-ltb, le-leb, lt-leb}
 use borrow.Author.Needs.{needs}
-use Rattle.v8.proofs.write.write_bicc.Statement.{statement}
-use Rattle.v8.proofs.write.write_bicc.Tie as tie
+use Rattle.writer.proofs.write_bicc.Statement.{statement}
+use Rattle.writer.proofs.write_bicc.Tie as tie
 
 signed-bits-requires : tie.Need-signed-bits-requires
 signed-bits-requires c κs = search needs

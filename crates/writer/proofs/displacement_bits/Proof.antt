@@ -1,6 +1,6 @@
 use borrow.Author.Needs.{needs}
-use Rattle.v8.proofs.write.displacement_bits.Statement.{statement}
-use Rattle.v8.proofs.write.displacement_bits.Tie as tie
+use Rattle.writer.proofs.displacement_bits.Statement.{statement}
+use Rattle.writer.proofs.displacement_bits.Tie as tie
 
 enum-known-x : tie.Need-enum-known-x
 enum-known-x c = search needs

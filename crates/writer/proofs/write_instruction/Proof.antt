@@ -1,10 +1,10 @@
-use Rattle.v8.proofs.Ranges.{alu-cc-small, shift-small, load-small, store-small, operand-fits, count-fits, displacement-fits}
-use Rattle.v8.specs.Write.{writingOf}
+use Rattle.writer.proofs.Ranges.{alu-cc-small, shift-small, load-small, store-small, operand-fits, count-fits, displacement-fits}
+use Rattle.writer.specs.Write.{writingOf}
 use native.Mathlib.Omega.{arith}
 use mathlib.Core.Path.{sym, ap, _∙_}
 use borrow.Author.Needs.{needs}
-use Rattle.v8.proofs.write.write_instruction.Statement.{statement}
-use Rattle.v8.proofs.write.write_instruction.Tie as tie
+use Rattle.writer.proofs.write_instruction.Statement.{statement}
+use Rattle.writer.proofs.write_instruction.Tie as tie
 
 enum-known-x : tie.Need-enum-known-x
 enum-known-x c = search needs

@@ -1,11 +1,11 @@
 -- The two laws of reading and writing: each undoes the other.
 use Prim.Native.Nat.{ℕ}
 use mathlib.Core.Path.{_≡_}
 use Rattle.v8.specs.Read.{readingOf}
-use Rattle.v8.specs.Write.{writingOf}
+use Rattle.writer.specs.Write.{writingOf}
 use Rattle.v8.specs.declared.Instruction.{Instruction}
 use Rattle.v8.specs.declared.Reading.the-variants.{Read}
-use Rattle.v8.specs.declared.Writing.the-variants.{Written}
+use Rattle.writer.specs.declared.Writing.the-variants.{Written}
 
 -- What is written is read back as the same instruction.
 abbrev pub WrittenIsRead : Type 0

@@ -1,8 +1,8 @@
-use Rattle.v8.proofs.Ranges.{alu-small}
+use Rattle.writer.proofs.Ranges.{alu-small}
 use native.Mathlib.Omega.{arith}
 use borrow.Author.Needs.{needs}
-use Rattle.v8.proofs.write.alu_code_cc.Statement.{statement}
-use Rattle.v8.proofs.write.alu_code_cc.Tie as tie
+use Rattle.writer.proofs.alu_code_cc.Statement.{statement}
+use Rattle.writer.proofs.alu_code_cc.Tie as tie
 
 alu-code-requires : tie.Need-alu-code-requires
 alu-code-requires c κs = search needs

@@ -1,13 +1,13 @@
 use lib.Pow.{pow-pos, pow-mono}
-use Rattle.v8.proofs.Power.{shifted}
-use Rattle.v8.specs.Write.{signedBits}
+use Rattle.v8.specs.Power.{shifted}
+use Rattle.writer.specs.Write.{signedBits}
 use native.Mathlib.Nat.{mod-lt}
 use native.Mathlib.Omega.{arith}
 use borrow.Author.Tests.{eq-eqb, ne-eqb, lt-ltb, le-ltb, le-leb, lt-leb}
 use mathlib.Core.Path.{sym, ap, _∙_}
 use borrow.Author.Needs.{needs}
-use Rattle.v8.proofs.write.signed_bits.Statement.{statement}
-use Rattle.v8.proofs.write.signed_bits.Tie as tie
+use Rattle.writer.proofs.signed_bits.Statement.{statement}
+use Rattle.writer.proofs.signed_bits.Tie as tie
 
 shl-field : tie.Need-shl-field
 shl-field c = search needs

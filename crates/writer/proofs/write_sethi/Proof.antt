@@ -1,8 +1,8 @@
-use Rattle.v8.specs.Write.{sethiOf}
+use Rattle.writer.specs.Write.{sethiOf}
 use borrow.Author.Tests.{eq-eqb, ne-eqb, lt-ltb, le-ltb, le-leb, lt-leb}
 use borrow.Author.Needs.{needs}
-use Rattle.v8.proofs.write.write_sethi.Statement.{statement}
-use Rattle.v8.proofs.write.write_sethi.Tie as tie
+use Rattle.writer.proofs.write_sethi.Statement.{statement}
+use Rattle.writer.proofs.write_sethi.Tie as tie
 
 mul-t6 : tie.Need-mul-t6
 mul-t6 c = search needs

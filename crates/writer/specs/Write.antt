@@ -3,26 +3,26 @@
 use Prim.Native.Nat.{ℕ, _+_, _*_, _%_, _^_, _<_}
 use mathlib.Core.Bool.{Bool, true, false, cond}
 use lib.Dec.{ltb, eqb}
 use Rattle.v8.specs.Signed.{signExtend}
 use Rattle.v8.specs.Read.{leafReturn}
 use Rattle.v8.specs.declared.AluOp.{AluOp}
 use Rattle.v8.specs.declared.AluOp.the-variants.{Add, And, Or, Xor, Sub, Andn, Orn, Xnor}
 use Rattle.v8.specs.declared.ShiftOp.{ShiftOp}
 use Rattle.v8.specs.declared.ShiftOp.the-variants.{Sll, Srl, Sra}
 use Rattle.v8.specs.declared.LoadOp.{LoadOp}
 use Rattle.v8.specs.declared.LoadOp.the-variants.{Ld, Ldub, Lduh, Ldsb, Ldsh}
 use Rattle.v8.specs.declared.StoreOp.{StoreOp}
 use Rattle.v8.specs.declared.StoreOp.the-variants.{St, Stb, Sth}
 use Rattle.v8.specs.declared.Operand.{Operand}
 use Rattle.v8.specs.declared.Operand.the-variants.{Reg, Imm}
 use Rattle.v8.specs.declared.Displacement.{Displacement}
 use Rattle.v8.specs.declared.Displacement.the-variants.{Index, Bytes}
 use Rattle.v8.specs.declared.Instruction.{Instruction}
 use Rattle.v8.specs.declared.Instruction.the-variants.{Sethi, Bicc, Alu, Shift, Load, Store, Return}
-use Rattle.v8.specs.declared.Writing.{Writing}
-use Rattle.v8.specs.declared.Writing.the-variants.{Written, Unwritable}
-use Rattle.v8.specs.declared.write.Part.{Part}
-use Rattle.v8.specs.declared.write.Part.the-variants.{Bits, OutOfRange}
+use Rattle.writer.specs.declared.Writing.{Writing}
+use Rattle.writer.specs.declared.Writing.the-variants.{Written, Unwritable}
+use Rattle.writer.specs.declared.Part.{Part}
+use Rattle.writer.specs.declared.Part.the-variants.{Bits, OutOfRange}
 
 -- "Write an instruction: 17."
 abbrev pub writeNumber : Writing → ℕ

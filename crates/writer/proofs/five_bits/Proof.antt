@@ -1,8 +1,8 @@
-use Rattle.v8.specs.Write.{fiveBits}
+use Rattle.writer.specs.Write.{fiveBits}
 use borrow.Author.Tests.{eq-eqb, ne-eqb, lt-ltb, le-ltb, le-leb, lt-leb}
 use borrow.Author.Needs.{needs}
-use Rattle.v8.proofs.write.five_bits.Statement.{statement}
-use Rattle.v8.proofs.write.five_bits.Tie as tie
+use Rattle.writer.proofs.five_bits.Statement.{statement}
+use Rattle.writer.proofs.five_bits.Tie as tie
 
 add-t4 : tie.Need-add-t4
 add-t4 c = search needs

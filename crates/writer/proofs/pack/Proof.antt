@@ -1,10 +1,10 @@
-use Rattle.v8.specs.Write.{packed, packOf}
+use Rattle.writer.specs.Write.{packed, packOf}
 use native.Mathlib.Omega.{arith}
 use borrow.Author.Tests.{eq-eqb, ne-eqb, lt-ltb, le-ltb, le-leb, lt-leb}
 use mathlib.Core.Path.{sym, ap, _∙_}
 use borrow.Author.Needs.{needs}
-use Rattle.v8.proofs.write.pack.Statement.{statement}
-use Rattle.v8.proofs.write.pack.Tie as tie
+use Rattle.writer.proofs.pack.Statement.{statement}
+use Rattle.writer.proofs.pack.Tie as tie
 
 enum-known-low : tie.Need-enum-known-low
 enum-known-low c = search needs

@@ -1,6 +1,6 @@
 use borrow.Author.Needs.{needs}
-use Rattle.v8.proofs.write.count_bits.Statement.{statement}
-use Rattle.v8.proofs.write.count_bits.Tie as tie
+use Rattle.writer.proofs.operand_bits.Statement.{statement}
+use Rattle.writer.proofs.operand_bits.Tie as tie
 
 enum-known-x : tie.Need-enum-known-x
 enum-known-x c = search needs
@@ -14,23 +14,23 @@ five-bits-requires c κs = search needs
 enum-known-x-2 : tie.Need-enum-known-x-2
 enum-known-x-2 c = search needs
 
-five-bits-requires-2 : tie.Need-five-bits-requires-2
-five-bits-requires-2 c κs = search needs
+signed-bits-requires : tie.Need-signed-bits-requires
+signed-bits-requires c κs = search needs
 
 returns : tie.Need-returns
 returns c = rw (c .before .before .x .given .1) (c .five-bits .ensures)
 
 returns-2 : tie.Need-returns-2
-returns-2 c = rw (c .before .before .x2 .given .1) (c .five-bits2 .ensures)
+returns-2 c = rw (c .before .before .x2 .given .1) (c .signed-bits .ensures)
 
-pub count-bits-spec : {M : Type 1} → statement M
-count-bits-spec =
+pub operand-bits-spec : {M : Type 1} → statement M
+operand-bits-spec =
     tie.close
     (tie.spec
     enum-known-x
     cast-five-bits
     five-bits-requires
     enum-known-x-2
-    five-bits-requires-2
+    signed-bits-requires
     returns
     returns-2)

@@ -1,0 +1,282 @@
+-- What is read is written back as the same word.
+--
+-- A reading has taken each field from the word, so each part that is written fits, and the parts add up to the word again:
+-- a word is the sum of its fields (`unpacked`), and what is not in a field has been tested to be zero.
+use Prim.Native.Nat.{ℕ, _+_, _*_, _/_, _%_, _-_, _^_, _<_, _≤_}
+use mathlib.Core.Path.{_≡_, refl, sym, ap, _∙_}
+use mathlib.Core.Bool.{Bool, true, false, cond}
+use mathlib.Core.List.{List, [], _∷_}
+use native.Mathlib.Omega.{arith}
+use lib.Dec.{leb, ltb, eqb, eqb→eq}
+use borrow.Author.Tests.{ltb-false, leb-true, leb-false, eqb-true, eqb-false, lt-ltb, eq-eqb}
+use Rattle.v8.specs.Choice.{cond-went}
+use Rattle.v8.specs.Table.{at}
+use Rattle.v8.specs.Signed.{signExtend}
+use Rattle.v8.specs.Field.{opOf, rdOf, annulOf, condOf, op2Of, low22Of, op3Of, rs1Of, iOf, unusedOf, rs2Of, simm13Of}
+use Rattle.v8.specs.Read.{readingOf, format00, format10, memoryOf, memoryWith, operandOf, countOf, displacementOf, aluOps, aluOpOf, aluWith, shiftWith, loadOf, storeOf, leafReturn}
+use Rattle.writer.specs.Write.{writingOf, iBit, signedBits, fiveBits, operandBits, countBits, displacementBits, aluCode, aluCodeCc, shiftCode, loadCode, storeCode, packOf, packed, sethiOf, biccWith}
+use Rattle.writer.specs.Laws.{ReadIsWritten}
+use Rattle.v8.specs.declared.AluOp.{AluOp}
+use Rattle.v8.specs.declared.AluOp.the-variants.{Add, And, Or, Xor, Sub, Andn, Orn, Xnor}
+use Rattle.v8.specs.declared.ShiftOp.{ShiftOp}
+use Rattle.v8.specs.declared.ShiftOp.the-variants.{Sll, Srl, Sra}
+use Rattle.v8.specs.declared.LoadOp.{LoadOp}
+use Rattle.v8.specs.declared.LoadOp.the-variants.{Ld, Ldub, Lduh, Ldsb, Ldsh}
+use Rattle.v8.specs.declared.StoreOp.{StoreOp}
+use Rattle.v8.specs.declared.StoreOp.the-variants.{St, Stb, Sth}
+use Rattle.v8.specs.declared.Operand.{Operand}
+use Rattle.v8.specs.declared.Operand.the-variants.{Reg, Imm}
+use Rattle.v8.specs.declared.Displacement.{Displacement}
+use Rattle.v8.specs.declared.Displacement.the-variants.{Index, Bytes}
+use Rattle.v8.specs.declared.Instruction.{Instruction}
+use Rattle.v8.specs.declared.Instruction.the-variants.{Sethi, Bicc, Alu, Shift, Load, Store, Return}
+use Rattle.v8.specs.declared.Reading.{Reading}
+use Rattle.v8.specs.declared.Reading.the-variants.{Read, Unread}
+use Rattle.writer.specs.declared.Writing.{Writing}
+use Rattle.writer.specs.declared.Writing.the-variants.{Written, Unwritable}
+use Rattle.v8.specs.declared.read.OperandReading.{OperandReading}
+use Rattle.v8.specs.declared.read.OperandReading.the-variants.{Second, Reserved}
+use Rattle.writer.specs.declared.Part.{Part}
+use Rattle.writer.specs.declared.Part.the-variants.{Bits, OutOfRange}
+
+read : {x y : Instruction} → Read x ≡ Read y → x ≡ y
+read e = cc
+
+unread : {A : Type 0} {x : Instruction} → Unread ≡ Read x → A
+unread e = let z : _≡_ {A = ℕ} 0 1 = cc in absurd (omega arith)
+
+second : {x y : Operand} → Second x ≡ Second y → x ≡ y
+second e = cc
+
+reserved : {A : Type 0} {x : Operand} → Reserved ≡ Second x → A
+reserved e = let z : _≡_ {A = ℕ} 0 1 = cc in absurd (omega arith)
+
+-- ---- the parts
+
+-- sign extension keeps a field of 13 or 22 bits
+extended-13 : (f : ℕ) → f < 2 ^ 13 → signExtend 13 f % 2 ^ 13 ≡ f
+unfolding signExtend
+extended-13 f h = low _ refl
+  where
+    low : (t : Bool) → ltb f (2 ^ 12) ≡ t → cond t f (f + (2 ^ 32 - 2 ^ 13)) % 2 ^ 13 ≡ f
+    low true e = omega arith
+    low false e = omega arith
+
+extended-22 : (f : ℕ) → f < 2 ^ 22 → signExtend 22 f % 2 ^ 22 ≡ f
+unfolding signExtend
+extended-22 f h = low _ refl
+  where
+    low : (t : Bool) → ltb f (2 ^ 21) ≡ t → cond t f (f + (2 ^ 32 - 2 ^ 22)) % 2 ^ 22 ≡ f
+    low true e = omega arith
+    low false e = omega arith
+
+-- a sign-extended field is written as the field
+signed-kept : (n i f : ℕ) → signExtend n f % 2 ^ n ≡ f → signedBits n i (signExtend n f) ≡ Bits (i + f)
+unfolding signedBits
+signed-kept n i f e = simp (e, eq-eqb (signExtend n f) _ refl)
+
+five-kept : (i v : ℕ) → v < 32 → fiveBits i v ≡ Bits (i + v)
+unfolding fiveBits
+five-kept i v h = simp (lt-ltb v 32 h)
+
+-- the low 14 bits, from their fields
+low-imm : (w : ℕ) → iOf w ≡ 1 → iBit + simm13Of w ≡ w % 2 ^ 14
+low-imm w h = omega arith
+
+low-five : (w : ℕ) → unusedOf w ≡ 0 → iOf w * 2 ^ 13 + rs2Of w ≡ w % 2 ^ 14
+low-five w h =
+    let d : w / 32 / 256 ≡ w / 8192 = omega arith in
+    let f : w / 8192 / 2 ≡ w / 16384 = omega arith in
+    omega arith
+
+low-reg : (w : ℕ) → (iOf w ≡ 1 → ⊥) → unusedOf w ≡ 0 → 0 + rs2Of w ≡ w % 2 ^ 14
+low-reg w h u = let i : iOf w ≡ 0 = omega arith in let l = low-five w u in omega arith
+
+operand-kept : (w : ℕ) (x : Operand) → operandOf w ≡ Second x → operandBits x ≡ Bits (w % 2 ^ 14)
+unfolding operandOf
+operand-kept w x e =
+    cond-went (eqb (iOf w) 1) _ _ _ e
+    (λ t q. rw (← second q) (signed-kept 13 iBit (simm13Of w) (extended-13 (simm13Of w) (omega arith)) ∙ ap Bits (low-imm w (eqb-true _ _ t))))
+    (λ f q.
+    cond-went (eqb (unusedOf w) 0) _ _ _ q
+    (λ t q. rw (← second q) (five-kept 0 (rs2Of w) (omega arith) ∙ ap Bits (low-reg w (eqb-false _ _ f) (eqb-true _ _ t))))
+    (λ g q. reserved q))
+
+low-count : (w : ℕ) → iOf w ≡ 1 → unusedOf w ≡ 0 → iBit + rs2Of w ≡ w % 2 ^ 14
+low-count w h u = let l = low-five w u in omega arith
+
+count-kept : (w : ℕ) (x : Operand) → countOf w ≡ Second x → countBits x ≡ Bits (w % 2 ^ 14)
+unfolding countOf
+count-kept w x e =
+    cond-went (eqb (unusedOf w) 0) _ _ _ e
+    (λ g q.
+    cond-went (eqb (iOf w) 1) _ _ _ q
+    (λ t q. rw (← second q) (five-kept iBit (rs2Of w) (omega arith) ∙ ap Bits (low-count w (eqb-true _ _ t) (eqb-true _ _ g))))
+    (λ t q. rw (← second q) (five-kept 0 (rs2Of w) (omega arith) ∙ ap Bits (low-reg w (eqb-false _ _ t) (eqb-true _ _ g)))))
+    (λ g q. reserved q)
+
+displacement-kept : (x : Operand) → displacementBits (displacementOf x) ≡ operandBits x
+displacement-kept (Reg r) = refl
+displacement-kept (Imm v) = refl
+
+-- ---- words of the formats 10 and 11
+
+-- a word is the sum of its fields
+unpacked : (w : ℕ) → packOf (opOf w) (rdOf w) (op3Of w) (rs1Of w) (w % 2 ^ 14) ≡ w
+unfolding packOf
+unpacked w =
+    let d1 : w / 33554432 / 32 ≡ w / 1073741824 = omega arith in
+    let d2 : w / 524288 / 64 ≡ w / 33554432 = omega arith in
+    let d3 : w / 16384 / 32 ≡ w / 524288 = omega arith in
+    omega arith
+
+packed-kept : (w op op3 : ℕ) (low : Part) → opOf w ≡ op → op3Of w ≡ op3 → low ≡ Bits (w % 2 ^ 14) → packed op (rdOf w) op3 (rs1Of w) low ≡ Written w
+unfolding packed
+packed-kept w op op3 low p q r =
+    rw (← p, ← q, r)
+    (simp (lt-ltb (rdOf w) 32 (omega arith), lt-ltb (rs1Of w) 32 (omega arith)) (ap Written (unpacked w)))
+
+alu-kept : (w : ℕ) (op : AluOp) (cc : Bool) (x : Instruction) (o : OperandReading) → opOf w ≡ 2 → op3Of w ≡ aluCodeCc op cc → operandOf w ≡ o → aluWith op cc w o ≡ Read x → writingOf x ≡ Written w
+unfolding writingOf
+alu-kept w op cc x (Second o) p q r e = rw (← read e) (packed-kept w 2 _ _ p q (operand-kept w o r))
+alu-kept w op cc x Reserved p q r e = unread e
+
+shift-kept : (w : ℕ) (op : ShiftOp) (x : Instruction) (o : OperandReading) → opOf w ≡ 2 → op3Of w ≡ shiftCode op → countOf w ≡ o → shiftWith op w o ≡ Read x → writingOf x ≡ Written w
+unfolding writingOf
+shift-kept w op x (Second o) p q r e = rw (← read e) (packed-kept w 2 _ _ p q (count-kept w o r))
+shift-kept w op x Reserved p q r e = unread e
+
+-- the code of the operation of a code
+alu-code : (k : ℕ) → k < 8 → aluCode (aluOpOf k) ≡ k
+alu-code k h = eqb→eq _ _ (at Add (λ n op. eqb (aluCode op) n) aluOps tt k h)
+
+alu-code-cc : (k : ℕ) → 16 ≤ k → k ≤ 23 → k ≡ aluCode (aluOpOf (k - 16)) + 16
+alu-code-cc k a b = rw (alu-code (k - 16) (omega arith)) (omega arith)
+
+return-kept : (w : ℕ) (x : Instruction) → w ≡ leafReturn → Read Return ≡ Read x → writingOf x ≡ Written w
+unfolding writingOf
+return-kept w x h e = rw (← read e) (ap Written (sym h))
+
+format10-kept : (w : ℕ) (x : Instruction) → opOf w ≡ 2 → format10 w ≡ Read x → writingOf x ≡ Written w
+unfolding format10
+format10-kept w x p e =
+    cond-went (leb (op3Of w) 0x07) _ _ _ e
+    (λ t q. alu-kept w (aluOpOf (op3Of w)) false x (operandOf w) p (sym (alu-code (op3Of w) (omega (arith, leb-true (op3Of w) 7 t)))) refl q)
+    (λ f q.
+    cond-went (ltb (op3Of w) 0x10) _ _ _ q
+    (λ t q. unread q)
+    (λ g q.
+    cond-went (leb (op3Of w) 0x17) _ _ _ q
+    (λ t q. alu-kept w (aluOpOf (op3Of w - 16)) true x (operandOf w) p (alu-code-cc (op3Of w) (ltb-false _ _ g) (leb-true _ _ t)) refl q)
+    (λ j q.
+    cond-went (eqb (op3Of w) 0x25) _ _ _ q
+    (λ t q. shift-kept w Sll x (countOf w) p (eqb-true _ _ t) refl q)
+    (λ t q.
+    cond-went (eqb (op3Of w) 0x26) _ _ _ q
+    (λ t q. shift-kept w Srl x (countOf w) p (eqb-true _ _ t) refl q)
+    (λ t q.
+    cond-went (eqb (op3Of w) 0x27) _ _ _ q
+    (λ t q. shift-kept w Sra x (countOf w) p (eqb-true _ _ t) refl q)
+    (λ t q.
+    cond-went (eqb w leafReturn) _ _ _ q
+    (λ t q. return-kept w x (eqb-true _ _ t) q)
+    (λ t q. unread q)))))))
+
+load-kept : (w : ℕ) (op : LoadOp) (x : Instruction) (o : Operand) → opOf w ≡ 3 → operandOf w ≡ Second o → op3Of w ≡ loadCode op → loadOf op w (displacementOf o) ≡ Read x → writingOf x ≡ Written w
+unfolding writingOf
+load-kept w op x o p r q e = rw (← read e) (packed-kept w 3 _ _ p q (displacement-kept o ∙ operand-kept w o r))
+
+store-kept : (w : ℕ) (op : StoreOp) (x : Instruction) (o : Operand) → opOf w ≡ 3 → operandOf w ≡ Second o → op3Of w ≡ storeCode op → storeOf op w (displacementOf o) ≡ Read x → writingOf x ≡ Written w
+unfolding writingOf
+store-kept w op x o p r q e = rw (← read e) (packed-kept w 3 _ _ p q (displacement-kept o ∙ operand-kept w o r))
+
+memory-kept : (w : ℕ) (x : Instruction) (o : Operand) → opOf w ≡ 3 → operandOf w ≡ Second o → memoryOf w (displacementOf o) ≡ Read x → writingOf x ≡ Written w
+unfolding memoryOf
+memory-kept w x o p r e =
+    cond-went (eqb (op3Of w) 0x00) _ _ _ e
+    (λ t q. load-kept w Ld x o p r (eqb-true _ _ t) q)
+    (λ t q.
+    cond-went (eqb (op3Of w) 0x01) _ _ _ q
+    (λ t q. load-kept w Ldub x o p r (eqb-true _ _ t) q)
+    (λ t q.
+    cond-went (eqb (op3Of w) 0x02) _ _ _ q
+    (λ t q. load-kept w Lduh x o p r (eqb-true _ _ t) q)
+    (λ t q.
+    cond-went (eqb (op3Of w) 0x04) _ _ _ q
+    (λ t q. store-kept w St x o p r (eqb-true _ _ t) q)
+    (λ t q.
+    cond-went (eqb (op3Of w) 0x05) _ _ _ q
+    (λ t q. store-kept w Stb x o p r (eqb-true _ _ t) q)
+    (λ t q.
+    cond-went (eqb (op3Of w) 0x06) _ _ _ q
+    (λ t q. store-kept w Sth x o p r (eqb-true _ _ t) q)
+    (λ t q.
+    cond-went (eqb (op3Of w) 0x09) _ _ _ q
+    (λ t q. load-kept w Ldsb x o p r (eqb-true _ _ t) q)
+    (λ t q.
+    cond-went (eqb (op3Of w) 0x0A) _ _ _ q
+    (λ t q. load-kept w Ldsh x o p r (eqb-true _ _ t) q)
+    (λ t q.
+    unread q))))))))
+
+format11-kept : (w : ℕ) (x : Instruction) (o : OperandReading) → opOf w ≡ 3 → operandOf w ≡ o → memoryWith w o ≡ Read x → writingOf x ≡ Written w
+format11-kept w x (Second o) p r e = memory-kept w x o p r e
+format11-kept w x Reserved p r e = unread e
+
+-- ---- format 00
+
+sethi-kept : (w : ℕ) → opOf w ≡ 0 → op2Of w ≡ 4 → writingOf (Sethi (rdOf w) (low22Of w)) ≡ Written w
+unfolding writingOf sethiOf
+sethi-kept w h k =
+    simp (lt-ltb (rdOf w) 32 (omega arith), lt-ltb (low22Of w) (2 ^ 22) (omega arith)) (ap Written (sum w h k))
+  where
+    sum : (w : ℕ) → opOf w ≡ 0 → op2Of w ≡ 4 → rdOf w * 2 ^ 25 + 4 * 2 ^ 22 + low22Of w ≡ w
+    sum w h k = omega arith
+
+-- a branch's word, from its annul bit n and its other fields
+bicc-fields : (w n : ℕ) → opOf w ≡ 0 → op2Of w ≡ 2 → annulOf w ≡ n → n * 2 ^ 29 + condOf w * 2 ^ 25 + 2 * 2 ^ 22 + (0 + low22Of w) ≡ w
+bicc-fields w n h k a = sum w n (top w n h a) k
+  where
+    top : (w n : ℕ) → opOf w ≡ 0 → annulOf w ≡ n → w / 2 ^ 29 ≡ n
+    top w n h a = let d : w / 536870912 / 2 ≡ w / 1073741824 = omega arith in omega arith
+
+    sum : (w n : ℕ) → w / 2 ^ 29 ≡ n → op2Of w ≡ 2 → n * 2 ^ 29 + condOf w * 2 ^ 25 + 2 * 2 ^ 22 + (0 + low22Of w) ≡ w
+    sum w n a k = let d : w / 33554432 / 16 ≡ w / 536870912 = omega arith in omega arith
+
+bicc-sum : (w : ℕ) (t : Bool) → eqb (annulOf w) 1 ≡ t → opOf w ≡ 0 → op2Of w ≡ 2 → cond t (2 ^ 29) 0 + condOf w * 2 ^ 25 + 2 * 2 ^ 22 + (0 + low22Of w) ≡ w
+bicc-sum w true e h k = bicc-fields w 1 h k (eqb-true (annulOf w) 1 e)
+bicc-sum w false e h k = bicc-fields w 0 h k (clear w (eqb-false (annulOf w) 1 e))
+  where
+    clear : (w : ℕ) → (annulOf w ≡ 1 → ⊥) → annulOf w ≡ 0
+    clear w n = omega arith
+
+bicc-kept : (w : ℕ) → opOf w ≡ 0 → op2Of w ≡ 2 → writingOf (Bicc (eqb (annulOf w) 1) (condOf w) (record { 0 = signExtend 22 (low22Of w) })) ≡ Written w
+unfolding writingOf
+bicc-kept w h k =
+    rw (signed-kept 22 0 (low22Of w) (extended-22 (low22Of w) (omega arith)))
+    (simp (lt-ltb (condOf w) 16 (omega arith)) (ap Written (bicc-sum w _ refl h k)))
+
+format00-kept : (w : ℕ) (x : Instruction) → opOf w ≡ 0 → format00 w ≡ Read x → writingOf x ≡ Written w
+unfolding format00
+format00-kept w x h e =
+    cond-went (eqb (op2Of w) 4) _ _ _ e
+    (λ t q. rw (← read q) (sethi-kept w h (eqb-true _ _ t)))
+    (λ t q.
+    cond-went (eqb (op2Of w) 2) _ _ _ q
+    (λ t q. rw (← read q) (bicc-kept w h (eqb-true _ _ t)))
+    (λ t q. unread q))
+
+-- ---- all
+
+pub read-is-written : ReadIsWritten
+unfolding readingOf
+read-is-written w x e =
+    cond-went (eqb (opOf w) 0) _ _ _ e
+    (λ t q. format00-kept w x (eqb-true _ _ t) q)
+    (λ t q.
+    cond-went (eqb (opOf w) 2) _ _ _ q
+    (λ t q. format10-kept w x (eqb-true _ _ t) q)
+    (λ t q.
+    cond-went (eqb (opOf w) 3) _ _ _ q
+    (λ t q. format11-kept w x (operandOf w) (eqb-true _ _ t) refl q)
+    (λ t q. unread q)))
