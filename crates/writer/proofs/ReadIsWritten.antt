@@ -5,19 +5,18 @@
 use Prim.Native.Nat.{ℕ, _+_, _*_, _/_, _%_, _-_, _^_, _<_, _≤_}
 use mathlib.Core.Path.{_≡_, refl, sym, ap, _∙_}
 use mathlib.Core.Bool.{Bool, true, false, cond}
-use mathlib.Core.List.{List, [], _∷_}
 use native.Mathlib.Omega.{arith}
 use lib.Dec.{leb, ltb, eqb, eqb→eq}
-use borrow.Author.Tests.{ltb-false, leb-true, leb-false, eqb-true, eqb-false, lt-ltb, eq-eqb}
+use borrow.Author.Tests.{ltb-false, leb-true, eqb-true, eqb-false, lt-ltb, eq-eqb}
 use Rattle.v8.specs.Choice.{cond-went}
 use Rattle.v8.specs.Table.{at}
 use Rattle.v8.specs.Signed.{signExtend}
 use Rattle.v8.specs.Field.{opOf, rdOf, annulOf, condOf, op2Of, low22Of, op3Of, rs1Of, iOf, unusedOf, rs2Of, simm13Of}
 use Rattle.v8.specs.Read.{readingOf, format00, format10, memoryOf, memoryWith, operandOf, countOf, displacementOf, aluOps, aluOpOf, aluWith, shiftWith, loadOf, storeOf, leafReturn}
-use Rattle.writer.specs.Write.{writingOf, iBit, signedBits, fiveBits, operandBits, countBits, displacementBits, aluCode, aluCodeCc, shiftCode, loadCode, storeCode, packOf, packed, sethiOf, biccWith}
+use Rattle.writer.specs.Write.{writingOf, iBit, signedBits, fiveBits, operandBits, countBits, displacementBits, aluCode, aluCodeCc, shiftCode, loadCode, storeCode, packOf, packed, sethiWord}
 use Rattle.writer.specs.Laws.{ReadIsWritten}
 use Rattle.v8.specs.declared.AluOp.{AluOp}
-use Rattle.v8.specs.declared.AluOp.the-variants.{Add, And, Or, Xor, Sub, Andn, Orn, Xnor}
+use Rattle.v8.specs.declared.AluOp.the-variants.{Add}
 use Rattle.v8.specs.declared.ShiftOp.{ShiftOp}
 use Rattle.v8.specs.declared.ShiftOp.the-variants.{Sll, Srl, Sra}
 use Rattle.v8.specs.declared.LoadOp.{LoadOp}
@@ -26,18 +25,14 @@ use Rattle.v8.specs.declared.StoreOp.{StoreOp}
 use Rattle.v8.specs.declared.StoreOp.the-variants.{St, Stb, Sth}
 use Rattle.v8.specs.declared.Operand.{Operand}
 use Rattle.v8.specs.declared.Operand.the-variants.{Reg, Imm}
-use Rattle.v8.specs.declared.Displacement.{Displacement}
-use Rattle.v8.specs.declared.Displacement.the-variants.{Index, Bytes}
 use Rattle.v8.specs.declared.Instruction.{Instruction}
-use Rattle.v8.specs.declared.Instruction.the-variants.{Sethi, Bicc, Alu, Shift, Load, Store, Return}
-use Rattle.v8.specs.declared.Reading.{Reading}
+use Rattle.v8.specs.declared.Instruction.the-variants.{Sethi, Bicc, Return}
 use Rattle.v8.specs.declared.Reading.the-variants.{Read, Unread}
-use Rattle.writer.specs.declared.Writing.{Writing}
-use Rattle.writer.specs.declared.Writing.the-variants.{Written, Unwritable}
+use Rattle.writer.specs.declared.Writing.the-variants.{Written}
 use Rattle.v8.specs.declared.read.OperandReading.{OperandReading}
 use Rattle.v8.specs.declared.read.OperandReading.the-variants.{Second, Reserved}
 use Rattle.writer.specs.declared.Part.{Part}
-use Rattle.writer.specs.declared.Part.the-variants.{Bits, OutOfRange}
+use Rattle.writer.specs.declared.Part.the-variants.{Bits}
 
 read : {x y : Instruction} → Read x ≡ Read y → x ≡ y
 read e = cc
@@ -226,7 +221,7 @@ format11-kept w x Reserved p r e = unread e
 -- ---- format 00
 
 sethi-kept : (w : ℕ) → opOf w ≡ 0 → op2Of w ≡ 4 → writingOf (Sethi (rdOf w) (low22Of w)) ≡ Written w
-unfolding writingOf sethiOf
+unfolding writingOf sethiWord
 sethi-kept w h k =
     simp (lt-ltb (rdOf w) 32 (omega arith), lt-ltb (low22Of w) (2 ^ 22) (omega arith)) (ap Written (sum w h k))
   where

@@ -12,7 +12,7 @@ use Rattle.v8.specs.Choice.{cond-went}
 use Rattle.v8.specs.Signed.{signExtend}
 use Rattle.v8.specs.Field.{opOf, rdOf, annulOf, condOf, op2Of, low22Of, op3Of, rs1Of, iOf, unusedOf, rs2Of, simm13Of}
 use Rattle.v8.specs.Read.{readingOf, format00, format10, memoryOf, memoryWith, operandOf, countOf, displacementOf, aluWith, shiftWith, loadOf, storeOf}
-use Rattle.writer.specs.Write.{writingOf, Fits, iBit, signedBits, fiveBits, operandBits, countBits, displacementBits, aluCodeCc, shiftCode, loadCode, storeCode, packOf, packed, sethiOf, biccWith}
+use Rattle.writer.specs.Write.{writingOf, Fits, iBit, signedBits, fiveBits, operandBits, countBits, displacementBits, aluCodeCc, shiftCode, loadCode, storeCode, packOf, packed, sethiWord, biccWord}
 use Rattle.writer.specs.Laws.{WrittenIsRead}
 use Rattle.writer.proofs.Ranges.{operand-fits, count-fits, displacement-fits, alu-cc-small, shift-small, load-small, store-small}
 use Rattle.v8.specs.declared.AluOp.{AluOp}
@@ -27,14 +27,10 @@ use Rattle.v8.specs.declared.Operand.{Operand}
 use Rattle.v8.specs.declared.Operand.the-variants.{Reg, Imm}
 use Rattle.v8.specs.declared.Displacement.{Displacement}
 use Rattle.v8.specs.declared.Displacement.the-variants.{Index, Bytes}
-use Rattle.v8.specs.declared.Instruction.{Instruction}
 use Rattle.v8.specs.declared.Instruction.the-variants.{Sethi, Bicc, Alu, Shift, Load, Store, Return}
-use Rattle.v8.specs.declared.Reading.{Reading}
-use Rattle.v8.specs.declared.Reading.the-variants.{Read, Unread}
-use Rattle.writer.specs.declared.Writing.{Writing}
+use Rattle.v8.specs.declared.Reading.the-variants.{Read}
 use Rattle.writer.specs.declared.Writing.the-variants.{Written, Unwritable}
-use Rattle.v8.specs.declared.read.OperandReading.{OperandReading}
-use Rattle.v8.specs.declared.read.OperandReading.the-variants.{Second, Reserved}
+use Rattle.v8.specs.declared.read.OperandReading.the-variants.{Second}
 use Rattle.writer.specs.declared.Part.{Part}
 use Rattle.writer.specs.declared.Part.the-variants.{Bits, OutOfRange}
 
@@ -225,8 +221,8 @@ sethi-fields rd imm22 w p q r =
     let v : low22Of w ≡ imm22 = omega arith in
     simp (op, op2, d, v)
 
-sethi-back : (rd imm22 w : ℕ) → sethiOf rd imm22 ≡ Written w → readingOf w ≡ Read (Sethi rd imm22)
-unfolding sethiOf
+sethi-back : (rd imm22 w : ℕ) → sethiWord rd imm22 ≡ Written w → readingOf w ≡ Read (Sethi rd imm22)
+unfolding sethiWord
 sethi-back rd imm22 w e =
     cond-went (ltb rd 32) _ _ _ e
     (λ t q.
@@ -254,7 +250,7 @@ bicc-fields false cnd f v w p h q r =
     let n : low22Of w ≡ f = omega arith in
     simp (op, op2, a, d, n, ← q)
 
-bicc-with : (annul : Bool) (cnd v w : ℕ) (low : Part) → signedBits 22 0 v ≡ low → biccWith annul cnd low ≡ Written w → readingOf w ≡ Read (Bicc annul cnd (record { 0 = v }))
+bicc-with : (annul : Bool) (cnd v w : ℕ) (low : Part) → signedBits 22 0 v ≡ low → biccWord annul cnd low ≡ Written w → readingOf w ≡ Read (Bicc annul cnd (record { 0 = v }))
 bicc-with annul cnd v w (Bits b) l e =
     cond-went (ltb cnd 16) _ _ _ e
     (λ t q. signed-bits 22 0 v b l (λ x s.

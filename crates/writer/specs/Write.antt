@@ -1,7 +1,7 @@
 -- What an instruction is written as (document 01, "Write an instruction"): a word, or refusal 17 for
 -- "a part out of range or not of the subset".
 use Prim.Native.Nat.{ℕ, _+_, _*_, _%_, _^_, _<_}
-use mathlib.Core.Bool.{Bool, true, false, cond}
+use mathlib.Core.Bool.{Bool, cond}
 use lib.Dec.{ltb, eqb}
 use Rattle.v8.specs.Signed.{signExtend}
 use Rattle.v8.specs.Read.{leafReturn}
@@ -101,17 +101,17 @@ packed op rd op3 rs1 (Bits b) = cond (ltb rd 32) (cond (ltb rs1 32) (Written (pa
 packed op rd op3 rs1 OutOfRange = Unwritable
 
 -- SETHI: format 00 with bits 24:22 = 100
-unfoldable pub sethiOf : ℕ → ℕ → Writing
-sethiOf rd imm22 = cond (ltb rd 32) (cond (ltb imm22 (2 ^ 22)) (Written (rd * 2 ^ 25 + 4 * 2 ^ 22 + imm22)) Unwritable) Unwritable
+unfoldable pub sethiWord : ℕ → ℕ → Writing
+sethiWord rd imm22 = cond (ltb rd 32) (cond (ltb imm22 (2 ^ 22)) (Written (rd * 2 ^ 25 + 4 * 2 ^ 22 + imm22)) Unwritable) Unwritable
 
 -- Bicc: format 00 with bits 24:22 = 010
-abbrev pub biccWith : Bool → ℕ → Part → Writing
-biccWith annul cnd (Bits b) = cond (ltb cnd 16) (Written (cond annul (2 ^ 29) 0 + cnd * 2 ^ 25 + 2 * 2 ^ 22 + b)) Unwritable
-biccWith annul cnd OutOfRange = Unwritable
+abbrev pub biccWord : Bool → ℕ → Part → Writing
+biccWord annul cnd (Bits b) = cond (ltb cnd 16) (Written (cond annul (2 ^ 29) 0 + cnd * 2 ^ 25 + 2 * 2 ^ 22 + b)) Unwritable
+biccWord annul cnd OutOfRange = Unwritable
 
 unfoldable pub writingOf : Instruction → Writing
-writingOf (Sethi rd imm22) = sethiOf rd imm22
-writingOf (Bicc annul cnd d) = biccWith annul cnd (signedBits 22 0 (d .0))
+writingOf (Sethi rd imm22) = sethiWord rd imm22
+writingOf (Bicc annul cnd d) = biccWord annul cnd (signedBits 22 0 (d .0))
 writingOf (Alu op cc rd rs1 x) = packed 2 rd (aluCodeCc op cc) rs1 (operandBits x)
 writingOf (Shift op rd rs1 x) = packed 2 rd (shiftCode op) rs1 (countBits x)
 writingOf (Load op rd rs1 d) = packed 3 rd (loadCode op) rs1 (displacementBits d)

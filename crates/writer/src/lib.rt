@@ -2,7 +2,7 @@
 // stand in specs/Laws.antt. (Document 01, "Write an instruction".)
 ghost use mathlib.Core.Path.{_≡_};
 ghost use Prim.Native.Nat.{_+_, _<_, _≤_, _^_};
-ghost use Rattle.writer.specs.Write.{writingOf, signedBits, fiveBits, operandBits, countBits, displacementBits, aluCode, aluCodeCc, shiftCode, loadCode, storeCode, packed, sethiOf, biccWith, Fits};
+ghost use Rattle.writer.specs.Write.{writingOf, signedBits, fiveBits, operandBits, countBits, displacementBits, aluCode, aluCodeCc, shiftCode, loadCode, storeCode, packed, sethiWord, biccWord, Fits};
 use v8::AluOp;
 use v8::Displacement;
 use v8::Instruction;
@@ -171,7 +171,7 @@ fn pack(op: u32, rd: u8, op3: u32, rs1: u8, low: Part) -> Writing
 }
 
 fn write_sethi(rd: u8, imm22: u32) -> Writing
-    ensures { λ r. ⌜ r ≡ sethiOf rd imm22 ⌝ }
+    ensures { λ r. ⌜ r ≡ sethiWord rd imm22 ⌝ }
 {
     let d = rd as u32;
     if d < 32 {
@@ -183,7 +183,7 @@ fn write_sethi(rd: u8, imm22: u32) -> Writing
 }
 
 fn write_bicc(annul: bool, cond: u8, distance: WordIndex) -> Writing
-    ensures { λ r. ⌜ r ≡ biccWith annul cond (signedBits 22 0 (distance .0)) ⌝ }
+    ensures { λ r. ⌜ r ≡ biccWord annul cond (signedBits 22 0 (distance .0)) ⌝ }
 {
     let c = cond as u32;
     match signed_bits(22, 0, distance.0) {

@@ -1,5 +1,5 @@
 use Rattle.writer.specs.Write.{fiveBits}
-use borrow.Author.Tests.{eq-eqb, ne-eqb, lt-ltb, le-ltb, le-leb, lt-leb}
+use borrow.Author.Tests.{lt-ltb, le-ltb}
 use borrow.Author.Needs.{needs}
 use Rattle.writer.proofs.five_bits.Statement.{statement}
 use Rattle.writer.proofs.five_bits.Tie as tie

@@ -1,7 +1,6 @@
 use Rattle.writer.specs.Write.{packed, packOf}
 use native.Mathlib.Omega.{arith}
-use borrow.Author.Tests.{eq-eqb, ne-eqb, lt-ltb, le-ltb, le-leb, lt-leb}
-use mathlib.Core.Path.{sym, ap, _∙_}
+use borrow.Author.Tests.{lt-ltb, le-ltb}
 use borrow.Author.Needs.{needs}
 use Rattle.writer.proofs.pack.Statement.{statement}
 use Rattle.writer.proofs.pack.Tie as tie

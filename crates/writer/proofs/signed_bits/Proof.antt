@@ -3,8 +3,8 @@ use Rattle.v8.specs.Power.{shifted}
 use Rattle.writer.specs.Write.{signedBits}
 use native.Mathlib.Nat.{mod-lt}
 use native.Mathlib.Omega.{arith}
-use borrow.Author.Tests.{eq-eqb, ne-eqb, lt-ltb, le-ltb, le-leb, lt-leb}
-use mathlib.Core.Path.{sym, ap, _∙_}
+use borrow.Author.Tests.{eq-eqb, ne-eqb}
+use mathlib.Core.Path.{sym, _∙_}
 use borrow.Author.Needs.{needs}
 use Rattle.writer.proofs.signed_bits.Statement.{statement}
 use Rattle.writer.proofs.signed_bits.Tie as tie

@@ -1,8 +1,8 @@
 use Rattle.writer.specs.declared.Writing.the-variants.{Written}
 use Rattle.writer.proofs.Ranges.{signed-fits}
 use native.Mathlib.Omega.{arith}
-use mathlib.Core.Path.{sym, ap, _∙_}
-use borrow.Author.Tests.{eq-eqb, ne-eqb, lt-ltb, le-ltb, le-leb, lt-leb}
+use mathlib.Core.Path.{ap}
+use borrow.Author.Tests.{lt-ltb, le-ltb}
 use borrow.Author.Needs.{needs}
 use Rattle.writer.proofs.write_bicc.Statement.{statement}
 use Rattle.writer.proofs.write_bicc.Tie as tie

@@ -1,7 +1,6 @@
 use Rattle.writer.proofs.Ranges.{alu-cc-small, shift-small, load-small, store-small, operand-fits, count-fits, displacement-fits}
 use Rattle.writer.specs.Write.{writingOf}
 use native.Mathlib.Omega.{arith}
-use mathlib.Core.Path.{sym, ap, _∙_}
 use borrow.Author.Needs.{needs}
 use Rattle.writer.proofs.write_instruction.Statement.{statement}
 use Rattle.writer.proofs.write_instruction.Tie as tie

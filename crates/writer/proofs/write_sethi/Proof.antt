@@ -1,5 +1,5 @@
-use Rattle.writer.specs.Write.{sethiOf}
-use borrow.Author.Tests.{eq-eqb, ne-eqb, lt-ltb, le-ltb, le-leb, lt-leb}
+use Rattle.writer.specs.Write.{sethiWord}
+use borrow.Author.Tests.{lt-ltb, le-ltb}
 use borrow.Author.Needs.{needs}
 use Rattle.writer.proofs.write_sethi.Statement.{statement}
 use Rattle.writer.proofs.write_sethi.Tie as tie
@@ -14,15 +14,15 @@ add-t8 : tie.Need-add-t8
 add-t8 c = search needs
 
 returns : tie.Need-returns
-unfolding sethiOf
+unfolding sethiWord
 returns c = simp (lt-ltb _ _ (c .before .if1 .taken), lt-ltb _ _ (c .if2 .taken))
 
 returns-2 : tie.Need-returns-2
-unfolding sethiOf
+unfolding sethiWord
 returns-2 c = simp (lt-ltb _ _ (c .before .if1 .taken), le-ltb _ _ (c .if2 .left))
 
 returns-3 : tie.Need-returns-3
-unfolding sethiOf
+unfolding sethiWord
 returns-3 c = simp (le-ltb _ _ (c .if1 .left))
 
 pub write-sethi-spec : {M : Type 1} → statement M

@@ -1,6 +1,6 @@
 use Rattle.v8.specs.Read.{countOf}
-use borrow.Author.Tests.{eq-eqb, ne-eqb, lt-ltb, le-ltb, le-leb, lt-leb}
-use mathlib.Core.Path.{sym, ap, _∙_}
+use borrow.Author.Tests.{eq-eqb, ne-eqb}
+use mathlib.Core.Path.{sym, _∙_}
 use borrow.Author.Needs.{needs}
 use Rattle.v8.proofs.read.count_of.Statement.{statement}
 use Rattle.v8.proofs.read.count_of.Tie as tie

@@ -1,8 +1,8 @@
 use Rattle.v8.specs.Read.{format10, leafReturn}
 use Rattle.v8.specs.Field.{op3Of}
 use native.Mathlib.Omega.{arith}
-use borrow.Author.Tests.{eq-eqb, ne-eqb, lt-ltb, le-ltb, le-leb, lt-leb}
-use mathlib.Core.Path.{sym, ap, _∙_}
+use borrow.Author.Tests.{ne-eqb, lt-ltb, le-ltb, le-leb, lt-leb}
+use mathlib.Core.Path.{ap, _∙_}
 use borrow.Author.Needs.{needs}
 use Rattle.v8.proofs.read.read_format_10.Statement.{statement}
 use Rattle.v8.proofs.read.read_format_10.Tie as tie

@@ -1,5 +1,3 @@
-use Rattle.v8.specs.Read.{memoryOf}
-use mathlib.Core.Path.{sym, ap, _∙_}
 use borrow.Author.Needs.{needs}
 use Rattle.v8.proofs.read.read_format_11.Statement.{statement}
 use Rattle.v8.proofs.read.read_format_11.Tie as tie

@@ -1,6 +1,5 @@
 use Rattle.v8.specs.Read.{memoryOf}
-use borrow.Author.Tests.{eq-eqb, ne-eqb, lt-ltb, le-ltb, le-leb, lt-leb}
-use mathlib.Core.Path.{sym, ap, _∙_}
+use borrow.Author.Tests.{ne-eqb}
 use borrow.Author.Needs.{needs}
 use Rattle.v8.proofs.read.read_memory.Statement.{statement}
 use Rattle.v8.proofs.read.read_memory.Tie as tie

@@ -1,10 +1,7 @@
 use Rattle.v8.specs.Power.{half}
-use mathlib.Core.Path.{sym, ap, _∙_}
-use Rattle.v8.specs.Choice.{tests}
 use native.Mathlib.Omega.{arith}
 use Rattle.v8.specs.Signed.{signExtend}
-use borrow.Author.Tests.{eq-eqb, ne-eqb, lt-ltb, le-ltb, le-leb, lt-leb}
-use mathlib.Core.Path.{sym, ap, _∙_, _≡_}
+use borrow.Author.Tests.{lt-ltb, le-ltb}
 use borrow.Author.Needs.{needs}
 use Rattle.v8.proofs.read.sign_extend.Statement.{statement}
 use Rattle.v8.proofs.read.sign_extend.Tie as tie
@@ -33,12 +30,12 @@ sub-result-3 c = let h = half (c .before .args .bits) (c .before .pre .0) (c .be
 
 add-result : tie.Need-add-result
 add-result c = let h = half (c .before .args .bits) (c .before .pre .0) (c .before .pre .1) in
-    rw (h .code) (record { fits = omega (arith, h .twice) })
+    rw (h .code) (record { fits = omega (arith, h .whole) })
 
 returns-2 : tie.Need-returns-2
 unfolding signExtend
 returns-2 c = let h = half (c .before .args .bits) (c .before .pre .0) (c .before .pre .1) in
-    rw (h .code) (simp (le-ltb _ _ (rw (h .code) at (c .if1 .left))) (omega (arith, h .twice)))
+    rw (h .code) (simp (le-ltb _ _ (rw (h .code) at (c .if1 .left))) (omega (arith, h .whole)))
 
 pub sign-extend-spec : {M : Type 1} → statement M
 sign-extend-spec =

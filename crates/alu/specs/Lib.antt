@@ -1,0 +1,4 @@
+pub mod Result
+pub mod Codes
+pub mod Condition
+pub mod Laws

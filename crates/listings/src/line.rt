@@ -1,0 +1,146 @@
+// One line of a listing, judged.
+use crate::text::put_instruction;
+use v8::Instruction;
+use v8::Reading;
+use v8::read_word;
+use writer::Writing;
+use writer::write_instruction;
+ghost use Prim.Native.Nat.{_≤_};
+ghost use lib.ListN.{length};
+
+// What a line shows.
+pub enum Verdict {
+    // A word of the subset, read as the text says and written back.
+    Kept,
+    // A word outside the subset, not read.
+    Refused,
+    // No word and text.
+    Malformed,
+    // A word of the subset that is not read.
+    NotRead,
+    // Read, and its text is not the line's.
+    ReadOtherwise,
+    NotWrittenBack,
+    // A word outside the subset that is read.
+    ReadOutside,
+}
+
+// A word, or none where a digit is not hexadecimal.
+enum Digits {
+    Word(u32),
+    Wrong,
+}
+
+// The value of a hexadecimal digit in lower case, and 16 for any other byte.
+fn digit(b: u8) -> u8
+    ensures { λ r. ⌜ r ≤ 16 ⌝ }
+{
+    match b {
+        b'0'..=b'9' => b - b'0',
+        b'a'..=b'f' => b - b'a' + 10,
+        _ => 16,
+    }
+}
+
+// The word that the first eight bytes spell.
+fn word_of(line: &[u8]) -> Digits
+    requires { ⌜ 8 ≤ length (now line) ⌝ }
+{
+    let mut w: u32 = 0;
+    let mut i = 0;
+    while i < 8 {
+        let d = digit(line[i]);
+        if 16 <= d {
+            return Digits::Wrong;
+        }
+        w = w % 268435456 * 16 + d as u32;
+        i += 1;
+    }
+    Digits::Word(w)
+}
+
+// Whether a text is the first `n` bytes of a buffer.
+fn same(text: &[u8], buf: &[u8; 64], n: usize) -> bool
+    requires { ⌜ n ≤ 64 ⌝ }
+{
+    if text.len() != n {
+        return false;
+    }
+    let mut i = 0;
+    while i < n {
+        if text[i] != buf[i] {
+            return false;
+        }
+        i += 1;
+    }
+    true
+}
+
+// Whether an instruction's text is the one given. A text that fills the buffer may be cut, and is
+// no instruction's.
+fn has_text(x: Instruction, text: &[u8]) -> bool {
+    let mut buf = [0u8; 64];
+    let n = put_instruction(&mut buf, x);
+    if n < 64 {
+        return same(text, &buf, n);
+    }
+    false
+}
+
+fn writes(x: Instruction, w: u32) -> bool {
+    match write_instruction(x) {
+        Writing::Written(v) => v == w,
+        Writing::Unwritable => false,
+    }
+}
+
+// A word of the subset, with its text.
+fn judge_inside(w: u32, text: &[u8]) -> Verdict {
+    match read_word(w) {
+        Reading::Read(x) => {
+            if !has_text(x, text) {
+                return Verdict::ReadOtherwise;
+            }
+            if writes(x, w) {
+                return Verdict::Kept;
+            }
+            Verdict::NotWrittenBack
+        }
+        Reading::Unread => Verdict::NotRead,
+    }
+}
+
+fn judge_outside(w: u32) -> Verdict {
+    match read_word(w) {
+        Reading::Read(_) => Verdict::ReadOutside,
+        Reading::Unread => Verdict::Refused,
+    }
+}
+
+// Whether a text begins with the mark of a word outside the subset.
+fn is_marked(text: &[u8]) -> bool {
+    if text.len() < 2 {
+        return false;
+    }
+    (text[0] == b'!') & (text[1] == b' ')
+}
+
+pub fn judge(line: &[u8]) -> Verdict {
+    if line.len() < 10 {
+        return Verdict::Malformed;
+    }
+    if line[8] != b' ' {
+        return Verdict::Malformed;
+    }
+    let text = &line[9..];
+    match word_of(line) {
+        Digits::Word(w) => {
+            if is_marked(text) {
+                judge_outside(w)
+            } else {
+                judge_inside(w, text)
+            }
+        }
+        Digits::Wrong => Verdict::Malformed,
+    }
+}

@@ -1,0 +1,16 @@
+// Holds the reader and the writer of words against an assembler's listing, read from standard
+// input. A line is a word and the assembler's text of it, as `82006ffc add %g1,4092,%g1`, or a word
+// outside the subset, as `c43a4000 ! std %g2,[%o1]`. Prints each line that is wrong, then counts.
+mod line;
+mod report;
+mod text;
+
+fn main() {
+    let mut input = io::large_buffer();
+    let n = io::read_full(libc::STDIN_FILENO, &mut input);
+    if n < 65536 {
+        report::check_lines(&input[..n]);
+    } else {
+        io::write_all(libc::STDOUT_FILENO, b"more than 65535 bytes\n");
+    }
+}

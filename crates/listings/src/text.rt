@@ -1,0 +1,264 @@
+// Instructions in the assembler's syntax. Each function puts its part into a lent buffer from an
+// index on, and answers the index after it. What does not fit is left out.
+use v8::AluOp;
+use v8::Displacement;
+use v8::Instruction;
+use v8::LoadOp;
+use v8::Operand;
+use v8::ShiftOp;
+use v8::StoreOp;
+use v8::WordIndex;
+ghost use Prim.Native.Nat.{_≤_};
+
+fn put(buf: &mut [u8; 64], at: usize, b: u8) -> usize {
+    if at < 64 {
+        buf[at] = b;
+        return at + 1;
+    }
+    at
+}
+
+fn put_all(buf: &mut [u8; 64], at: usize, s: &[u8]) -> usize {
+    let mut next = at;
+    let mut i = 0;
+    while i < s.len() {
+        next = put(buf, next, s[i]);
+        i += 1;
+    }
+    next
+}
+
+fn put_decimal(buf: &mut [u8; 64], at: usize, n: u64) -> usize {
+    let mut digits = [0u8; 20];
+    let k = io::decimal(n, &mut digits);
+    put_all(buf, at, &digits[..k])
+}
+
+// Whether a 32-bit word is negative, read as signed.
+fn negative(v: u32) -> bool {
+    2147483648 <= v
+}
+
+// The size of a signed 32-bit word, without its sign.
+fn size(v: u32) -> u64
+    ensures { λ r. ⌜ r ≤ 2147483648 ⌝ }
+{
+    if v < 2147483648 {
+        return v as u64;
+    }
+    4294967296 - v as u64
+}
+
+// A signed number: a minus sign where it is negative, and its size.
+fn put_number(buf: &mut [u8; 64], at: usize, v: u32) -> usize {
+    if negative(v) {
+        let next = put(buf, at, b'-');
+        return put_decimal(buf, next, size(v));
+    }
+    put_decimal(buf, at, size(v))
+}
+
+// A signed distance: a sign always, and `n` bytes.
+fn put_distance(buf: &mut [u8; 64], at: usize, minus: bool, n: u64) -> usize {
+    let sign = if minus { b'-' } else { b'+' };
+    let next = put(buf, at, sign);
+    put_decimal(buf, next, n)
+}
+
+// The letters of the registers' four banks, r0 to r7 and so on.
+const BANKS: [u8; 4] = [b'g', b'o', b'l', b'i'];
+
+fn put_register(buf: &mut [u8; 64], at: usize, r: u8) -> usize {
+    if r < 32 {
+        let bank = (r / 8) as usize;
+        let a = put(buf, at, b'%');
+        let b = put(buf, a, BANKS[bank]);
+        return put(buf, b, b'0' + r % 8);
+    }
+    put(buf, at, b'?')
+}
+
+fn put_operand(buf: &mut [u8; 64], at: usize, x: Operand) -> usize {
+    match x {
+        Operand::Reg(r) => put_register(buf, at, r),
+        Operand::Imm(v) => put_number(buf, at, v),
+    }
+}
+
+fn put_displacement(buf: &mut [u8; 64], at: usize, x: Displacement) -> usize {
+    match x {
+        Displacement::Index(r) => {
+            let next = put(buf, at, b'+');
+            put_register(buf, next, r)
+        }
+        Displacement::Bytes(d) => put_distance(buf, at, negative(d.0), size(d.0)),
+    }
+}
+
+// An address, as `[%o0-4]`.
+fn put_address(buf: &mut [u8; 64], at: usize, rs1: u8, x: Displacement) -> usize {
+    let a = put(buf, at, b'[');
+    let b = put_register(buf, a, rs1);
+    let c = put_displacement(buf, b, x);
+    put(buf, c, b']')
+}
+
+// The three operands of arithmetic, logic and shifts, as ` %g1,%g2,%g3`.
+fn put_three(buf: &mut [u8; 64], at: usize, rs1: u8, x: Operand, rd: u8) -> usize {
+    let a = put(buf, at, b' ');
+    let b = put_register(buf, a, rs1);
+    let c = put(buf, b, b',');
+    let d = put_operand(buf, c, x);
+    let e = put(buf, d, b',');
+    put_register(buf, e, rd)
+}
+
+// The mnemonics, at the start of the buffer. Those of loads and stores have a space after them.
+fn put_alu_name(buf: &mut [u8; 64], op: AluOp) -> usize {
+    match op {
+        AluOp::Add => put_all(buf, 0, b"add"),
+        AluOp::And => put_all(buf, 0, b"and"),
+        AluOp::Or => put_all(buf, 0, b"or"),
+        AluOp::Xor => put_all(buf, 0, b"xor"),
+        AluOp::Sub => put_all(buf, 0, b"sub"),
+        AluOp::Andn => put_all(buf, 0, b"andn"),
+        AluOp::Orn => put_all(buf, 0, b"orn"),
+        AluOp::Xnor => put_all(buf, 0, b"xnor"),
+    }
+}
+
+fn put_cc(buf: &mut [u8; 64], at: usize, cc: bool) -> usize {
+    if cc {
+        return put_all(buf, at, b"cc");
+    }
+    at
+}
+
+fn put_shift_name(buf: &mut [u8; 64], op: ShiftOp) -> usize {
+    match op {
+        ShiftOp::Sll => put_all(buf, 0, b"sll"),
+        ShiftOp::Srl => put_all(buf, 0, b"srl"),
+        ShiftOp::Sra => put_all(buf, 0, b"sra"),
+    }
+}
+
+fn put_load_name(buf: &mut [u8; 64], op: LoadOp) -> usize {
+    match op {
+        LoadOp::Ld => put_all(buf, 0, b"ld "),
+        LoadOp::Ldub => put_all(buf, 0, b"ldub "),
+        LoadOp::Lduh => put_all(buf, 0, b"lduh "),
+        LoadOp::Ldsb => put_all(buf, 0, b"ldsb "),
+        LoadOp::Ldsh => put_all(buf, 0, b"ldsh "),
+    }
+}
+
+fn put_store_name(buf: &mut [u8; 64], op: StoreOp) -> usize {
+    match op {
+        StoreOp::St => put_all(buf, 0, b"st "),
+        StoreOp::Stb => put_all(buf, 0, b"stb "),
+        StoreOp::Sth => put_all(buf, 0, b"sth "),
+    }
+}
+
+fn put_condition(buf: &mut [u8; 64], cond: u8) -> usize {
+    match cond {
+        0 => put_all(buf, 0, b"bn"),
+        1 => put_all(buf, 0, b"be"),
+        2 => put_all(buf, 0, b"ble"),
+        3 => put_all(buf, 0, b"bl"),
+        4 => put_all(buf, 0, b"bleu"),
+        5 => put_all(buf, 0, b"bcs"),
+        6 => put_all(buf, 0, b"bneg"),
+        7 => put_all(buf, 0, b"bvs"),
+        8 => put_all(buf, 0, b"ba"),
+        9 => put_all(buf, 0, b"bne"),
+        10 => put_all(buf, 0, b"bg"),
+        11 => put_all(buf, 0, b"bge"),
+        12 => put_all(buf, 0, b"bgu"),
+        13 => put_all(buf, 0, b"bcc"),
+        14 => put_all(buf, 0, b"bpos"),
+        15 => put_all(buf, 0, b"bvc"),
+        _ => put_all(buf, 0, b"?"),
+    }
+}
+
+// What stands between a branch's name and its distance.
+fn put_annul(buf: &mut [u8; 64], at: usize, annul: bool) -> usize {
+    if annul {
+        return put_all(buf, at, b",a .");
+    }
+    put_all(buf, at, b" .")
+}
+
+// A branch, whose distance is in bytes from the branch itself, as `bne,a .+16`.
+fn put_branch(buf: &mut [u8; 64], annul: bool, cond: u8, distance: WordIndex) -> usize {
+    let a = put_condition(buf, cond);
+    let b = put_annul(buf, a, annul);
+    put_distance(buf, b, negative(distance.0), 4 * size(distance.0))
+}
+
+fn put_sethi(buf: &mut [u8; 64], rd: u8, imm22: u32) -> usize {
+    let a = put_all(buf, 0, b"sethi ");
+    let b = put_decimal(buf, a, imm22 as u64);
+    let c = put(buf, b, b',');
+    put_register(buf, c, rd)
+}
+
+// Arithmetic and logic, with `cc` after the name where they set the codes.
+fn put_alu(buf: &mut [u8; 64], op: AluOp, cc: bool, rs1: u8, x: Operand, rd: u8) -> usize {
+    let a = put_alu_name(buf, op);
+    let b = put_cc(buf, a, cc);
+    put_three(buf, b, rs1, x, rd)
+}
+
+fn put_shift(buf: &mut [u8; 64], op: ShiftOp, rs1: u8, count: Operand, rd: u8) -> usize {
+    let at = put_shift_name(buf, op);
+    put_three(buf, at, rs1, count, rd)
+}
+
+fn put_load(buf: &mut [u8; 64], op: LoadOp, rd: u8, rs1: u8, x: Displacement) -> usize {
+    let a = put_load_name(buf, op);
+    let b = put_address(buf, a, rs1, x);
+    let c = put(buf, b, b',');
+    put_register(buf, c, rd)
+}
+
+fn put_store(buf: &mut [u8; 64], op: StoreOp, rd: u8, rs1: u8, x: Displacement) -> usize {
+    let a = put_store_name(buf, op);
+    let b = put_register(buf, a, rd);
+    let c = put(buf, b, b',');
+    put_address(buf, c, rs1, x)
+}
+
+// Puts an instruction at the start of the buffer, and answers how many bytes it takes.
+pub fn put_instruction(buf: &mut [u8; 64], x: Instruction) -> usize {
+    match x {
+        Instruction::Sethi { rd, imm22 } => put_sethi(buf, rd, imm22),
+        Instruction::Bicc {
+            annul,
+            cond,
+            distance,
+        } => put_branch(buf, annul, cond, distance),
+        Instruction::Alu {
+            op,
+            cc,
+            rd,
+            rs1,
+            operand,
+        } => put_alu(buf, op, cc, rs1, operand, rd),
+        Instruction::Shift { op, rd, rs1, count } => put_shift(buf, op, rs1, count, rd),
+        Instruction::Load {
+            op,
+            rd,
+            rs1,
+            displacement,
+        } => put_load(buf, op, rd, rs1, displacement),
+        Instruction::Store {
+            op,
+            rd,
+            rs1,
+            displacement,
+        } => put_store(buf, op, rd, rs1, displacement),
+        Instruction::Return => put_all(buf, 0, b"retl"),
+    }
+}

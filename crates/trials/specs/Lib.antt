@@ -1,0 +1,4 @@
+pub mod Case
+pub mod Words
+pub mod Arithmetic
+pub mod Table

@@ -1,0 +1,8 @@
+-- The one shared table of worked cases, by subject.
+use mathlib.Core.List.{List, _++_}
+use Rattle.trials.specs.Case.{Row}
+use Rattle.trials.specs.Words.{wordRows, writeRows}
+use Rattle.trials.specs.Arithmetic.{additionRows, subtractionRows, logicRows, shiftRows, conditionRows}
+
+abbrev pub table : List Row
+table = wordRows ++ writeRows ++ additionRows ++ subtractionRows ++ logicRows ++ shiftRows ++ conditionRows
