@@ -1,3 +1,4 @@
+-- An opcode is below 8, so that 16 more is no overflow.
 use Rattle.writer.proofs.Ranges.{alu-small}
 use native.Mathlib.Omega.{arith}
 use borrow.Author.Needs.{needs}

@@ -1,3 +1,4 @@
+-- A shift's count, by its two cases.
 use borrow.Author.Needs.{needs}
 use Rattle.writer.proofs.count_bits.Statement.{statement}
 use Rattle.writer.proofs.count_bits.Tie as tie

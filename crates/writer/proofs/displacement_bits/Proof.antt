@@ -1,3 +1,4 @@
+-- An address's second part, by its two cases.
 use borrow.Author.Needs.{needs}
 use Rattle.writer.proofs.displacement_bits.Statement.{statement}
 use Rattle.writer.proofs.displacement_bits.Tie as tie

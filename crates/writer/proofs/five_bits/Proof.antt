@@ -1,3 +1,4 @@
+-- A number below 32, by its one test.
 use Rattle.writer.specs.Write.{fiveBits}
 use borrow.Author.Tests.{lt-ltb, le-ltb}
 use borrow.Author.Needs.{needs}

@@ -1,3 +1,4 @@
+-- The second operand, by its two cases.
 use borrow.Author.Needs.{needs}
 use Rattle.writer.proofs.operand_bits.Statement.{statement}
 use Rattle.writer.proofs.operand_bits.Tie as tie

@@ -1,3 +1,4 @@
+-- The fields add up to a word: each is below the next one's unit.
 use Rattle.writer.specs.Write.{packed, packOf}
 use native.Mathlib.Omega.{arith}
 use borrow.Author.Tests.{lt-ltb, le-ltb}

@@ -1,3 +1,4 @@
+-- A branch: the distance fits 22 bits, so that the parts add up to a word.
 use Rattle.writer.specs.declared.Writing.the-variants.{Written}
 use Rattle.writer.proofs.Ranges.{signed-fits}
 use native.Mathlib.Omega.{arith}

@@ -1,3 +1,4 @@
+-- Each kind of instruction is written by its own case; the parts fit their fields (Ranges).
 use Rattle.writer.proofs.Ranges.{alu-cc-small, shift-small, load-small, store-small, operand-fits, count-fits, displacement-fits}
 use Rattle.writer.specs.Write.{writingOf}
 use native.Mathlib.Omega.{arith}

@@ -1,3 +1,4 @@
+-- SETHI, by its two tests.
 use Rattle.writer.specs.Write.{sethiWord}
 use borrow.Author.Tests.{lt-ltb, le-ltb}
 use borrow.Author.Needs.{needs}

@@ -1,3 +1,4 @@
+-- A shift's count: each return has passed or failed the tests of the definition, on the fields that the callees give.
 use Rattle.v8.specs.Read.{countOf}
 use borrow.Author.Tests.{eq-eqb, ne-eqb}
 use mathlib.Core.Path.{sym, _∙_}

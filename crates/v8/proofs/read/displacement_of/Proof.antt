@@ -1,3 +1,4 @@
+-- An operand as the second part of an address, by its two cases.
 use borrow.Author.Needs.{needs}
 use Rattle.v8.proofs.read.displacement_of.Statement.{statement}
 use Rattle.v8.proofs.read.displacement_of.Tie as tie

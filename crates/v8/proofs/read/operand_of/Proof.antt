@@ -1,3 +1,4 @@
+-- The second operand: each return has passed or failed the tests of the definition, on the fields that the callees give.
 use Rattle.v8.specs.Read.{operandOf}
 use borrow.Author.Tests.{eq-eqb, ne-eqb}
 use mathlib.Core.Path.{sym, _∙_}

@@ -1,3 +1,4 @@
+-- Arithmetic and logic, by the two answers of operand_of.
 use borrow.Author.Needs.{needs}
 use Rattle.v8.proofs.read.read_alu.Statement.{statement}
 use Rattle.v8.proofs.read.read_alu.Tie as tie

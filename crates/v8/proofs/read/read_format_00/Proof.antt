@@ -1,3 +1,4 @@
+-- Format 00: each key of the match is a case of the definition, the default has failed both tests.
 use Rattle.v8.specs.Read.{format00}
 use borrow.Author.Tests.{ne-eqb}
 use borrow.Author.Needs.{needs}

@@ -1,3 +1,5 @@
+-- Format 10: each key and range of the match is a case of the definition. The default has failed every test; that the word is not
+-- the leaf return follows from its opcode.
 use Rattle.v8.specs.Read.{format10, leafReturn}
 use Rattle.v8.specs.Field.{op3Of}
 use native.Mathlib.Omega.{arith}

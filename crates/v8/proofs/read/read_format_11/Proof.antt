@@ -1,3 +1,4 @@
+-- Format 11, by the two answers of operand_of.
 use borrow.Author.Needs.{needs}
 use Rattle.v8.proofs.read.read_format_11.Statement.{statement}
 use Rattle.v8.proofs.read.read_format_11.Tie as tie

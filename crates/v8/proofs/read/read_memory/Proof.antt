@@ -1,3 +1,4 @@
+-- Loads and stores: each key of the match is a case of the definition, the default has failed every test.
 use Rattle.v8.specs.Read.{memoryOf}
 use borrow.Author.Tests.{ne-eqb}
 use borrow.Author.Needs.{needs}

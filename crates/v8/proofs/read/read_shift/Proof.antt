@@ -1,3 +1,4 @@
+-- Shifts, by the two answers of count_of.
 use borrow.Author.Needs.{needs}
 use Rattle.v8.proofs.read.read_shift.Statement.{statement}
 use Rattle.v8.proofs.read.read_shift.Tie as tie

@@ -1,3 +1,4 @@
+-- The format chooses: each key of the match is a case of the definition, the default has failed every test.
 use Rattle.v8.specs.Read.{readingOf}
 use borrow.Author.Tests.{ne-eqb}
 use borrow.Author.Needs.{needs}
