@@ -8,7 +8,9 @@ use mathlib.Core.Bool.{Bool, true, false, cond}
 use native.Mathlib.Omega.{arith}
 use lib.Dec.{leb, ltb, eqb, eqb→eq}
 use borrow.Author.Tests.{ltb-false, leb-true, eqb-true, eqb-false, lt-ltb, eq-eqb}
-use Rattle.v8.specs.Choice.{cond-went}
+use native.Mathlib.Nat.{add-comm, mod-eq-of-lt}
+use lib.Pow.{low, high-ones}
+use Rattle.v8.specs.Choice.{cond-went, cond-both}
 use Rattle.v8.specs.Table.{at}
 use Rattle.v8.specs.Signed.{signExtend}
 use Rattle.v8.specs.Field.{opOf, rdOf, annulOf, condOf, op2Of, low22Of, op3Of, rs1Of, iOf, unusedOf, rs2Of, simm13Of}
@@ -48,22 +50,18 @@ reserved e = let z : _≡_ {A = ℕ} 0 1 = cc in absurd (omega arith)
 
 -- ---- the parts
 
--- sign extension keeps a field of 13 or 22 bits
-extended-13 : (f : ℕ) → f < 2 ^ 13 → signExtend 13 f % 2 ^ 13 ≡ f
+-- sign extension keeps the field: what it adds is a multiple of 2^n
+extended : (n f : ℕ) → n ≤ 32 → f < 2 ^ n → signExtend n f % 2 ^ n ≡ f
 unfolding signExtend
-extended-13 f h = low _ refl
+extended n f h k =
+    cond-both (λ (r : ℕ). r % 2 ^ n ≡ f) (ltb f (2 ^ (n - 1))) (λ _. mod-eq-of-lt k)
+    (λ _. ap (λ (r : ℕ). r % 2 ^ n) multiple ∙ low (2 ^ (32 - n) - 1) n k)
   where
-    low : (t : Bool) → ltb f (2 ^ 12) ≡ t → cond t f (f + (2 ^ 32 - 2 ^ 13)) % 2 ^ 13 ≡ f
-    low true e = omega arith
-    low false e = omega arith
+    whole : (n : ℕ) → n ≤ 32 → 32 ≡ 32 - n + n
+    whole n h = omega arith
 
-extended-22 : (f : ℕ) → f < 2 ^ 22 → signExtend 22 f % 2 ^ 22 ≡ f
-unfolding signExtend
-extended-22 f h = low _ refl
-  where
-    low : (t : Bool) → ltb f (2 ^ 21) ≡ t → cond t f (f + (2 ^ 32 - 2 ^ 22)) % 2 ^ 22 ≡ f
-    low true e = omega arith
-    low false e = omega arith
+    multiple : f + (2 ^ 32 - 2 ^ n) ≡ (2 ^ (32 - n) - 1) * 2 ^ n + f
+    multiple = add-comm f (2 ^ 32 - 2 ^ n) ∙ ap (λ (m : ℕ). m + f) (ap (λ (m : ℕ). 2 ^ m - 2 ^ n) (whole n h) ∙ high-ones (32 - n) n)
 
 -- a sign-extended field is written as the field
 signed-kept : (n i f : ℕ) → signExtend n f % 2 ^ n ≡ f → signedBits n i (signExtend n f) ≡ Bits (i + f)
@@ -91,7 +89,7 @@ operand-kept : (w : ℕ) (x : Operand) → operandOf w ≡ Second x → operandB
 unfolding operandOf
 operand-kept w x e =
     cond-went (eqb (iOf w) 1) _ _ _ e
-    (λ t q. rw (← second q) (signed-kept 13 iBit (simm13Of w) (extended-13 (simm13Of w) (omega arith)) ∙ ap Bits (low-imm w (eqb-true _ _ t))))
+    (λ t q. rw (← second q) (signed-kept 13 iBit (simm13Of w) (extended 13 (simm13Of w) (omega arith) (omega arith)) ∙ ap Bits (low-imm w (eqb-true _ _ t))))
     (λ f q.
     cond-went (eqb (unusedOf w) 0) _ _ _ q
     (λ t q. rw (← second q) (five-kept 0 (rs2Of w) (omega arith) ∙ ap Bits (low-reg w (eqb-false _ _ f) (eqb-true _ _ t))))
@@ -248,7 +246,7 @@ bicc-sum w false e h k = bicc-fields w 0 h k (clear w (eqb-false (annulOf w) 1 e
 bicc-kept : (w : ℕ) → opOf w ≡ 0 → op2Of w ≡ 2 → writingOf (Bicc (eqb (annulOf w) 1) (condOf w) (record { 0 = signExtend 22 (low22Of w) })) ≡ Written w
 unfolding writingOf
 bicc-kept w h k =
-    rw (signed-kept 22 0 (low22Of w) (extended-22 (low22Of w) (omega arith)))
+    rw (signed-kept 22 0 (low22Of w) (extended 22 (low22Of w) (omega arith) (omega arith)))
     (simp (lt-ltb (condOf w) 16 (omega arith)) (ap Written (bicc-sum w _ refl h k)))
 
 format00-kept : (w : ℕ) (x : Instruction) → opOf w ≡ 0 → format00 w ≡ Read x → writingOf x ≡ Written w

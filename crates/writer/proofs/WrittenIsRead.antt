@@ -231,24 +231,29 @@ sethi-back rd imm22 w e =
     (λ u q. unwritable q))
     (λ t q. unwritable q)
 
+-- the fields of a branch's word, from its annul bit n
+record Branch (n cnd f w : ℕ) : Type 0 where
+  op-is : opOf w ≡ 0
+  op2-is : op2Of w ≡ 2
+  annul-is : annulOf w ≡ n
+  cond-is : condOf w ≡ cnd
+  low-is : low22Of w ≡ f
+
+branch : (n cnd f w : ℕ) → n < 2 → cnd < 16 → f < 2 ^ 22 → n * 2 ^ 29 + cnd * 2 ^ 25 + 2 * 2 ^ 22 + f ≡ w → Branch n cnd f w
+branch n cnd f w h k l e =
+    record { op-is = omega arith; op2-is = omega arith; annul-is = rw top (omega arith); cond-is = omega arith; low-is = omega arith }
+  where
+    top : w / 2 ^ 29 ≡ n
+    top = omega arith
+
 bicc-fields : (annul : Bool) (cnd f v w : ℕ) → cnd < 16 → f < 2 ^ 22 → v ≡ signExtend 22 f → cond annul (2 ^ 29) 0 + cnd * 2 ^ 25 + 2 * 2 ^ 22 + f ≡ w → readingOf w ≡ Read (Bicc annul cnd (record { 0 = v }))
 unfolding readingOf format00
-bicc-fields true cnd f v w p h q r =
-    let op : opOf w ≡ 0 = omega arith in
-    let op2 : op2Of w ≡ 2 = omega arith in
-    let q29 : w / 2 ^ 29 ≡ 1 = omega arith in
-    let a : annulOf w ≡ 1 = rw q29 in
-    let d : condOf w ≡ cnd = omega arith in
-    let n : low22Of w ≡ f = omega arith in
-    simp (op, op2, a, d, n, ← q)
-bicc-fields false cnd f v w p h q r =
-    let op : opOf w ≡ 0 = omega arith in
-    let op2 : op2Of w ≡ 2 = omega arith in
-    let q29 : w / 2 ^ 29 ≡ 0 = omega arith in
-    let a : annulOf w ≡ 0 = rw q29 in
-    let d : condOf w ≡ cnd = omega arith in
-    let n : low22Of w ≡ f = omega arith in
-    simp (op, op2, a, d, n, ← q)
+bicc-fields true cnd f v w h k q e =
+    let b = branch 1 cnd f w (omega arith) h k (omega arith) in
+    simp (b .op-is, b .op2-is, b .annul-is, b .cond-is, b .low-is, ← q)
+bicc-fields false cnd f v w h k q e =
+    let b = branch 0 cnd f w (omega arith) h k (omega arith) in
+    simp (b .op-is, b .op2-is, b .annul-is, b .cond-is, b .low-is, ← q)
 
 bicc-with : (annul : Bool) (cnd v w : ℕ) (low : Part) → signedBits 22 0 v ≡ low → biccWord annul cnd low ≡ Written w → readingOf w ≡ Read (Bicc annul cnd (record { 0 = v }))
 bicc-with annul cnd v w (Bits b) l e =
