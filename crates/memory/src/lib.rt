@@ -1,0 +1,16 @@
+// The lent memory: big-endian loads and stores, in a slice of bytes or in a region's part of it.
+// Everything above rests on the definitions and laws in specs/, never on the code here. (V8,
+// appendix B, load and store integer instructions; document 01, the machine's run.)
+
+// Loads and stores in a slice of bytes.
+pub mod big_endian;
+// Where a region's part begins.
+pub mod place;
+// Loads and stores in a region's part, lent on.
+pub mod part;
+
+pub use big_endian::load;
+pub use big_endian::store;
+pub use part::load_in;
+pub use part::store_in;
+pub use place::start_of;
