@@ -77,4 +77,4 @@ shift-small Sra x count h =
     (λ _. srl-small x (count % 32) h)
 
 pub sethi-small : SethiSmall
-sethi-small n h = omega arith
+sethi-small n = omega arith

@@ -28,7 +28,7 @@ ShiftSmall = (op : ShiftOp) (x count : ℕ) → x < 4294967296 → shiftOf op x 
 
 -- SETHI's result is a word.
 abbrev pub SethiSmall : Type 0
-SethiSmall = (imm22 : ℕ) → imm22 < 4194304 → sethiOf imm22 < 4294967296
+SethiSmall = (imm22 : ℕ) → sethiOf imm22 < 4294967296
 
 -- C of ADDcc is the carry: the sum reaches 2^32.
 abbrev pub AddCarries : Type 0

@@ -54,6 +54,6 @@ shiftOf Sll x count = sll32 x (count % 32)
 shiftOf Srl x count = srl32 x (count % 32)
 shiftOf Sra x count = sra32 x (count % 32)
 
--- what SETHI gives: the 22-bit number as the high bits, zeros below
+-- what SETHI gives: the number's 22 bits as the high bits, zeros below
 abbrev pub sethiOf : ℕ → ℕ
-sethiOf imm22 = imm22 * 1024
+sethiOf imm22 = imm22 % 4194304 * 1024

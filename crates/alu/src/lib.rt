@@ -18,4 +18,6 @@ pub use condition::condition_of;
 pub use condition::holds;
 pub use condition::opposite;
 pub use result::alu;
+pub use result::sethi;
 pub use result::shift;
+pub use result::sum;

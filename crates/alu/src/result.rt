@@ -1,13 +1,13 @@
 // The results of the arithmetic, logic and shift operations on 32-bit words.
-// (V8, appendix B: "Add", "Subtract", "Logical" and "Shift".)
+// (V8, appendix B: "Add", "Subtract", "Logical", "Shift" and "SETHI".)
 ghost use mathlib.Core.Path.{_≡_};
 ghost use Prim.Native.Nat.{_%_};
-ghost use Rattle.alu.specs.Result.{add32, sub32, sra32, aluOf, shiftOf};
+ghost use Rattle.alu.specs.Result.{add32, sub32, sra32, aluOf, shiftOf, sethiOf};
 use v8::AluOp;
 use v8::ShiftOp;
 
-// The sum of two words, modulo 2^32.
-fn sum(x: u32, y: u32) -> u32
+// The sum of two words, modulo 2^32: also of an address.
+pub fn sum(x: u32, y: u32) -> u32
     ensures { λ r. ⌜ r ≡ add32 x y ⌝ }
 {
     let low = (x as u64 + y as u64) % 4294967296;
@@ -60,4 +60,11 @@ pub fn shift(op: ShiftOp, x: u32, count: u32) -> u32
         ShiftOp::Srl => x >> (count % 32),
         ShiftOp::Sra => shift_signed(x, count),
     }
+}
+
+// What SETHI gives of its number, of which the 22 low bits are used.
+pub fn sethi(imm22: u32) -> u32
+    ensures { λ r. ⌜ r ≡ sethiOf imm22 ⌝ }
+{
+    imm22 % 4194304 * 1024
 }

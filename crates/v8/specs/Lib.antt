@@ -1,5 +1,6 @@
 pub mod Choice
 pub mod Table
+pub mod Search
 pub mod Power
 pub mod Signed
 pub mod Field

@@ -1,0 +1,7 @@
+pub mod Width
+pub mod WellFormed
+pub mod Accepted
+pub mod Bytes
+pub mod FoundField
+pub mod RegionKept
+pub mod FieldKept

@@ -1,0 +1,110 @@
+-- "The policy is built by three operations, each giving the next policy: empty, add a region, add a field" (document 01, "Policy"),
+-- with the numbers of the refusals and their order (document 01, "Order of the check, and its numbers").
+use Prim.Native.Nat.{ℕ, _+_}
+use mathlib.Core.Bool.{cond}
+use lib.Dec.{leb, eqb}
+use lib.ListN.{set, replicate}
+use Rattle.policy.specs.Policy.{countOf, placeOf, sizeOk, fieldFits, policyOk}
+use Rattle.policy.specs.declared.Field.{Field}
+use Rattle.policy.specs.declared.Policy.{Policy}
+use Rattle.policy.specs.declared.Built.{Built}
+
+-- accepted
+abbrev pub accepted : ℕ
+accepted = 0
+
+-- "18 full"
+abbrev pub full : ℕ
+full = 18
+
+-- "19 size"
+abbrev pub badSize : ℕ
+badSize = 19
+
+-- "20 policy breaks a rule", "20 no such region", "20 any other rule"
+abbrev pub brokenRule : ℕ
+brokenRule = 20
+
+-- "empty": no regions, and 0 at every place
+abbrev pub emptyPolicy : Policy
+emptyPolicy =
+    record {
+      regions = 0;
+      sizes = replicate 8 0;
+      fields = replicate 8 0;
+      elements = replicate 128 0;
+      permissions = replicate 128 0;
+      targets = replicate 128 0;
+      offsets = replicate 128 0;
+      counts = replicate 128 0;
+      lows = replicate 128 0;
+      highs = replicate 128 0;
+    }
+
+-- the policy with one region more, without fields
+abbrev pub withRegion : Policy → ℕ → Policy
+withRegion p size =
+    record {
+      regions = p .regions + 1;
+      sizes = set (p .sizes) (p .regions) size;
+      fields = set (p .fields) (p .regions) 0;
+      elements = p .elements;
+      permissions = p .permissions;
+      targets = p .targets;
+      offsets = p .offsets;
+      counts = p .counts;
+      lows = p .lows;
+      highs = p .highs;
+    }
+
+-- the policy with f written at a place, as the last field of region r
+abbrev pub withFieldAt : Policy → ℕ → ℕ → Field → Policy
+withFieldAt p r place f =
+    record {
+      regions = p .regions;
+      sizes = p .sizes;
+      fields = set (p .fields) r (countOf p r + 1);
+      elements = set (p .elements) place (f .element);
+      permissions = set (p .permissions) place (f .permission);
+      targets = set (p .targets) place (f .target);
+      offsets = set (p .offsets) place (f .offset .0);
+      counts = set (p .counts) place (f .count);
+      lows = set (p .lows) place (f .lo);
+      highs = set (p .highs) place (f .hi);
+    }
+
+-- the policy with one field more in region r
+abbrev pub withField : Policy → ℕ → Field → Policy
+withField p r f = withFieldAt p r (placeOf r (countOf p r)) f
+
+-- "Both adds first give 20 if the policy handed in breaks a rule. Then, in order: add a region, 18 full, 19 size"
+unfoldable pub regionNumber : Policy → ℕ → ℕ
+regionNumber p size =
+    cond (policyOk p)
+    (cond (leb 8 (p .regions)) full
+    (cond (sizeOk size) accepted
+    badSize))
+    brokenRule
+
+-- ".. add a field, 20 no such region, 18 full, 20 any other rule"
+unfoldable pub fieldNumber : Policy → ℕ → Field → ℕ
+fieldNumber p r f =
+    cond (policyOk p)
+    (cond (leb (p .regions) r) brokenRule
+    (cond (leb 16 (countOf p r)) full
+    (cond (fieldFits p r (countOf p r) f) accepted
+    brokenRule)))
+    brokenRule
+
+-- the next policy; "A refusal gives back the policy given."
+unfoldable pub built : Policy → ℕ → Policy → Built
+built given number next =
+    cond (eqb number accepted) (record { policy = next; number = accepted }) (record { policy = given; number = number })
+
+-- "add a region"
+abbrev pub addRegionOf : Policy → ℕ → Built
+addRegionOf p size = built p (regionNumber p size) (withRegion p size)
+
+-- "add a field"
+abbrev pub addFieldOf : Policy → ℕ → Field → Built
+addFieldOf p r f = built p (fieldNumber p r f) (withField p r f)

@@ -1,0 +1,5 @@
+pub mod Element
+pub mod Policy
+pub mod Build
+pub mod Find
+pub mod Laws
