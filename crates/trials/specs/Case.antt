@@ -2,9 +2,12 @@
 -- with the outcome that it must have (document 01, "To the testers": "rows of one shared table").
 use Prim.Native.Nat.{ℕ, zero, suc, _+_, _*_, _/_, _%_, _^_}
 use mathlib.Core.Bool.{Bool, cond}
+use mathlib.Core.List.{List, [], _∷_}
 use lib.Dec.{eqb}
 use Rattle.v8.specs.declared.AluOp.{AluOp}
 use Rattle.v8.specs.declared.ShiftOp.{ShiftOp}
+use Rattle.v8.specs.declared.LoadOp.{LoadOp}
+use Rattle.v8.specs.declared.StoreOp.{StoreOp}
 use Rattle.v8.specs.declared.Instruction.{Instruction}
 use Rattle.v8.specs.declared.Reading.{Reading}
 use Rattle.v8.specs.Read.{readingOf}
@@ -14,6 +17,19 @@ use Rattle.alu.specs.declared.codes.Codes.{Codes}
 use Rattle.alu.specs.Result.{aluOf, shiftOf}
 use Rattle.alu.specs.Codes.{codesOf}
 use Rattle.alu.specs.Condition.{condHolds}
+use Rattle.policy.specs.declared.Field.{Field}
+use Rattle.policy.specs.declared.Policy.{Policy}
+use Rattle.policy.specs.declared.Built.{Built}
+use Rattle.policy.specs.Build.{addRegionOf, addFieldOf}
+use Rattle.memory.specs.Memory.{loadOf, storeOf}
+use Rattle.memory.specs.Place.{startOf}
+
+-- what is added to a policy
+pub data Addition : Type 0 where
+  -- a region of a size
+  region : ℕ → Addition
+  -- a field of a region
+  field : ℕ → Field → Addition
 
 -- what is given
 pub data Given : Type 0 where
@@ -27,6 +43,14 @@ pub data Given : Type 0 where
   shift : ShiftOp → ℕ → ℕ → Given
   -- one of the sixteen conditions, tried on all codes
   condition : ℕ → Given
+  -- a policy and what is added to it, each to the policy that the add before gave back
+  adds : Policy → List Addition → Given
+  -- a load, the memory and the place
+  loaded : LoadOp → List ℕ → ℕ → Given
+  -- a store, the value, the place and the memory
+  stored : StoreOp → ℕ → ℕ → List ℕ → Given
+  -- the sizes of the regions, and the region whose part of the memory is sought
+  begins : List ℕ → ℕ → Given
 
 -- what comes of it
 pub data Outcome : Type 0 where
@@ -38,6 +62,10 @@ pub data Outcome : Type 0 where
   yields : ℕ → Outcome
   -- the codes that meet it: bit n stands for the codes NZVC = n
   meets : ℕ → Outcome
+  -- the number that each add gives, 0 for accepted
+  numbers : List ℕ → Outcome
+  -- the memory afterwards
+  leaves : List ℕ → Outcome
 
 -- a case and the outcome that it must have
 infix 70 _gives_
@@ -62,6 +90,16 @@ abbrev pub meetingBelow : ℕ → ℕ → ℕ
 meetingBelow k zero = 0
 meetingBelow k (suc n) = cond (condHolds k (codesAt n)) (2 ^ n) 0 + meetingBelow k n
 
+-- one add
+abbrev pub addOf : Policy → Addition → Built
+addOf p (region size) = addRegionOf p size
+addOf p (field r f) = addFieldOf p r f
+
+-- the numbers that some adds give, one after the other
+abbrev pub numbersOf : Policy → List Addition → List ℕ
+numbersOf p [] = []
+numbersOf p (a ∷ more) = addOf p a .number ∷ numbersOf (addOf p a .policy) more
+
 -- what the definitions give
 abbrev pub outcome : Given → Outcome
 outcome (word w) = reads (readingOf w)
@@ -69,3 +107,7 @@ outcome (instruction x) = writes (writingOf x)
 outcome (operation op x y) = sets (aluOf op x y) (digitOf (codesOf op x y))
 outcome (shift op x n) = yields (shiftOf op x n)
 outcome (condition k) = meets (meetingBelow k 16)
+outcome (adds p more) = numbers (numbersOf p more)
+outcome (loaded op m a) = yields (loadOf op m a)
+outcome (stored op v a m) = leaves (storeOf op v a m)
+outcome (begins sizes r) = yields (startOf sizes r)

@@ -1,4 +1,6 @@
 pub mod Case
 pub mod Words
 pub mod Arithmetic
+pub mod Policies
+pub mod Memories
 pub mod Table

@@ -3,6 +3,11 @@ use mathlib.Core.List.{List, _++_}
 use Rattle.trials.specs.Case.{Row}
 use Rattle.trials.specs.Words.{wordRows, writeRows}
 use Rattle.trials.specs.Arithmetic.{additionRows, subtractionRows, logicRows, shiftRows, conditionRows}
+use Rattle.trials.specs.Policies.{addRows}
+use Rattle.trials.specs.Memories.{memoryRows}
 
 abbrev pub table : List Row
-table = wordRows ++ writeRows ++ additionRows ++ subtractionRows ++ logicRows ++ shiftRows ++ conditionRows
+table =
+    wordRows ++ writeRows
+    ++ additionRows ++ subtractionRows ++ logicRows ++ shiftRows ++ conditionRows
+    ++ addRows ++ memoryRows

@@ -1,0 +1,43 @@
+-- What a run that is not refused has passed, and what a refused run is.
+use Prim.Native.Nat.{ℕ, zero, suc, _≤_}
+use mathlib.Core.Path.{_≡_, refl}
+use mathlib.Core.Bool.{true}
+use mathlib.Core.List.{List}
+use native.Mathlib.Omega.{arith}
+use lib.Dec.{ltb}
+use lib.ListN.{length}
+use borrow.Author.Tests.{ltb-false}
+use Rattle.v8.specs.Choice.{cond-went}
+use Rattle.policy.specs.declared.Policy.{Policy}
+use Rattle.policy.specs.Policy.{policyOk}
+use Rattle.step.specs.declared.Registers.{Registers}
+use Rattle.machine.specs.Placement.{placedIn}
+use Rattle.machine.specs.Run.{Run, refusalOf, refused, runIf}
+
+-- what a run that is not refused has passed
+pub record Begun (p : Policy) (words bases : List ℕ) (returns : ℕ) (memory : List ℕ) : Type 0 where
+  pub ok : policyOk p ≡ true
+  pub some : 1 ≤ length words
+  pub most : length words ≤ 128
+  pub placed : placedIn (p .regions) (p .sizes) bases returns memory ≡ true
+
+never : {A : Type 0} {n : ℕ} → suc n ≡ 0 → A
+never e = absurd (omega arith)
+
+pub begun : (p : Policy) (words bases : List ℕ) (returns : ℕ) (memory : List ℕ) → refusalOf p words bases returns memory ≡ 0 → Begun p words bases returns memory
+unfolding refusalOf
+begun p words bases returns memory e =
+    cond-went (policyOk p) _ _ _ e
+    (λ ok q.
+    cond-went (ltb (length words) 1) _ _ _ q (λ t q. never q)
+    (λ some q.
+    cond-went (ltb 128 (length words)) _ _ _ q (λ t q. never q)
+    (λ most q.
+    cond-went (placedIn (p .regions) (p .sizes) bases returns memory) _ _ _ q
+    (λ placed q. record { ok = ok; some = ltb-false _ _ some; most = ltb-false _ _ most; placed = placed })
+    (λ t q. never q))))
+    (λ t q. never q)
+
+pub refused-run : (n : ℕ) (run : Run) (g : Registers) (memory : List ℕ) → (n ≡ 0 → ⊥) → runIf n run g memory ≡ refused n g memory
+refused-run zero run g memory h = absurd (h refl)
+refused-run (suc n) run g memory h = refl

@@ -1,0 +1,61 @@
+-- With a policy that obeys the rules and a memory as long as its regions, every access that is located lies in its region's part
+-- of the memory: the field found ends inside its region, and the region's part ends inside the memory.
+use Prim.Native.Nat.{ℕ, _+_, _<_}
+use mathlib.Core.Path.{_≡_, refl}
+use mathlib.Core.Bool.{true, and-false}
+use mathlib.Core.List.{List}
+use native.Mathlib.Nat.{le-trans}
+use lib.Dec.{ltb}
+use lib.ListN.{length}
+use borrow.Author.Tests.{ltb-true}
+use Rattle.v8.specs.Choice.{cond-both}
+use Rattle.v8.specs.Search.{needed-eq}
+use Rattle.policy.specs.declared.Policy.{Policy}
+use Rattle.policy.specs.declared.Found.{Found}
+use Rattle.policy.specs.declared.Found.the-variants as Found·
+use Rattle.policy.specs.Policy.{policyOk}
+use Rattle.policy.specs.Find.{findField}
+use Rattle.policy.specs.Laws.{WellFormed}
+use Rattle.policy.proofs.WellFormed.{obeys}
+use Rattle.policy.proofs.FoundField.{found-holds}
+use Rattle.memory.specs.Place.{lengthOf}
+use Rattle.memory.proofs.Starts.{part-ends}
+use Rattle.step.specs.declared.Access.{Access}
+use Rattle.step.specs.Setting.{layoutOf}
+use Rattle.step.specs.Serve.{accessWidth}
+use Rattle.step.specs.Locate.{touches, located, regionOf, locate}
+use Rattle.step.specs.Lent.{Covered, Lies, Covers}
+use Rattle.machine.specs.Placement.{placedIn}
+
+module _ (p : Policy) (bases : List ℕ) (returns : ℕ) (memory : List ℕ) (placed : placedIn (p .regions) (p .sizes) bases returns memory ≡ true) where
+  -- memory is as long as all sizes together
+  pub long : length memory ≡ lengthOf (p .sizes) (p .regions)
+  unfolding placedIn
+  long = needed-eq _ (length memory) (lengthOf (p .sizes) (p .regions)) placed (λ e. simp (e, and-false))
+
+  -- there is one base for each region
+  pub based : length bases ≡ p .regions
+  unfolding placedIn
+  based = needed-eq _ (length bases) (p .regions) placed (λ e. simp (e, and-false))
+
+  module _ (w : WellFormed p) (a : Access) (r offset : ℕ) (h : r < p .regions) where
+    at-place : (place : ℕ) → findField p r offset (offset + accessWidth a) ≡ Found·.At place → Covered (p .sizes) (length memory) (accessWidth a) r offset
+    at-place place e =
+        let f = found-holds p r offset (offset + accessWidth a) place e in
+        record {
+          region = f .region-most;
+          inside = le-trans (f .holds .1) (w .field r (f .index) h (f .counted) .inside);
+          part = rw long (part-ends (p .sizes) r (p .regions) h);
+        }
+
+    found : (x : Found) → findField p r offset (offset + accessWidth a) ≡ x → Lies (p .sizes) (length memory) (accessWidth a) (located (p .elements) (p .permissions) a r offset x)
+    found (Found·.At place) e =
+        cond-both (Lies (p .sizes) (length memory) (accessWidth a)) (touches (p .elements) (p .permissions) a place) (λ t. at-place place e) (λ t. tt)
+    found Found·.Nothing e = tt
+
+  pub covers : policyOk p ≡ true → Covers (layoutOf p bases) (length memory)
+  unfolding locate
+  covers ok a address =
+      cond-both (Lies (p .sizes) (length memory) (accessWidth a)) (ltb (regionOf (layoutOf p bases) address) (p .regions))
+      (λ t. found (obeys p ok) a _ _ (ltb-true _ _ t) _ refl)
+      (λ t. tt)

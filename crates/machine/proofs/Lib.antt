@@ -1,0 +1,4 @@
+pub mod Run
+pub mod Loop
+pub mod Covered
+pub mod Begun

@@ -1,0 +1,51 @@
+-- The laws of the run. Each goes by induction on the allowance and by what one step gives.
+use Prim.Native.Nat.{ℕ, zero, suc, _+_}
+use mathlib.Core.Path.{_≡_, refl, ap, _∙_}
+use native.Mathlib.Nat.{zero-add, suc-add}
+use native.Mathlib.Omega.{arith}
+use lib.ListN.{length}
+use Rattle.step.specs.Setting.{Setting}
+use Rattle.step.specs.Step.{State, Step, stopped, next, returned, stepOf}
+use Rattle.machine.specs.Run.{afterStep, tracedStep, walkedStep, runFrom, traceFrom, walkFrom, goOn}
+use Rattle.machine.specs.Laws.{RunsNothing, RunsOneMore, CountsTrace, RunsOn}
+
+pub runs-nothing : RunsNothing
+unfolding runFrom
+runs-nothing s k st = refl
+
+pub runs-one-more : RunsOneMore
+unfolding runFrom
+runs-one-more s n k st = refl
+
+module _ (s : Setting) where
+  counted : (n k : ℕ) (st : State) (x : Step) → ((t : State) → runFrom s n (k + 1) t .outcome .steps ≡ k + 1 + length (traceFrom s n t))
+      → afterStep k st (runFrom s n (k + 1)) x .outcome .steps ≡ k + length (tracedStep st (traceFrom s n) x)
+  counted n k st (stopped f) h = omega arith
+  counted n k st (next t) h = h t ∙ sum k (length (traceFrom s n t))
+    where
+      sum : (k l : ℕ) → k + 1 + l ≡ k + suc l
+      sum k l = omega arith
+  counted n k st (returned c) h = refl
+
+  count : (n k : ℕ) (st : State) → runFrom s n k st .outcome .steps ≡ k + length (traceFrom s n st)
+  unfolding runFrom traceFrom
+  count zero k st = omega arith
+  count (suc n) k st = counted n k st (stepOf s st) (count n (k + 1))
+
+pub counts-trace : CountsTrace
+counts-trace s n k st = count s n k st
+
+module _ (s : Setting) (m : ℕ) where
+  walked : (n k : ℕ) (st : State) (x : Step) → ((t : State) → runFrom s (n + m) (k + 1) t ≡ goOn s m (walkFrom s n (k + 1) t))
+      → afterStep k st (runFrom s (n + m) (k + 1)) x ≡ goOn s m (walkedStep k st (walkFrom s n (k + 1)) x)
+  walked n k st (stopped f) h = refl
+  walked n k st (next t) h = h t
+  walked n k st (returned c) h = refl
+
+  walk : (n k : ℕ) (st : State) → runFrom s (n + m) k st ≡ goOn s m (walkFrom s n k st)
+  unfolding runFrom walkFrom
+  walk zero k st = ap (λ (j : ℕ). runFrom s j k st) (zero-add m)
+  walk (suc n) k st = ap (λ (j : ℕ). runFrom s j k st) (suc-add n m) ∙ walked n k st (stepOf s st) (walk n (k + 1))
+
+pub runs-on : RunsOn
+runs-on s n m k st = walk s m n k st

@@ -1,0 +1,50 @@
+-- A run that is not refused has a policy that obeys the rules and is laid right, so that its steps can be run; refused, it changes nothing.
+use Rattle.machine.proofs.Begun.{begun, refused-run}
+use Rattle.machine.proofs.Covered.{based, covers}
+use Rattle.machine.specs.Run.{runOf}
+use Rattle.policy.proofs.WellFormed.{obeys}
+use native.Mathlib.Omega.{arith}
+use mathlib.Core.Path.{sym, _∙_}
+use borrow.Author.Needs.{needs}
+use Rattle.machine.proofs.begin.run.Statement.{statement}
+use Rattle.machine.proofs.begin.run.Tie as tie
+
+refusal-requires : tie.Need-refusal-requires
+refusal-requires c κs = search needs
+
+same-length : tie.Need-same-length
+same-length c = search needs
+
+returns : tie.Need-returns
+unfolding runOf
+returns c = rw (← c .before .refusal .ensures) (sym (refused-run (c .before .refusal .result) _ _ _ (c .if1 .taken)))
+
+array-write-values : tie.Need-array-write-values
+array-write-values c = search needs
+
+array-write-marks : tie.Need-array-write-marks
+array-write-marks c = search needs
+
+run-steps-requires : tie.Need-run-steps-requires
+run-steps-requires c κs = let g = begun _ _ _ _ _ (sym (c .before .before .before .before .before .before .before .before .before .before .before .before .before .before .refusal .ensures) ∙ c .before .before .before .before .before .before .before .before .before .before .before .before .before .if1 .left) in
+    (g .most, obeys _ (g .ok) .regions-most, omega (arith, based (c .before .before .before .before .before .before .before .before .before .before .before .before .before .before .before .before .before .before .before .args .t1) _ _ _ (g .placed)), covers _ _ _ _ (g .placed) (g .ok))
+
+same-length-2 : tie.Need-same-length-2
+same-length-2 c = search needs
+
+returns-2 : tie.Need-returns-2
+unfolding runOf
+returns-2 c = rw ((sym (c .before .before .before .before .before .before .before .before .before .before .before .before .before .before .before .before .before .before .refusal .ensures) ∙ c .before .before .before .before .before .before .before .before .before .before .before .before .before .before .before .before .before .if1 .left)) (c .before .before .before .run-steps .ensures)
+
+pub run-spec : {M : Type 1} → statement M
+run-spec =
+    tie.close
+    (tie.spec
+    refusal-requires
+    same-length
+    returns
+    array-write-values
+    array-write-marks
+    run-steps-requires
+    same-length-2
+    returns-2)

@@ -1,0 +1,24 @@
+-- `placed` meets its contract: its tests are those of the definition, in another order.
+use mathlib.Core.Bool.{and-true, and-false, and-assoc}
+use borrow.Author.Tests.{eq-eqb, ne-eqb}
+use borrow.Author.Needs.{needs}
+use Rattle.machine.specs.Placement.{placedIn}
+use Rattle.machine.proofs.place.placed.Statement.{statement}
+use Rattle.machine.proofs.place.placed.Tie as tie
+
+returns : tie.Need-returns
+unfolding placedIn
+returns c = rw (ne-eqb _ _ (c .if1 .taken), and-false)
+
+all-laid-requires : tie.Need-all-laid-requires
+all-laid-requires c κs = search needs
+
+start-of-requires : tie.Need-start-of-requires
+start-of-requires c κs = search needs
+
+returns-2 : tie.Need-returns-2
+unfolding placedIn
+returns-2 c = rw (c .before .all-laid .ensures, c .start-of .ensures .0, eq-eqb _ _ (c .before .before .if1 .left), and-true, ← and-assoc)
+
+pub placed-spec : {M : Type 1} → statement M
+placed-spec = tie.close (tie.spec returns all-laid-requires start-of-requires returns-2)

@@ -1,0 +1,4 @@
+pub mod Placement
+pub mod Run
+pub mod Ended
+pub mod Laws

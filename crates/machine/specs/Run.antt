@@ -1,0 +1,106 @@
+-- The whole run (document 01, "Machine run"): refused with 20, 21 or 22, or step after step until it has returned, has spent the
+-- allowance, or stops at a fault. The steps are counted as they are run, and the trace has the states whose steps were run.
+use Prim.Native.Nat.{ℕ, zero, suc, _+_}
+use mathlib.Core.Bool.{cond}
+use mathlib.Core.List.{List, [], _∷_}
+use lib.Dec.{ltb}
+use lib.ListN.{length}
+use Rattle.policy.specs.declared.Policy.{Policy}
+use Rattle.policy.specs.Policy.{policyOk}
+use Rattle.step.specs.declared.Registers.{Registers}
+use Rattle.machine.specs.declared.End.{End}
+use Rattle.machine.specs.declared.End.the-variants.{Returned, Spent, Fault, Refused}
+use Rattle.machine.specs.declared.Outcome.{Outcome}
+use Rattle.step.specs.Registers.{grounded}
+use Rattle.step.specs.Setting.{Setting, layoutOf, readingsOf}
+use Rattle.machine.specs.Placement.{placedIn}
+use Rattle.step.specs.Transfer.{goTo}
+use Rattle.step.specs.Effect.{Core}
+use Rattle.step.specs.Step.{State, Step, stopped, next, returned, stepOf}
+
+-- what a run leaves: its outcome, and the lent memory
+pub record Run : Type 0 where
+  pub outcome : Outcome
+  pub memory : List ℕ
+
+-- a run that ended, after k steps
+abbrev pub ended : End → ℕ → Core → Run
+ended e k c = record { outcome = record { end = e; steps = k; registers = c .registers }; memory = c .memory }
+
+-- a run after one step of it, k steps having been run before: "A faulting step changes nothing and isn't counted."
+abbrev pub afterStep : ℕ → State → (State → Run) → Step → Run
+afterStep k st rest (stopped f) = ended (Fault f) k (st .core)
+afterStep k st rest (next t) = rest t
+afterStep k st rest (returned c) = ended Returned (k + 1) c
+
+-- the trace after one step
+abbrev pub tracedStep : State → (State → List State) → Step → List State
+tracedStep st rest (stopped f) = []
+tracedStep st rest (next t) = st ∷ rest t
+tracedStep st rest (returned c) = st ∷ []
+
+-- the first steps of a run: it is still going, after k steps, or it is over
+pub data Walk : Type 0 where
+  going : ℕ → State → Walk
+  over : Run → Walk
+
+abbrev pub walkedStep : ℕ → State → (State → Walk) → Step → Walk
+walkedStep k st rest (stopped f) = over (ended (Fault f) k (st .core))
+walkedStep k st rest (next t) = rest t
+walkedStep k st rest (returned c) = over (ended Returned (k + 1) c)
+
+module _ (s : Setting) where
+  -- a run from a state with an allowance, k steps having been run before: "It ends returned (after the return's slot, also where that
+  -- was the last step allowed), spent (exactly the allowance run), or at a fault"
+  unfoldable pub runFrom : ℕ → ℕ → State → Run
+  runFrom zero k st = ended Spent k (st .core)
+  runFrom (suc n) k st = afterStep k st (runFrom n (k + 1)) (stepOf s st)
+
+  -- the states whose steps were run, in order
+  unfoldable pub traceFrom : ℕ → State → List State
+  traceFrom zero st = []
+  traceFrom (suc n) st = tracedStep st (traceFrom n) (stepOf s st)
+
+  -- the first n steps from a state
+  unfoldable pub walkFrom : ℕ → ℕ → State → Walk
+  walkFrom zero k st = going k st
+  walkFrom (suc n) k st = walkedStep k st (walkFrom n (k + 1)) (stepOf s st)
+
+  -- a run that goes on with an allowance of m
+  abbrev pub goOn : ℕ → Walk → Run
+  goOn m (going k st) = runFrom m k st
+  goOn m (over r) = r
+
+-- "It starts at word 0"; "r0 counts as a set zero"
+abbrev pub startState : Registers → List ℕ → State
+startState g memory = record { control = goTo 0; core = record { registers = grounded g; memory = memory } }
+
+-- the refusals: "20, 21 (word count), 22 if bases, return address or memory length are wrong"; 0 for none
+unfoldable pub refusalOf : Policy → List ℕ → List ℕ → ℕ → List ℕ → ℕ
+refusalOf p words bases returns memory =
+    cond (policyOk p)
+    (cond (ltb (length words) 1) 21
+    (cond (ltb 128 (length words)) 21
+    (cond (placedIn (p .regions) (p .sizes) bases returns memory) 0 22)))
+    20
+
+-- "Refused, it changes nothing: 0 steps, registers and codes as handed in."
+abbrev pub refused : ℕ → Registers → List ℕ → Run
+refused n g memory = record { outcome = record { end = Refused n; steps = 0; registers = g }; memory = memory }
+
+-- what is handed in, as a setting
+abbrev pub settingOf : Policy → List ℕ → List ℕ → ℕ → Setting
+settingOf p words bases returns = record { layout = layoutOf p bases; readings = readingsOf words; returns = returns }
+
+-- the run, if it is not refused
+abbrev pub runIf : ℕ → Run → Registers → List ℕ → Run
+runIf zero run g memory = run
+runIf (suc n) run g memory = refused (suc n) g memory
+
+-- the machine run
+unfoldable pub runOf : Policy → List ℕ → List ℕ → ℕ → Registers → ℕ → List ℕ → Run
+runOf p words bases returns g allowance memory =
+    runIf (refusalOf p words bases returns memory)
+    (runFrom (settingOf p words bases returns) allowance 0 (startState g memory))
+    g
+    memory

@@ -1,0 +1,99 @@
+// How a run begins: what refuses it, and the run itself.
+ghost use mathlib.Core.Path.{_≡_};
+ghost use Rattle.machine.specs.Run.{refusalOf, runOf};
+ghost use Rattle.machine.specs.Ended.{leftBy};
+use crate::End;
+use crate::Outcome;
+use crate::place::placed;
+use crate::steps::run_steps;
+use policy::Policy;
+use step::Registers;
+
+// The refusals of a run, by document 01's numbers.
+pub const BAD_POLICY: u8 = 20;
+
+pub const BAD_COUNT: u8 = 21;
+
+pub const BAD_PLACEMENT: u8 = 22;
+
+// The most words that a routine has.
+const MOST_WORDS: usize = 128;
+
+// The number that refuses a run, or 0.
+pub fn refusal(policy: Policy, words: &[u32], bases: &[u32], returns: u32, memory: &[u8]) -> u8
+    ensures { λ r. ⌜ r ≡ refusalOf policy (now (words .entry)) (now (bases .entry)) returns (now (memory .entry)) ⌝ }
+{
+    if !policy.well_formed() {
+        return BAD_POLICY;
+    }
+    if words.len() < 1 {
+        return BAD_COUNT;
+    }
+    if MOST_WORDS < words.len() {
+        return BAD_COUNT;
+    }
+    if !placed(policy.regions, &policy.sizes, bases, returns, memory) {
+        return BAD_PLACEMENT;
+    }
+    0
+}
+
+// Runs a routine: refused with 20, 21 or 22, or step after step from word 0 until it has returned, has
+// spent the allowance, or stops at a fault. Refused, it changes nothing.
+pub fn run(
+    policy: Policy,
+    words: &[u32],
+    bases: &[u32],
+    returns: u32,
+    registers: Registers,
+    allowance: u64,
+    memory: &mut [u8],
+) -> Outcome
+    ensures { λ r. ⌜ leftBy r (now (memory .exit)) ≡ runOf policy (now (words .entry)) (now (bases .entry)) returns registers allowance (now (memory .entry)) ⌝ }
+{
+    let number = refusal(policy, words, bases, returns, memory);
+    if number != 0 {
+        return Outcome {
+            end: End::Refused(number),
+            steps: 0,
+            registers,
+        };
+    }
+    let mut values = registers.values;
+    let mut marks = registers.marks;
+    values[0] = 0;
+    marks[0] = true;
+    let codes = registers.codes;
+    let coded = registers.coded;
+    let regions = policy.regions;
+    let r = run_steps(
+        codes,
+        coded,
+        &mut values,
+        &mut marks,
+        memory,
+        words,
+        returns,
+        regions,
+        &policy.sizes,
+        bases,
+        &policy.fields,
+        &policy.elements,
+        &policy.permissions,
+        &policy.offsets,
+        &policy.counts,
+        allowance,
+    );
+    let end = r.end;
+    let left = r.codes;
+    Outcome {
+        end,
+        steps: r.steps,
+        registers: Registers {
+            values,
+            marks,
+            codes: left,
+            coded: r.coded,
+        },
+    }
+}

@@ -1,0 +1,36 @@
+// The machine: the run of a routine, step after step, with its allowance. (Document 01, "Machine
+// run".)
+
+// Where regions, return address and memory lie.
+pub mod place;
+// How a run begins.
+pub mod begin;
+// The run, step after step.
+pub mod steps;
+
+use alu::Codes;
+pub use begin::run;
+use step::Registers;
+
+// How a run ends.
+pub enum End {
+    Returned,
+    Spent,
+    Fault(u8),
+    Refused(u8),
+}
+
+// What a run gives: how it ended, the steps run, and the registers and codes with their marks.
+pub struct Outcome {
+    pub end: End,
+    pub steps: u64,
+    pub registers: Registers,
+}
+
+// What the steps of a run give beside what they leave in the lent arrays.
+pub struct Ended {
+    pub end: End,
+    pub steps: u64,
+    pub codes: Codes,
+    pub coded: bool,
+}

@@ -1,0 +1,45 @@
+-- A load, by where it aims and where it lies.
+use borrow.Author.Needs.{needs}
+use Rattle.step.proofs.loadstore.step_load.Statement.{statement}
+use Rattle.step.proofs.loadstore.step_load.Tie as tie
+
+load-width-requires : tie.Need-load-width-requires
+load-width-requires c κs = search needs
+
+aim-requires : tie.Need-aim-requires
+aim-requires c κs = search needs
+
+enum-known-address : tie.Need-enum-known-address
+enum-known-address c = search needs
+
+locate-access-requires : tie.Need-locate-access-requires
+locate-access-requires c κs = search needs
+
+load-at-requires : tie.Need-load-at-requires
+load-at-requires c κs = (c .before .before .before .before .before .before .before .before .before .before .before .before .pre .0, rw (c .before .before .locate-access .ensures) (c .before .before .before .before .before .before .before .before .before .before .before .before .pre .3 _ _))
+
+enum-known-n : tie.Need-enum-known-n
+enum-known-n c = search needs
+
+stop-requires : tie.Need-stop-requires
+stop-requires c κs = search needs
+
+returns : tie.Need-returns
+returns c = rw (← c .before .before .before .before .before .before .before .before .before .before .load-width .ensures .0, ← c .before .before .before .before .before .before .before .aim .ensures, c .before .before .before .before .before .address .given .1, ← c .before .before .before .locate-access .ensures) (c .load-at .ensures)
+
+returns-2 : tie.Need-returns-2
+returns-2 c = rw (← c .before .before .before .before .before .before .before .load-width .ensures .0, ← c .before .before .before .before .aim .ensures, c .before .before .n .given .1, c .stop .ensures)
+
+pub step-load-spec : {M : Type 1} → statement M
+step-load-spec =
+    tie.close
+    (tie.spec
+    load-width-requires
+    aim-requires
+    enum-known-address
+    locate-access-requires
+    load-at-requires
+    enum-known-n
+    stop-requires
+    returns
+    returns-2)

@@ -1,0 +1,60 @@
+-- An access lies where the field found serves and allows it; a place that is found is one of the 128.
+use Rattle.step.proofs.Places.{place-small}
+use native.Mathlib.Omega.{arith}
+use mathlib.Core.Path.{sym, _∙_}
+use borrow.Author.Needs.{needs}
+use Rattle.step.proofs.locate.locate_in.Statement.{statement}
+use Rattle.step.proofs.locate.locate_in.Tie as tie
+
+add-t12 : tie.Need-add-t12
+add-t12 c = search needs
+
+find-in-requires : tie.Need-find-in-requires
+find-in-requires c κs = search needs
+
+enum-known-place : tie.Need-enum-known-place
+enum-known-place c = search needs
+
+element-copy-out-serves-element : tie.Need-element-copy-out-serves-element
+element-copy-out-serves-element c = search needs
+
+serves-element-requires : tie.Need-serves-element-requires
+serves-element-requires c κs = search needs
+
+element-copy-out-allowed : tie.Need-element-copy-out-allowed
+element-copy-out-allowed c = search needs
+
+allowed-requires : tie.Need-allowed-requires
+allowed-requires c κs = search needs
+
+returns : tie.Need-returns
+returns c = rw (← c .before .before .before .before .before .before .before .before .before .before .before .pre .0, ← c .before .before .before .before .before .before .before .before .before .find-in .ensures, c .before .before .before .before .before .before .before .place .given .1, ← c .before .before .before .serves-element .ensures, ← c .before .allowed .ensures, c .if2 .taken)
+
+enum-told : tie.Need-enum-told
+enum-told c = search needs
+
+returns-2 : tie.Need-returns-2
+returns-2 c = rw (← c .before .before .before .before .before .before .before .before .before .before .before .pre .0, ← c .before .before .before .before .before .before .before .before .before .find-in .ensures, c .before .before .before .before .before .before .before .place .given .1, ← c .before .before .before .serves-element .ensures, ← c .before .allowed .ensures, c .if2 .left)
+
+returns-3 : tie.Need-returns-3
+returns-3 c = absurd (omega (arith, place-small _ _ _ _ _ _ _ _ (sym (c .before .before .before .before .find-in .ensures) ∙ c .before .before .place .given .1)))
+
+returns-4 : tie.Need-returns-4
+returns-4 c = rw (← c .before .before .before .before .pre .0, ← c .before .before .find-in .ensures, c .enum-told .given .1)
+
+pub locate-in-spec : {M : Type 1} → statement M
+locate-in-spec =
+    tie.close
+    (tie.spec
+    add-t12
+    find-in-requires
+    enum-known-place
+    element-copy-out-serves-element
+    serves-element-requires
+    element-copy-out-allowed
+    allowed-requires
+    returns
+    enum-told
+    returns-2
+    returns-3
+    returns-4)

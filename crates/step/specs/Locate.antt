@@ -1,0 +1,57 @@
+-- Where an access lies (document 01, fault 103: "not inside one field of matching element and permission"). It is stated over the
+-- numbers of the policy and the bases, since the machine lends those.
+use Prim.Native.Nat.{ℕ, _+_, _-_, _≤_, _<_}
+use mathlib.Core.Bool.{Bool, cond, _&&_}
+use mathlib.Core.List.{List}
+use lib.Dec.{leb, ltb}
+use lib.ListN.{getD}
+use Rattle.v8.specs.Search.{first}
+use Rattle.policy.specs.declared.Found.{Found}
+use Rattle.policy.specs.declared.Found.the-variants as Found·
+use Rattle.policy.specs.Find.{findIn}
+use Rattle.step.specs.declared.Access.{Access}
+use Rattle.step.specs.declared.Located.{Located}
+use Rattle.step.specs.declared.Located.the-variants.{At, Nowhere}
+use Rattle.step.specs.Serve.{accessWidth, serves, allows}
+use Rattle.step.specs.Setting.{Layout}
+
+-- an address lies in region r
+unfoldable pub insideRegion : List ℕ → List ℕ → ℕ → ℕ → Bool
+insideRegion sizes bases address r = leb (getD bases r 0) address && ltb address (getD bases r 0 + getD sizes r 0)
+
+-- an address lies less than 2^16 bytes above a base, as one in a region does
+pub record Near (base address : ℕ) : Type 0 where
+  pub above : base ≤ address
+  pub close : address < base + 65536
+
+-- the region that an address lies in; the number of regions if it lies in none
+unfoldable pub regionIn : ℕ → List ℕ → List ℕ → ℕ → ℕ
+regionIn regions sizes bases address = first (insideRegion sizes bases address) 0 regions
+
+abbrev pub regionOf : Layout → ℕ → ℕ
+regionOf l address = regionIn (l .regions) (l .sizes) (l .bases) address
+
+-- the base of region r
+abbrev pub baseIn : Layout → ℕ → ℕ
+baseIn l r = getD (l .bases) r 0
+
+-- the field at a place is one that an access may touch
+abbrev pub touches : List ℕ → List ℕ → Access → ℕ → Bool
+touches elements permissions a place = serves a (getD elements place 0) && allows a (getD permissions place 0)
+
+-- an offset of region r, if the field found there is one that the access may touch
+abbrev pub located : List ℕ → List ℕ → Access → ℕ → ℕ → Found → Located
+located elements permissions a r offset (Found·.At place) = cond (touches elements permissions a place) (At r (record { 0 = offset })) Nowhere
+located elements permissions a r offset Found·.Nothing = Nowhere
+
+-- where an access to an offset of region r lies, by the lists of the fields
+abbrev pub locateIn : List ℕ → List ℕ → List ℕ → List ℕ → List ℕ → Access → ℕ → ℕ → Located
+locateIn fields elements permissions offsets counts a r offset =
+    located elements permissions a r offset (findIn fields elements offsets counts r offset (offset + accessWidth a))
+
+-- where an access to an address lies
+unfoldable pub locate : Layout → Access → ℕ → Located
+locate l a address =
+    cond (ltb (regionOf l address) (l .regions))
+    (locateIn (l .fields) (l .elements) (l .permissions) (l .offsets) (l .counts) a (regionOf l address) (address - baseIn l (regionOf l address)))
+    Nowhere

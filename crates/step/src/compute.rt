@@ -1,0 +1,93 @@
+// Instructions that change registers and codes alone.
+ghost use Prim.Native.Nat.{_<_};
+ghost use Rattle.step.specs.Effect.{aluEffect, shiftEffect, sethiEffect};
+ghost use Rattle.step.specs.Lent.{Computes};
+use crate::Control;
+use crate::Went;
+use crate::flow::UNSET_READ;
+use crate::flow::move_on;
+use crate::flow::stop;
+use crate::regs::is_set;
+use crate::regs::operand_set;
+use crate::regs::operand_value;
+use crate::regs::value;
+use crate::regs::write;
+use alu::Codes;
+use alu::alu;
+use alu::codes_of;
+use alu::sethi;
+use alu::shift;
+use v8::AluOp;
+use v8::Operand;
+use v8::ShiftOp;
+
+// Arithmetic and logic: 102 where an operand is unset.
+pub fn step_alu(
+    control: Control,
+    codes: Codes,
+    coded: bool,
+    values: &mut [u32; 32],
+    marks: &mut [bool; 32],
+    op: AluOp,
+    cc: bool,
+    rd: u8,
+    rs1: u8,
+    x: Operand,
+) -> Went
+    requires { ⌜ control .at .0 < 128 ⌝ }
+    ensures { λ r. ⌜ Computes r (now (values .exit)) (now (marks .exit)) (now (values .entry)) (now (marks .entry)) codes coded control (λ c. aluEffect c op cc rd rs1 x) ⌝ }
+{
+    let ready = is_set(marks, rs1) & operand_set(marks, x);
+    if !ready {
+        return stop(control, codes, coded, UNSET_READ);
+    }
+    let a = value(values, rs1);
+    let b = operand_value(values, x);
+    write(values, marks, rd, alu(op, a, b));
+    if cc {
+        return move_on(control, codes_of(op, a, b), true);
+    }
+    move_on(control, codes, coded)
+}
+
+// Shifts: 102 where an operand is unset.
+pub fn step_shift(
+    control: Control,
+    codes: Codes,
+    coded: bool,
+    values: &mut [u32; 32],
+    marks: &mut [bool; 32],
+    op: ShiftOp,
+    rd: u8,
+    rs1: u8,
+    x: Operand,
+) -> Went
+    requires { ⌜ control .at .0 < 128 ⌝ }
+    ensures { λ r. ⌜ Computes r (now (values .exit)) (now (marks .exit)) (now (values .entry)) (now (marks .entry)) codes coded control (λ c. shiftEffect c op rd rs1 x) ⌝ }
+{
+    let ready = is_set(marks, rs1) & operand_set(marks, x);
+    if !ready {
+        return stop(control, codes, coded, UNSET_READ);
+    }
+    let a = value(values, rs1);
+    let b = operand_value(values, x);
+    write(values, marks, rd, shift(op, a, b));
+    move_on(control, codes, coded)
+}
+
+// SETHI.
+pub fn step_sethi(
+    control: Control,
+    codes: Codes,
+    coded: bool,
+    values: &mut [u32; 32],
+    marks: &mut [bool; 32],
+    rd: u8,
+    imm22: u32,
+) -> Went
+    requires { ⌜ control .at .0 < 128 ⌝ }
+    ensures { λ r. ⌜ Computes r (now (values .exit)) (now (marks .exit)) (now (values .entry)) (now (marks .entry)) codes coded control (λ c. sethiEffect c rd imm22) ⌝ }
+{
+    write(values, marks, rd, sethi(imm22));
+    move_on(control, codes, coded)
+}

@@ -1,0 +1,250 @@
+// One step of the machine: the word is fetched, and its instruction is run.
+ghost use mathlib.Core.Path.{_≡_};
+ghost use Prim.Native.Nat.{_<_, _≤_};
+ghost use lib.ListN.{length};
+ghost use Rattle.step.specs.Transfer.{isTransfer, inSlot};
+ghost use Rattle.step.specs.Step.{execute, stepWith, stepOf};
+ghost use Rattle.step.specs.Lent.{coreOf, leaving, wentOf, layoutFrom, settingFrom, Covers};
+use crate::Control;
+use crate::Pending;
+use crate::Went;
+use crate::compute::step_alu;
+use crate::compute::step_sethi;
+use crate::compute::step_shift;
+use crate::flow::NO_WORD;
+use crate::flow::branch;
+use crate::flow::leave;
+use crate::flow::stop;
+use crate::loadstore::step_load;
+use crate::loadstore::step_store;
+use alu::Codes;
+use v8::Instruction;
+use v8::Reading;
+use v8::read_word;
+
+// Whether the next word is a slot.
+pub fn in_slot(pending: Pending) -> bool
+    ensures { λ r. ⌜ r ≡ inSlot pending ⌝ }
+{
+    match pending {
+        Pending::Nothing => false,
+        Pending::Jump(_) => true,
+        Pending::Leave => true,
+    }
+}
+
+// Whether an instruction is a transfer: a branch or the return.
+pub fn is_transfer(x: Instruction) -> bool
+    ensures { λ r. ⌜ r ≡ isTransfer x ⌝ }
+{
+    match x {
+        Instruction::Sethi { rd: _, imm22: _ } => false,
+        Instruction::Bicc {
+            annul: _,
+            cond: _,
+            distance: _,
+        } => true,
+        Instruction::Alu {
+            op: _,
+            cc: _,
+            rd: _,
+            rs1: _,
+            operand: _,
+        } => false,
+        Instruction::Shift {
+            op: _,
+            rd: _,
+            rs1: _,
+            count: _,
+        } => false,
+        Instruction::Load {
+            op: _,
+            rd: _,
+            rs1: _,
+            displacement: _,
+        } => false,
+        Instruction::Store {
+            op: _,
+            rd: _,
+            rs1: _,
+            displacement: _,
+        } => false,
+        Instruction::Return => true,
+    }
+}
+
+// Runs an instruction.
+fn run_instruction<'a>(
+    control: Control,
+    codes: Codes,
+    coded: bool,
+    values: &mut [u32; 32],
+    marks: &mut [bool; 32],
+    memory: &mut [u8],
+    returns: u32,
+    regions: u8,
+    sizes: &'a [u16; 8],
+    bases: &[u32],
+    fields: &'a [u8; 8],
+    elements: &'a [u8; 128],
+    permissions: &'a [u8; 128],
+    offsets: &'a [u32; 128],
+    counts: &'a [u16; 128],
+    x: Instruction,
+) -> Went
+    requires { ⌜ (control .at .0 < 128) × (regions ≤ 8) × (regions ≤ length (now bases)) × Covers (layoutFrom regions (now sizes) (now bases) (now fields) (now elements) (now permissions) (now offsets) (now counts)) (length (now memory)) ⌝ }
+    ensures { λ r. ⌜ wentOf r (now (values .exit)) (now (marks .exit)) (now (memory .exit)) ≡ leaving (coreOf (now (values .entry)) (now (marks .entry)) codes coded (now (memory .entry))) (execute (layoutFrom regions (now (sizes .entry)) (now (bases .entry)) (now (fields .entry)) (now (elements .entry)) (now (permissions .entry)) (now (offsets .entry)) (now (counts .entry))) returns (record { control = control; core = (coreOf (now (values .entry)) (now (marks .entry)) codes coded (now (memory .entry))) }) x) ⌝ }
+{
+    match x {
+        Instruction::Sethi { rd, imm22 } => step_sethi(
+            control,
+            codes,
+            coded,
+            values,
+            marks,
+            rd,
+            imm22,
+        ),
+        Instruction::Bicc {
+            annul,
+            cond,
+            distance,
+        } => branch(control, codes, coded, annul, cond, distance),
+        Instruction::Alu {
+            op,
+            cc,
+            rd,
+            rs1,
+            operand,
+        } => step_alu(
+            control,
+            codes,
+            coded,
+            values,
+            marks,
+            op,
+            cc,
+            rd,
+            rs1,
+            operand,
+        ),
+        Instruction::Shift { op, rd, rs1, count } => step_shift(
+            control,
+            codes,
+            coded,
+            values,
+            marks,
+            op,
+            rd,
+            rs1,
+            count,
+        ),
+        Instruction::Load {
+            op,
+            rd,
+            rs1,
+            displacement,
+        } => step_load(
+            control,
+            codes,
+            coded,
+            values,
+            marks,
+            memory,
+            regions,
+            sizes,
+            bases,
+            fields,
+            elements,
+            permissions,
+            offsets,
+            counts,
+            op,
+            rd,
+            rs1,
+            displacement,
+        ),
+        Instruction::Store {
+            op,
+            rd,
+            rs1,
+            displacement,
+        } => step_store(
+            control,
+            codes,
+            coded,
+            values,
+            marks,
+            memory,
+            regions,
+            sizes,
+            bases,
+            fields,
+            elements,
+            permissions,
+            offsets,
+            counts,
+            op,
+            rd,
+            rs1,
+            displacement,
+        ),
+        Instruction::Return => leave(control, codes, coded, values, marks, returns),
+    }
+}
+
+// Runs one step: 101 where the word is outside the code, is not read, or is a transfer in a slot.
+pub fn one_step<'a>(
+    control: Control,
+    codes: Codes,
+    coded: bool,
+    values: &mut [u32; 32],
+    marks: &mut [bool; 32],
+    memory: &mut [u8],
+    words: &[u32],
+    returns: u32,
+    regions: u8,
+    sizes: &'a [u16; 8],
+    bases: &[u32],
+    fields: &'a [u8; 8],
+    elements: &'a [u8; 128],
+    permissions: &'a [u8; 128],
+    offsets: &'a [u32; 128],
+    counts: &'a [u16; 128],
+) -> Went
+    requires { ⌜ (length (now words) ≤ 128) × (regions ≤ 8) × (regions ≤ length (now bases)) × Covers (layoutFrom regions (now sizes) (now bases) (now fields) (now elements) (now permissions) (now offsets) (now counts)) (length (now memory)) ⌝ }
+    ensures { λ r. ⌜ wentOf r (now (values .exit)) (now (marks .exit)) (now (memory .exit)) ≡ leaving (coreOf (now (values .entry)) (now (marks .entry)) codes coded (now (memory .entry))) (stepOf (settingFrom (layoutFrom regions (now (sizes .entry)) (now (bases .entry)) (now (fields .entry)) (now (elements .entry)) (now (permissions .entry)) (now (offsets .entry)) (now (counts .entry))) (now (words .entry)) returns) (record { control = control; core = (coreOf (now (values .entry)) (now (marks .entry)) codes coded (now (memory .entry))) })) ⌝ }
+{
+    let at = control.at;
+    let pending = control.pending;
+    let i = at.0 as usize;
+    if words.len() <= i {
+        return stop(control, codes, coded, NO_WORD);
+    }
+    match read_word(words[i]) {
+        Reading::Read(x) => {
+            if in_slot(pending) & is_transfer(x) {
+                return stop(control, codes, coded, NO_WORD);
+            }
+            run_instruction(
+                control,
+                codes,
+                coded,
+                values,
+                marks,
+                memory,
+                returns,
+                regions,
+                sizes,
+                bases,
+                fields,
+                elements,
+                permissions,
+                offsets,
+                counts,
+                x,
+            )
+        }
+        Reading::Unread => stop(control, codes, coded, NO_WORD),
+    }
+}

@@ -1,0 +1,135 @@
+// Where an access lies: the region that its address is in, and there the field that serves it.
+ghost use mathlib.Core.Path.{_≡_};
+ghost use Prim.Native.Nat.{_≤_, _<_};
+ghost use lib.ListN.{length, getD};
+ghost use Rattle.step.specs.Serve.{accessWidth, serves, allows};
+ghost use Rattle.step.specs.Locate.{Near, regionIn, locateIn, locate};
+use crate::Access;
+use crate::Located;
+use policy::Found;
+use policy::find_in;
+use v8::ByteOffset;
+use v8::LoadOp;
+use v8::StoreOp;
+
+// Whether an access serves an element.
+fn serves_element(a: Access, e: u8) -> bool
+    ensures { λ r. ⌜ r ≡ serves a e ⌝ }
+{
+    match a {
+        Access::Loads(op) => match op {
+            LoadOp::Ld => (5 <= e) & (e <= 7),
+            LoadOp::Ldub => e == 1,
+            LoadOp::Lduh => e == 3,
+            LoadOp::Ldsb => e == 2,
+            LoadOp::Ldsh => e == 4,
+        },
+        Access::Stores(op) => match op {
+            StoreOp::St => (5 <= e) & (e <= 7),
+            StoreOp::Stb => (e == 1) | (e == 2),
+            StoreOp::Sth => (e == 3) | (e == 4),
+        },
+    }
+}
+
+// Whether a permission allows an access.
+fn allowed(a: Access, permission: u8) -> bool
+    ensures { λ r. ⌜ r ≡ allows a permission ⌝ }
+{
+    match a {
+        Access::Loads(_) => (permission == 1) | (permission == 3),
+        Access::Stores(_) => (permission == 2) | (permission == 3),
+    }
+}
+
+// A size as a number of bytes to add to a base.
+pub fn wide(size: u16) -> u64
+    ensures { λ r. ⌜ (r ≡ size) × (r ≤ 65535) ⌝ }
+{
+    size as u64
+}
+
+// The region that an address lies in; the number of regions if it lies in none.
+fn region_at(regions: u8, sizes: &[u16; 8], bases: &[u32], address: u32) -> u8
+    requires { ⌜ (regions ≤ 8) × (regions ≤ length (now bases)) ⌝ }
+    ensures is { λ r. ⌜ r ≡ regionIn regions (now (sizes .entry)) (now (bases .entry)) address ⌝ }
+    ensures near { λ r. ⌜ (r < regions → Near (getD (now (bases .entry)) r 0) address) ⌝ }
+{
+    let mut r: u8 = 0;
+    while r < regions {
+        let i = r as usize;
+        let base = bases[i] as u64;
+        let top = base + wide(sizes[i]);
+        if (base <= address as u64) & ((address as u64) < top) {
+            return r;
+        }
+        r += 1;
+    }
+    r
+}
+
+// Where an access to an offset of a region lies.
+fn locate_in<'a>(
+    fields: &'a [u8; 8],
+    elements: &'a [u8; 128],
+    permissions: &'a [u8; 128],
+    offsets: &'a [u32; 128],
+    counts: &'a [u16; 128],
+    a: Access,
+    width: u32,
+    region: u8,
+    offset: ByteOffset,
+) -> Located
+    requires { ⌜ (width ≡ accessWidth a) × (width ≤ 4) × (offset .0 ≤ 65535) ⌝ }
+    ensures { λ r. ⌜ r ≡ locateIn (now (fields .entry)) (now (elements .entry)) (now (permissions .entry)) (now (offsets .entry)) (now (counts .entry)) a region (offset .0) ⌝ }
+{
+    let end = ByteOffset(offset.0 + width);
+    match find_in(fields, elements, offsets, counts, region, offset, end) {
+        Found::At(place) => {
+            if place < 128 {
+                if serves_element(a, elements[place]) & allowed(a, permissions[place]) {
+                    return Located::At(region, offset);
+                }
+            }
+            Located::Nowhere
+        }
+        Found::Nothing => Located::Nowhere,
+    }
+}
+
+// Where an access to an address lies: `width` is the access's. A region that the address lies in is
+// found first, and there the field.
+pub fn locate_access<'a>(
+    regions: u8,
+    sizes: &'a [u16; 8],
+    bases: &[u32],
+    fields: &'a [u8; 8],
+    elements: &'a [u8; 128],
+    permissions: &'a [u8; 128],
+    offsets: &'a [u32; 128],
+    counts: &'a [u16; 128],
+    a: Access,
+    width: u32,
+    address: u32,
+) -> Located
+    requires { ⌜ (regions ≤ 8) × (regions ≤ length (now bases)) × (width ≡ accessWidth a) × (width ≤ 4) ⌝ }
+    ensures { λ r. ⌜ r ≡ locate (record { regions = regions; sizes = now (sizes .entry); bases = now (bases .entry); fields = now (fields .entry); elements = now (elements .entry); permissions = now (permissions .entry); offsets = now (offsets .entry); counts = now (counts .entry) }) a address ⌝ }
+{
+    let r = region_at(regions, sizes, bases, address);
+    if r < regions {
+        let i = r as usize;
+        let offset = address - bases[i];
+        return locate_in(
+            fields,
+            elements,
+            permissions,
+            offsets,
+            counts,
+            a,
+            width,
+            r,
+            ByteOffset(offset),
+        );
+    }
+    Located::Nowhere
+}

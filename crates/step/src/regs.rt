@@ -1,0 +1,67 @@
+// Registers in lent arrays of values and marks. r0 reads as a set zero, and writes to it vanish.
+ghost use mathlib.Core.Path.{_≡_};
+ghost use Rattle.step.specs.Registers.{valueIn, setIn, operandIn, operandSetIn, valuesWith, marksWith};
+use v8::Operand;
+
+// What register r reads as.
+pub fn value(values: &[u32; 32], r: u8) -> u32
+    ensures { λ v. ⌜ v ≡ valueIn (now (values .entry)) r ⌝ }
+{
+    let i = r as usize;
+    if i == 0 {
+        return 0;
+    }
+    if i < 32 {
+        return values[i];
+    }
+    0
+}
+
+// Whether register r is set.
+pub fn is_set(marks: &[bool; 32], r: u8) -> bool
+    ensures { λ v. ⌜ v ≡ setIn (now (marks .entry)) r ⌝ }
+{
+    let i = r as usize;
+    if i == 0 {
+        return true;
+    }
+    if i < 32 {
+        return marks[i];
+    }
+    false
+}
+
+// Writes register r, which is set from then on.
+pub fn write(values: &mut [u32; 32], marks: &mut [bool; 32], r: u8, v: u32)
+    ensures values { λ _. ⌜ now (values .exit) ≡ valuesWith (now (values .entry)) r v ⌝ }
+    ensures marks { λ _. ⌜ now (marks .exit) ≡ marksWith (now (marks .entry)) r ⌝ }
+{
+    let i = r as usize;
+    if i == 0 {
+        return;
+    }
+    if i < 32 {
+        values[i] = v;
+        marks[i] = true;
+    }
+}
+
+// What a second operand gives.
+pub fn operand_value(values: &[u32; 32], x: Operand) -> u32
+    ensures { λ v. ⌜ v ≡ operandIn (now (values .entry)) x ⌝ }
+{
+    match x {
+        Operand::Reg(r) => value(values, r),
+        Operand::Imm(v) => v,
+    }
+}
+
+// Whether a second operand is set.
+pub fn operand_set(marks: &[bool; 32], x: Operand) -> bool
+    ensures { λ v. ⌜ v ≡ operandSetIn (now (marks .entry)) x ⌝ }
+{
+    match x {
+        Operand::Reg(r) => is_set(marks, r),
+        Operand::Imm(_) => true,
+    }
+}
