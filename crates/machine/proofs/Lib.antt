@@ -1,4 +1,4 @@
-pub mod Run
+pub mod RunLaws
 pub mod Loop
 pub mod Covered
 pub mod Begun

@@ -14,7 +14,7 @@ use Rattle.step.specs.Step.{State, Step, stopped, next, returned, stepOf}
 use Rattle.step.specs.Lent.{Stepped, coreOf, leaving, stepFrom, wentOf}
 use Rattle.machine.specs.declared.End.the-variants as End·
 use Rattle.machine.specs.Run.{ended, afterStep, runFrom}
-use Rattle.machine.proofs.Run.{runs-nothing, runs-one-more}
+use Rattle.machine.proofs.RunLaws.{runs-nothing, runs-one-more}
 
 leaving-step : (c : Core) (x : Step) → leaving c x .step ≡ x
 leaving-step c (stopped n) = refl
