@@ -4,6 +4,7 @@ use Prim.Native.Nat.{ℕ, zero, suc, _+_, _*_, _/_, _%_, _^_}
 use mathlib.Core.Bool.{Bool, cond}
 use mathlib.Core.List.{List, [], _∷_}
 use lib.Dec.{eqb}
+use lib.ListN.{take}
 use Rattle.v8.specs.declared.AluOp.{AluOp}
 use Rattle.v8.specs.declared.ShiftOp.{ShiftOp}
 use Rattle.v8.specs.declared.LoadOp.{LoadOp}
@@ -23,6 +24,9 @@ use Rattle.policy.specs.declared.Built.{Built}
 use Rattle.policy.specs.Build.{addRegionOf, addFieldOf}
 use Rattle.memory.specs.Memory.{loadOf, storeOf}
 use Rattle.memory.specs.Place.{startOf}
+use Rattle.step.specs.declared.Registers.{Registers}
+use Rattle.machine.specs.declared.End.{End}
+use Rattle.machine.specs.Run.{Run, runOf}
 
 -- what is added to a policy
 pub data Addition : Type 0 where
@@ -51,6 +55,8 @@ pub data Given : Type 0 where
   stored : StoreOp → ℕ → ℕ → List ℕ → Given
   -- the sizes of the regions, and the region whose part of the memory is sought
   begins : List ℕ → ℕ → Given
+  -- a run: policy, words, bases, return address, registers, allowance, memory
+  runs : Policy → List ℕ → List ℕ → ℕ → Registers → ℕ → List ℕ → Given
 
 -- what comes of it
 pub data Outcome : Type 0 where
@@ -66,6 +72,9 @@ pub data Outcome : Type 0 where
   numbers : List ℕ → Outcome
   -- the memory afterwards
   leaves : List ℕ → Outcome
+  -- how a run ended, its steps, the values and the marks of r0 to r7, the codes as the digit NZVC, 16 more if they are set, and the
+  -- memory afterwards
+  ends : End → ℕ → List ℕ → List Bool → ℕ → List ℕ → Outcome
 
 -- a case and the outcome that it must have
 infix 70 _gives_
@@ -100,6 +109,13 @@ abbrev pub numbersOf : Policy → List Addition → List ℕ
 numbersOf p [] = []
 numbersOf p (a ∷ more) = addOf p a .number ∷ numbersOf (addOf p a .policy) more
 
+-- the outcome of a run
+abbrev pub endsOf : Run → Outcome
+endsOf r =
+    ends (r .outcome .end) (r .outcome .steps) (take 8 (r .outcome .registers .values)) (take 8 (r .outcome .registers .marks))
+    (cond (r .outcome .registers .coded) 16 0 + digitOf (r .outcome .registers .codes))
+    (r .memory)
+
 -- what the definitions give
 abbrev pub outcome : Given → Outcome
 outcome (word w) = reads (readingOf w)
@@ -111,3 +127,4 @@ outcome (adds p more) = numbers (numbersOf p more)
 outcome (loaded op m a) = yields (loadOf op m a)
 outcome (stored op v a m) = leaves (storeOf op v a m)
 outcome (begins sizes r) = yields (startOf sizes r)
+outcome (runs p words bases returns g allowance memory) = endsOf (runOf p words bases returns g allowance memory)

@@ -3,4 +3,5 @@ pub mod Words
 pub mod Arithmetic
 pub mod Policies
 pub mod Memories
+pub mod Runs
 pub mod Table

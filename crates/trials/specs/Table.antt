@@ -5,9 +5,10 @@ use Rattle.trials.specs.Words.{wordRows, writeRows}
 use Rattle.trials.specs.Arithmetic.{additionRows, subtractionRows, logicRows, shiftRows, conditionRows}
 use Rattle.trials.specs.Policies.{addRows}
 use Rattle.trials.specs.Memories.{memoryRows}
+use Rattle.trials.specs.Runs.{runRows}
 
 abbrev pub table : List Row
 table =
     wordRows ++ writeRows
     ++ additionRows ++ subtractionRows ++ logicRows ++ shiftRows ++ conditionRows
-    ++ addRows ++ memoryRows
+    ++ addRows ++ memoryRows ++ runRows
