@@ -1,4 +1,4 @@
--- Delayed transfer (V8, chapter 5; document 01, "The word after a Bicc or return is its slot"): whether a slot runs, and where a
+-- Delayed control transfer (V8, Bicc and JMPL; document 01, "The word after a Bicc or return is its slot"): whether a slot runs, and where a
 -- branch goes. The check and the machine share these, each under its one name.
 use Prim.Native.Nat.{ℕ, _+_, _%_}
 use mathlib.Core.Bool.{Bool, true, false, cond, not, _&&_, _||_}

@@ -11,9 +11,9 @@ use Rattle.v8.specs.declared.LoadOp.{LoadOp}
 use Rattle.v8.specs.declared.StoreOp.{StoreOp}
 use Rattle.v8.specs.declared.Instruction.{Instruction}
 use Rattle.v8.specs.declared.Reading.{Reading}
-use Rattle.v8.specs.Read.{readingOf}
+use Rattle.v8.specs.Read.{readingOf, readNumber}
 use Rattle.writer.specs.declared.Writing.{Writing}
-use Rattle.writer.specs.Write.{writingOf}
+use Rattle.writer.specs.Write.{writingOf, writeNumber}
 use Rattle.alu.specs.declared.codes.Codes.{Codes}
 use Rattle.alu.specs.Result.{aluOf, shiftOf}
 use Rattle.alu.specs.Codes.{codesOf}
@@ -41,6 +41,9 @@ pub data Given : Type 0 where
   word : ℕ → Given
   -- an instruction, to be written
   instruction : Instruction → Given
+  -- the same, of which document 01's number is asked
+  readAnswer : ℕ → Given
+  writeAnswer : Instruction → Given
   -- an operation and its two operands
   operation : AluOp → ℕ → ℕ → Given
   -- a shift, the word shifted and the count
@@ -64,7 +67,7 @@ pub data Outcome : Type 0 where
   writes : Writing → Outcome
   -- the result, and the codes that the code-setting form sets, as the digit NZVC
   sets : ℕ → ℕ → Outcome
-  -- the result
+  -- the result, or the number of an answer
   yields : ℕ → Outcome
   -- the codes that meet it: bit n stands for the codes NZVC = n
   meets : ℕ → Outcome
@@ -120,6 +123,8 @@ endsOf r =
 abbrev pub outcome : Given → Outcome
 outcome (word w) = reads (readingOf w)
 outcome (instruction x) = writes (writingOf x)
+outcome (readAnswer w) = yields (readNumber (readingOf w))
+outcome (writeAnswer x) = yields (writeNumber (writingOf x))
 outcome (operation op x y) = sets (aluOf op x y) (digitOf (codesOf op x y))
 outcome (shift op x n) = yields (shiftOf op x n)
 outcome (condition k) = meets (meetingBelow k 16)

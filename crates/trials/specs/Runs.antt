@@ -1,4 +1,4 @@
--- Whole runs (document 01, "Machine run"; V8, chapter 5 and appendix B). The words are those that GNU as gives; each is told beside
+-- Whole runs (document 01, "Machine run"; V8, appendix B). The words are those that GNU as gives; each is told beside
 -- its row, where %g0 to %g7 are r0 to r7.
 use Prim.Native.Nat.{ℕ, _+_}
 use mathlib.Core.Bool.{Bool, true, false}

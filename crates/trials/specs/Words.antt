@@ -11,7 +11,7 @@ use Rattle.v8.specs.declared.Displacement.the-variants.{Index, Bytes}
 use Rattle.v8.specs.declared.Instruction.the-variants.{Sethi, Bicc, Alu, Shift, Load, Store, Return}
 use Rattle.v8.specs.declared.Reading.the-variants.{Read, Unread}
 use Rattle.writer.specs.declared.Writing.the-variants.{Written, Unwritable}
-use Rattle.trials.specs.Case.{Row, _gives_, word, instruction, reads, writes}
+use Rattle.trials.specs.Case.{Row, _gives_, word, instruction, readAnswer, writeAnswer, reads, writes, yields}
 
 -- words read
 abbrev pub wordRows : List Row
@@ -113,4 +113,13 @@ writeRows =
     ∷ instruction (Load Ld 32 0 (Index 0)) gives writes Unwritable
     ∷ instruction (Load Ldsh 0 0 (Bytes (record { 0 = 0x1000 }))) gives writes Unwritable
     ∷ instruction (Store St 0 255 (Index 0)) gives writes Unwritable
+    ∷ []
+
+-- "Read a word: 2. Write an instruction: 17": the numbers of the answers, 0 where there is no refusal
+abbrev pub answerRows : List Row
+answerRows =
+    readAnswer 0x81C3E008 gives yields 0
+    ∷ readAnswer 0x00000000 gives yields 2
+    ∷ writeAnswer Return gives yields 0
+    ∷ writeAnswer (Sethi 32 0) gives yields 17
     ∷ []

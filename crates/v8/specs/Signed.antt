@@ -1,5 +1,5 @@
 -- Signed numbers. All definitions hold 32-bit words as natural numbers below 2^32; a word that stands for a signed number
--- does so in two's complement (V8, chapter 2). Two further forms are used, and each is tied here to the integer it stands for:
+-- does so in two's complement (V8's signed integers). Two further forms are used, and each is tied here to the integer it stands for:
 -- a signed part of an instruction is held sign-extended to 32 bits, and a signed number that is compared is held in excess
 -- form, 2^31 more than the number, so that signed order is the order of ℕ.
 use Prim.Native.Nat.{ℕ, suc, _+_, _-_, _%_, _^_, _≤_, _<_}
