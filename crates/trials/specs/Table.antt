@@ -9,6 +9,6 @@ use Rattle.trials.specs.Runs.{runRows}
 
 abbrev pub table : List Row
 table =
-    wordRows ++ writeRows
+    wordRows ++ writeRows ++ answerRows
     ++ additionRows ++ subtractionRows ++ logicRows ++ shiftRows ++ conditionRows
     ++ addRows ++ memoryRows ++ runRows
