@@ -20,10 +20,10 @@ use Rattle.policy.proofs.WellFormed.{obeys}
 use Rattle.policy.proofs.FoundField.{found-holds}
 use Rattle.memory.specs.Place.{lengthOf}
 use Rattle.memory.proofs.Starts.{part-ends}
-use Rattle.step.specs.declared.Access.{Access}
-use Rattle.step.specs.Setting.{layoutOf}
-use Rattle.step.specs.Serve.{accessWidth}
-use Rattle.step.specs.Locate.{touches, located, regionOf, locate}
+use Rattle.access.specs.declared.Access.{Access}
+use Rattle.access.specs.Layout.{layoutOf}
+use Rattle.access.specs.Serve.{accessWidth}
+use Rattle.access.specs.Locate.{touches, located, regionOf, locate}
 use Rattle.step.specs.Lent.{Covered, Lies, Covers}
 use Rattle.machine.specs.Placement.{placedIn}
 

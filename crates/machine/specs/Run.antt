@@ -12,7 +12,8 @@ use Rattle.machine.specs.declared.End.{End}
 use Rattle.machine.specs.declared.End.the-variants.{Returned, Spent, Fault, Refused}
 use Rattle.machine.specs.declared.Outcome.{Outcome}
 use Rattle.step.specs.Registers.{grounded}
-use Rattle.step.specs.Setting.{Setting, layoutOf, readingsOf}
+use Rattle.access.specs.Layout.{layoutOf}
+use Rattle.step.specs.Setting.{Setting, readingsOf}
 use Rattle.machine.specs.Placement.{placedIn}
 use Rattle.step.specs.Transfer.{goTo}
 use Rattle.step.specs.Effect.{Core}

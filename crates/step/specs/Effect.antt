@@ -19,12 +19,12 @@ use Rattle.memory.specs.Place.{startOf}
 use Rattle.step.specs.declared.Registers.{Registers}
 use Rattle.step.specs.declared.Aim.{Aim}
 use Rattle.step.specs.declared.Aim.the-variants.{Address, Missed}
-use Rattle.step.specs.declared.Located.{Located}
-use Rattle.step.specs.declared.Located.the-variants.{At, Nowhere}
+use Rattle.access.specs.declared.Located.{Located}
+use Rattle.access.specs.declared.Located.the-variants.{At, Nowhere}
 use Rattle.step.specs.Registers.{valueIn, setIn, operandIn, operandSetIn, valueOf, isSet, written, withCodes, operandValue, operandSet, addend}
-use Rattle.step.specs.declared.Access.the-variants.{Loads, Stores}
-use Rattle.step.specs.Setting.{Layout}
-use Rattle.step.specs.Locate.{locate}
+use Rattle.access.specs.declared.Access.the-variants.{Loads, Stores}
+use Rattle.access.specs.Layout.{Layout}
+use Rattle.access.specs.Locate.{locate}
 
 -- the faults' numbers: "101 word outside, unread, or a transfer in a slot; 102 unset read; 104 unaligned, r15 at a return too; 103
 -- not inside one field of matching element and permission; 105 return when r15 isn't the return address"

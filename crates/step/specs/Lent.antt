@@ -11,12 +11,13 @@ use Rattle.step.specs.declared.Progress.{Progress}
 use Rattle.step.specs.declared.Progress.the-variants.{Goes, Returned, Stopped}
 use Rattle.step.specs.declared.Went.{Went}
 use Rattle.memory.specs.Place.{startOf}
-use Rattle.step.specs.declared.Access.{Access}
-use Rattle.step.specs.declared.Located.{Located}
-use Rattle.step.specs.declared.Located.the-variants.{At, Nowhere}
-use Rattle.step.specs.Serve.{accessWidth}
-use Rattle.step.specs.Locate.{locate}
-use Rattle.step.specs.Setting.{Layout, Setting, readingsOf}
+use Rattle.access.specs.declared.Access.{Access}
+use Rattle.access.specs.declared.Located.{Located}
+use Rattle.access.specs.declared.Located.the-variants.{At, Nowhere}
+use Rattle.access.specs.Serve.{accessWidth}
+use Rattle.access.specs.Locate.{locate}
+use Rattle.access.specs.Layout.{Layout}
+use Rattle.step.specs.Setting.{Setting, readingsOf}
 use Rattle.step.specs.Effect.{Core, Effect, done}
 use Rattle.step.specs.Step.{Step, stopped, next, returned, plainStep, returnStep}
 

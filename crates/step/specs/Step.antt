@@ -12,7 +12,8 @@ use Rattle.step.specs.declared.Pending.{Pending}
 use Rattle.step.specs.declared.Pending.the-variants.{Nothing, Jump, Leave}
 use Rattle.step.specs.declared.Control.{Control}
 use Rattle.step.specs.Registers.{valueOf, isSet}
-use Rattle.step.specs.Setting.{Layout, Setting, readingAt}
+use Rattle.access.specs.Layout.{Layout}
+use Rattle.step.specs.Setting.{Setting, readingAt}
 use Rattle.step.specs.Transfer.{isTransfer, readsCodes, afterBranch, afterReturn, goTo, inSlot}
 use Rattle.step.specs.Effect.{Core, Effect, fault, done, effectOf, noWord, unsetRead, unaligned, wrongReturn}
 

@@ -5,8 +5,6 @@
 pub mod regs;
 // Instructions that change registers and codes alone.
 pub mod compute;
-// Where an access lies.
-pub mod locate;
 // Loads and stores.
 pub mod loadstore;
 // One step.
@@ -15,9 +13,6 @@ pub mod dispatch;
 pub mod flow;
 
 use alu::Codes;
-use v8::ByteOffset;
-use v8::LoadOp;
-use v8::StoreOp;
 use v8::WordIndex;
 
 // Registers r0 to r31 and the condition codes, each marked set or unset.
@@ -42,22 +37,10 @@ pub struct Control {
     pub pending: Pending,
 }
 
-// An access to memory.
-pub enum Access {
-    Loads(LoadOp),
-    Stores(StoreOp),
-}
-
 // Where an access aims: at an address, or the fault that it meets first.
 pub enum Aim {
     Address(u32),
     Missed(u8),
-}
-
-// Where an access lies: at an offset of a region, in a field that allows it, or nowhere.
-pub enum Located {
-    At(u8, ByteOffset),
-    Nowhere,
 }
 
 // How a step went: on to the next word, returned, or stopped at a fault.

@@ -6,23 +6,24 @@ ghost use Rattle.memory.specs.Memory.{loadWidth, storeWidth};
 ghost use Rattle.step.specs.Registers.{addend};
 ghost use Rattle.step.specs.Effect.{aimIn, loadAt, storeAt, loadEffect, storeEffect};
 ghost use Rattle.step.specs.Lent.{coreOf, Lies, Covers, layoutFrom, Acts};
-use crate::Access;
 use crate::Aim;
 use crate::Control;
-use crate::Located;
 use crate::Went;
 use crate::flow::OUTSIDE_FIELD;
 use crate::flow::UNALIGNED;
 use crate::flow::UNSET_READ;
 use crate::flow::move_on;
 use crate::flow::stop;
-use crate::locate::locate_access;
-use crate::locate::wide;
 use crate::regs::is_set;
 use crate::regs::operand_set;
 use crate::regs::operand_value;
 use crate::regs::value;
 use crate::regs::write;
+use access::Access;
+use access::Located;
+use access::locate::wide;
+use access::locate_access;
+use access::width_of;
 use alu::Codes;
 use alu::sum;
 use memory::load_in;
@@ -32,30 +33,6 @@ use v8::Displacement;
 use v8::LoadOp;
 use v8::Operand;
 use v8::StoreOp;
-
-// How many bytes a load reads.
-fn load_width(op: LoadOp) -> u32
-    ensures { λ r. ⌜ (r ≡ loadWidth op) × (1 ≤ r) × (r ≤ 4) ⌝ }
-{
-    match op {
-        LoadOp::Ld => 4,
-        LoadOp::Ldub => 1,
-        LoadOp::Lduh => 2,
-        LoadOp::Ldsb => 1,
-        LoadOp::Ldsh => 2,
-    }
-}
-
-// How many bytes a store writes.
-fn store_width(op: StoreOp) -> u32
-    ensures { λ r. ⌜ (r ≡ storeWidth op) × (1 ≤ r) × (r ≤ 4) ⌝ }
-{
-    match op {
-        StoreOp::St => 4,
-        StoreOp::Stb => 1,
-        StoreOp::Sth => 2,
-    }
-}
 
 // An address's second part, as the operand that is added.
 fn addend_of(d: Displacement) -> Operand
@@ -174,7 +151,7 @@ pub fn step_load<'a>(
     requires { ⌜ (control .at .0 < 128) × (regions ≤ 8) × (regions ≤ length (now bases)) × Covers (layoutFrom regions (now sizes) (now bases) (now fields) (now elements) (now permissions) (now offsets) (now counts)) (length (now memory)) ⌝ }
     ensures { λ r. ⌜ Acts r (coreOf (now (values .entry)) (now (marks .entry)) codes coded (now (memory .entry))) control (λ c. loadEffect (layoutFrom regions (now (sizes .entry)) (now (bases .entry)) (now (fields .entry)) (now (elements .entry)) (now (permissions .entry)) (now (offsets .entry)) (now (counts .entry))) c op rd rs1 d) (now (values .exit)) (now (marks .exit)) (now (memory .entry)) ⌝ }
 {
-    let width = load_width(op);
+    let width = width_of(Access::Loads(op));
     match aim(values, marks, true, rs1, d, width) {
         Aim::Address(address) => {
             let at = locate_access(
@@ -232,7 +209,7 @@ pub fn step_store<'a>(
     ensures { λ r. ⌜ Acts r (coreOf (now (values .entry)) (now (marks .entry)) codes coded (now (memory .entry))) control (λ c. storeEffect (layoutFrom regions (now (sizes .entry)) (now (bases .entry)) (now (fields .entry)) (now (elements .entry)) (now (permissions .entry)) (now (offsets .entry)) (now (counts .entry))) c op rd rs1 d) (now (values .entry)) (now (marks .entry)) (now (memory .exit)) ⌝ }
 {
     let stored = is_set(marks, rd);
-    let width = store_width(op);
+    let width = width_of(Access::Stores(op));
     match aim(values, marks, stored, rs1, d, width) {
         Aim::Address(address) => {
             let at = locate_access(

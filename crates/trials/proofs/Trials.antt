@@ -14,7 +14,7 @@ use Rattle.policy.specs.Find.{holdsIn, stopOf, findIn}
 use Rattle.policy.specs.Build.{regionNumber, fieldNumber, built}
 use Rattle.memory.specs.Place.{startOf}
 use Rattle.step.specs.Registers.{valueIn, setIn, valuesWith, marksWith}
-use Rattle.step.specs.Locate.{insideRegion, regionIn, locate}
+use Rattle.access.specs.Locate.{insideRegion, regionIn, locate}
 use Rattle.step.specs.Effect.{aimIn}
 use Rattle.step.specs.Transfer.{slotRuns, targetOf}
 use Rattle.step.specs.Step.{stepOf}

@@ -3,8 +3,8 @@ use borrow.Author.Needs.{needs}
 use Rattle.step.proofs.loadstore.step_load.Statement.{statement}
 use Rattle.step.proofs.loadstore.step_load.Tie as tie
 
-load-width-requires : tie.Need-load-width-requires
-load-width-requires c κs = search needs
+width-of-requires : tie.Need-width-of-requires
+width-of-requires c κs = search needs
 
 aim-requires : tie.Need-aim-requires
 aim-requires c κs = search needs
@@ -25,16 +25,16 @@ stop-requires : tie.Need-stop-requires
 stop-requires c κs = search needs
 
 returns : tie.Need-returns
-returns c = rw (← c .before .before .before .before .before .before .before .before .before .before .load-width .ensures .0, ← c .before .before .before .before .before .before .before .aim .ensures, c .before .before .before .before .before .address .given .1, ← c .before .before .before .locate-access .ensures) (c .load-at .ensures)
+returns c = rw (← c .before .before .before .before .before .before .before .before .before .before .width-of .ensures .0, ← c .before .before .before .before .before .before .before .aim .ensures, c .before .before .before .before .before .address .given .1, ← c .before .before .before .locate-access .ensures) (c .load-at .ensures)
 
 returns-2 : tie.Need-returns-2
-returns-2 c = rw (← c .before .before .before .before .before .before .before .load-width .ensures .0, ← c .before .before .before .before .aim .ensures, c .before .before .n .given .1, c .stop .ensures)
+returns-2 c = rw (← c .before .before .before .before .before .before .before .width-of .ensures .0, ← c .before .before .before .before .aim .ensures, c .before .before .n .given .1, c .stop .ensures)
 
 pub step-load-spec : {M : Type 1} → statement M
 step-load-spec =
     tie.close
     (tie.spec
-    load-width-requires
+    width-of-requires
     aim-requires
     enum-known-address
     locate-access-requires

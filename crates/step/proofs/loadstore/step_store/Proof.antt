@@ -6,8 +6,8 @@ use Rattle.step.proofs.loadstore.step_store.Tie as tie
 is-set-requires : tie.Need-is-set-requires
 is-set-requires c κs = search needs
 
-store-width-requires : tie.Need-store-width-requires
-store-width-requires c κs = search needs
+width-of-requires : tie.Need-width-of-requires
+width-of-requires c κs = search needs
 
 aim-requires : tie.Need-aim-requires
 aim-requires c κs = search needs
@@ -31,17 +31,17 @@ same-length : tie.Need-same-length
 same-length c = search needs
 
 returns : tie.Need-returns
-returns c = rw (← c .before .before .before .before .before .before .before .before .before .before .is-set .ensures, ← c .before .before .before .before .before .before .before .before .before .store-width .ensures .0, ← c .before .before .before .before .before .before .before .before .aim .ensures, c .before .before .before .before .before .before .address .given .1, ← c .before .before .before .before .locate-access .ensures) (c .before .before .store-at .ensures)
+returns c = rw (← c .before .before .before .before .before .before .before .before .before .before .is-set .ensures, ← c .before .before .before .before .before .before .before .before .before .width-of .ensures .0, ← c .before .before .before .before .before .before .before .before .aim .ensures, c .before .before .before .before .before .before .address .given .1, ← c .before .before .before .before .locate-access .ensures) (c .before .before .store-at .ensures)
 
 returns-2 : tie.Need-returns-2
-returns-2 c = rw (← c .before .before .before .before .before .before .is-set .ensures, ← c .before .before .before .before .before .store-width .ensures .0, ← c .before .before .before .before .aim .ensures, c .before .before .n .given .1, c .stop .ensures)
+returns-2 c = rw (← c .before .before .before .before .before .before .is-set .ensures, ← c .before .before .before .before .before .width-of .ensures .0, ← c .before .before .before .before .aim .ensures, c .before .before .n .given .1, c .stop .ensures)
 
 pub step-store-spec : {M : Type 1} → statement M
 step-store-spec =
     tie.close
     (tie.spec
     is-set-requires
-    store-width-requires
+    width-of-requires
     aim-requires
     enum-known-address
     locate-access-requires

@@ -1,7 +1,7 @@
 -- Each access is a case of the definition.
 use borrow.Author.Needs.{needs}
-use Rattle.step.proofs.locate.allowed.Statement.{statement}
-use Rattle.step.proofs.locate.allowed.Tie as tie
+use Rattle.access.proofs.serve.allowed.Statement.{statement}
+use Rattle.access.proofs.serve.allowed.Tie as tie
 
 enum-told : tie.Need-enum-told
 enum-told c = search needs

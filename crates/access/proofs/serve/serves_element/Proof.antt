@@ -1,7 +1,7 @@
 -- Each access and its operation is a case of the definition.
 use borrow.Author.Needs.{needs}
-use Rattle.step.proofs.locate.serves_element.Statement.{statement}
-use Rattle.step.proofs.locate.serves_element.Tie as tie
+use Rattle.access.proofs.serve.serves_element.Statement.{statement}
+use Rattle.access.proofs.serve.serves_element.Tie as tie
 
 enum-known-a : tie.Need-enum-known-a
 enum-known-a c = search needs

@@ -10,7 +10,7 @@ use Rattle.policy.specs.declared.Policy.{Policy}
 use Rattle.policy.specs.declared.Found.the-variants.{At}
 use Rattle.policy.specs.Find.{findIn}
 use Rattle.policy.proofs.FoundField.{found-holds}
-use Rattle.step.specs.Locate.{Near}
+use Rattle.access.specs.Locate.{Near}
 
 pub place-small : (fields elements offsets counts : List ℕ) (r low end place : ℕ) → findIn fields elements offsets counts r low end ≡ At place → place < 128
 place-small fields elements offsets counts r low end place e =

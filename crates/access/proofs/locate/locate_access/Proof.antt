@@ -1,10 +1,10 @@
 -- A region that the address lies in, then a field there.
-use Rattle.step.specs.Locate.{locate}
+use Rattle.access.specs.Locate.{locate}
 use borrow.Author.Tests.{lt-ltb, le-ltb}
 use native.Mathlib.Omega.{arith}
 use borrow.Author.Needs.{needs}
-use Rattle.step.proofs.locate.locate_access.Statement.{statement}
-use Rattle.step.proofs.locate.locate_access.Tie as tie
+use Rattle.access.proofs.locate.locate_access.Statement.{statement}
+use Rattle.access.proofs.locate.locate_access.Tie as tie
 
 region-at-requires : tie.Need-region-at-requires
 region-at-requires c κs = search needs

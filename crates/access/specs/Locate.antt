@@ -9,11 +9,11 @@ use Rattle.v8.specs.Search.{first}
 use Rattle.policy.specs.declared.Found.{Found}
 use Rattle.policy.specs.declared.Found.the-variants as Found·
 use Rattle.policy.specs.Find.{findIn}
-use Rattle.step.specs.declared.Access.{Access}
-use Rattle.step.specs.declared.Located.{Located}
-use Rattle.step.specs.declared.Located.the-variants.{At, Nowhere}
-use Rattle.step.specs.Serve.{accessWidth, serves, allows}
-use Rattle.step.specs.Setting.{Layout}
+use Rattle.access.specs.declared.Access.{Access}
+use Rattle.access.specs.declared.Located.{Located}
+use Rattle.access.specs.declared.Located.the-variants.{At, Nowhere}
+use Rattle.access.specs.Serve.{accessWidth, serves, allows}
+use Rattle.access.specs.Layout.{Layout}
 
 -- an address lies in region r
 unfoldable pub insideRegion : List ℕ → List ℕ → ℕ → ℕ → Bool

@@ -1,15 +1,15 @@
 -- The search: every region below r has been passed, so the answer is that of the search from r on. The measure is the number of
 -- regions left. A region that is found ends within 2^16 bytes of its base, since a size is a number of 16 bits.
-use Rattle.step.proofs.Places.{near}
-use Rattle.step.specs.Locate.{insideRegion, regionIn}
+use Rattle.access.proofs.Places.{near}
+use Rattle.access.specs.Locate.{insideRegion, regionIn}
 use Rattle.v8.specs.Search.{first, first-here, first-next, first-end}
 use denote.Ref.{now}
 use borrow.Author.Needs.{needs}
 use native.Mathlib.Omega.{arith}
 use mathlib.Core.Path.{_≡_, refl, sym, _∙_}
 use Prim.Native.Nat.{_-_, _≤_}
-use Rattle.step.proofs.locate.region_at.Statement.{statement}
-use Rattle.step.proofs.locate.region_at.Tie as tie
+use Rattle.access.proofs.locate.region_at.Statement.{statement}
+use Rattle.access.proofs.locate.region_at.Tie as tie
 
 abbrev Inv-loop : tie.InvT-loop
 Inv-loop regions sizes bases address r₀ r = (r ≤ regions) × (regionIn regions sizes bases address ≡ first (insideRegion sizes bases address) r regions)

@@ -2,45 +2,15 @@
 ghost use mathlib.Core.Path.{_≡_};
 ghost use Prim.Native.Nat.{_≤_, _<_};
 ghost use lib.ListN.{length, getD};
-ghost use Rattle.step.specs.Serve.{accessWidth, serves, allows};
-ghost use Rattle.step.specs.Locate.{Near, regionIn, locateIn, locate};
+ghost use Rattle.access.specs.Serve.{accessWidth};
+ghost use Rattle.access.specs.Locate.{Near, regionIn, locateIn, locate};
 use crate::Access;
 use crate::Located;
+use crate::serve::allowed;
+use crate::serve::serves_element;
 use policy::Found;
 use policy::find_in;
 use v8::ByteOffset;
-use v8::LoadOp;
-use v8::StoreOp;
-
-// Whether an access serves an element.
-fn serves_element(a: Access, e: u8) -> bool
-    ensures { λ r. ⌜ r ≡ serves a e ⌝ }
-{
-    match a {
-        Access::Loads(op) => match op {
-            LoadOp::Ld => (5 <= e) & (e <= 7),
-            LoadOp::Ldub => e == 1,
-            LoadOp::Lduh => e == 3,
-            LoadOp::Ldsb => e == 2,
-            LoadOp::Ldsh => e == 4,
-        },
-        Access::Stores(op) => match op {
-            StoreOp::St => (5 <= e) & (e <= 7),
-            StoreOp::Stb => (e == 1) | (e == 2),
-            StoreOp::Sth => (e == 3) | (e == 4),
-        },
-    }
-}
-
-// Whether a permission allows an access.
-fn allowed(a: Access, permission: u8) -> bool
-    ensures { λ r. ⌜ r ≡ allows a permission ⌝ }
-{
-    match a {
-        Access::Loads(_) => (permission == 1) | (permission == 3),
-        Access::Stores(_) => (permission == 2) | (permission == 3),
-    }
-}
 
 // A size as a number of bytes to add to a base.
 pub fn wide(size: u16) -> u64

@@ -1,10 +1,10 @@
 -- An access lies where the field found serves and allows it; a place that is found is one of the 128.
-use Rattle.step.proofs.Places.{place-small}
+use Rattle.access.proofs.Places.{place-small}
 use native.Mathlib.Omega.{arith}
 use mathlib.Core.Path.{sym, _∙_}
 use borrow.Author.Needs.{needs}
-use Rattle.step.proofs.locate.locate_in.Statement.{statement}
-use Rattle.step.proofs.locate.locate_in.Tie as tie
+use Rattle.access.proofs.locate.locate_in.Statement.{statement}
+use Rattle.access.proofs.locate.locate_in.Tie as tie
 
 add-t12 : tie.Need-add-t12
 add-t12 c = search needs

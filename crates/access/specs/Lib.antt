@@ -1,0 +1,3 @@
+pub mod Serve
+pub mod Layout
+pub mod Locate

@@ -1,0 +1,27 @@
+// Accesses to memory: what one needs of a field, and where it lies. The machine and the check rest on
+// these alike. (Document 01, refusals 7, 8, 10 and 103.)
+
+// What an access needs of a field.
+pub mod serve;
+// Where an access lies.
+pub mod locate;
+
+pub use locate::locate_access;
+pub use serve::allowed;
+pub use serve::serves_element;
+pub use serve::width_of;
+use v8::ByteOffset;
+use v8::LoadOp;
+use v8::StoreOp;
+
+// An access to memory.
+pub enum Access {
+    Loads(LoadOp),
+    Stores(StoreOp),
+}
+
+// Where an access lies: at an offset of a region, in a field that allows it, or nowhere.
+pub enum Located {
+    At(u8, ByteOffset),
+    Nowhere,
+}
