@@ -1,0 +1,9 @@
+pub mod Steps
+pub mod Powers
+pub mod Ends
+pub mod Formed
+pub mod Fits
+pub mod Arithmetic
+pub mod Shifts
+pub mod Offsets
+pub mod Narrowing

@@ -1,0 +1,20 @@
+use Rattle.sets.specs.Sets.{setOk}
+use borrow.Author.Needs.{needs}
+use Rattle.sets.proofs.form.set_ok.Statement.{statement}
+use Rattle.sets.proofs.form.set_ok.Tie as tie
+
+is-step-requires : tie.Need-is-step-requires
+is-step-requires c κs = search needs
+
+minus-requires : tie.Need-minus-requires
+minus-requires c κs = search needs
+
+remainder-requires : tie.Need-remainder-requires
+remainder-requires c κs = search needs
+
+returns : tie.Need-returns
+unfolding setOk
+returns c = cc
+
+pub set-ok-spec : {M : Type 1} → statement M
+set-ok-spec = tie.close (tie.spec is-step-requires minus-requires remainder-requires returns)

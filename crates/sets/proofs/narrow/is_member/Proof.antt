@@ -1,0 +1,17 @@
+use Rattle.sets.specs.Narrow.{isMember}
+use borrow.Author.Needs.{needs}
+use Rattle.sets.proofs.narrow.is_member.Statement.{statement}
+use Rattle.sets.proofs.narrow.is_member.Tie as tie
+
+minus-requires : tie.Need-minus-requires
+minus-requires c κs = search needs
+
+remainder-requires : tie.Need-remainder-requires
+remainder-requires c κs = search needs
+
+returns : tie.Need-returns
+unfolding isMember
+returns c = cc
+
+pub is-member-spec : {M : Type 1} → statement M
+is-member-spec = tie.close (tie.spec minus-requires remainder-requires returns)

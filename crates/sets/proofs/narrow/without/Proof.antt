@@ -1,0 +1,27 @@
+use Rattle.v8.specs.Choice.{tests}
+use Rattle.sets.specs.Narrow.{without}
+use borrow.Author.Needs.{needs}
+use Rattle.sets.proofs.narrow.without.Statement.{statement}
+use Rattle.sets.proofs.narrow.without.Tie as tie
+
+greater-than-requires : tie.Need-greater-than-requires
+greater-than-requires c κs = search needs
+
+returns : tie.Need-returns
+unfolding without
+returns c = search (tests, c .greater-than .ensures)
+
+less-than-requires : tie.Need-less-than-requires
+less-than-requires c κs = search needs
+
+returns-2 : tie.Need-returns-2
+unfolding without
+returns-2 c = search (tests, c .less-than .ensures)
+
+returns-3 : tie.Need-returns-3
+unfolding without
+returns-3 c = search tests
+
+pub without-spec : {M : Type 1} → statement M
+without-spec =
+    tie.close (tie.spec greater-than-requires returns less-than-requires returns-2 returns-3)

@@ -1,0 +1,101 @@
+-- What later parts rest on: the test of form, the test of inclusion, and that what is made of sets is well formed and holds what V8's
+-- operations make of their members. A word's signed number is its excess form (v8's Signed). The proofs are in proofs/.
+use Prim.Native.Nat.{ℕ, _+_, _-_, _≤_, _<_}
+use mathlib.Core.Path.{_≡_}
+use mathlib.Core.Bool.{true}
+use Rattle.v8.specs.Signed.{excess}
+use Rattle.v8.specs.declared.AluOp.{AluOp}
+use Rattle.v8.specs.declared.ShiftOp.{ShiftOp}
+use Rattle.alu.specs.Result.{add32, sub32, aluOf, shiftOf}
+use Rattle.alu.specs.Condition.{compares}
+use Rattle.alu.specs.declared.condition.Narrowing.{Narrowing}
+use Rattle.alu.specs.declared.condition.Narrowing.the-variants.{NotEqualTo}
+use Rattle.sets.specs.Sets.{nought, setOk, fitsSet, SetRules, Member}
+use Rattle.sets.specs.Rules.{addSets, subSets, aluSets, shiftSet}
+use Rattle.sets.specs.Narrow.{narrowSet}
+use Rattle.sets.specs.declared.NumberSet.{NumberSet}
+use Rattle.sets.specs.declared.Narrowed.{Narrowed}
+use Rattle.sets.specs.declared.Narrowed.the-variants.{Left, Nothing}
+
+-- The test of form passes the sets that obey the rules ..
+abbrev pub Obeys : Type 0
+Obeys = (s : NumberSet) → s .hi < 4294967296 → setOk s ≡ true → SetRules s
+
+-- .. all of them.
+abbrev pub Passes : Type 0
+Passes = (s : NumberSet) → SetRules s → setOk s ≡ true
+
+-- Where the test of inclusion passes, every member of a is one of b ..
+abbrev pub FitsHolds : Type 0
+FitsHolds = (a b : NumberSet) → SetRules a → SetRules b → fitsSet a b ≡ true → (n : ℕ) → Member a n → Member b n
+
+-- .. and only there.
+abbrev pub HoldsFits : Type 0
+HoldsFits = (a b : NumberSet) → SetRules a → SetRules b → ((n : ℕ) → Member a n → Member b n) → fitsSet a b ≡ true
+
+-- What an operation makes of two sets is well formed ..
+abbrev pub AluFormed : Type 0
+AluFormed = (op : AluOp) (a b : NumberSet) → SetRules a → SetRules b → SetRules (aluSets op a b)
+
+-- .. and has the operation's result on any two of their members.
+abbrev pub AluHolds : Type 0
+AluHolds =
+    (op : AluOp) (a b : NumberSet) (x y : ℕ) → SetRules a → SetRules b → x < 4294967296 → y < 4294967296
+    → Member a (excess x) → Member b (excess y) → Member (aluSets op a b) (excess (aluOf op x y))
+
+-- So a shift by a count below 32.
+abbrev pub ShiftFormed : Type 0
+ShiftFormed = (op : ShiftOp) (a : NumberSet) (s : ℕ) → s < 32 → SetRules a → SetRules (shiftSet op a s)
+
+abbrev pub ShiftHolds : Type 0
+ShiftHolds =
+    (op : ShiftOp) (a : NumberSet) (x s : ℕ) → s < 32 → SetRules a → x < 4294967296
+    → Member a (excess x) → Member (shiftSet op a s) (excess (shiftOf op x s))
+
+-- the offset of an address from a base is one of the set
+pub record Offset (base : ℕ) (s : NumberSet) (address : ℕ) : Type 0 where
+  pub above : base ≤ address
+  pub member : Member s (address - base + nought)
+
+-- An address of a region of this size plus a number, where all the offsets stay in the region: the sum of the words is the sum.
+abbrev pub AddsOffset : Type 0
+AddsOffset =
+    (a b : NumberSet) (base size x y : ℕ) → SetRules a → SetRules b → y < 4294967296 → base + size < 4294967296
+    → nought ≤ addSets a b .lo → addSets a b .hi ≤ nought + size
+    → Offset base a x → Member b (excess y) → Offset base (addSets a b) (add32 x y)
+
+-- An address minus a number, likewise.
+abbrev pub SubsOffset : Type 0
+SubsOffset =
+    (a b : NumberSet) (base size x y : ℕ) → SetRules a → SetRules b → y < 4294967296 → base + size < 4294967296
+    → nought ≤ subSets a b .lo → subSets a b .hi ≤ nought + size
+    → Offset base a x → Member b (excess y) → Offset base (subSets a b) (sub32 x y)
+
+-- n is among what is left
+abbrev pub Among : Narrowed → ℕ → Type 0
+Among (Left s) n = Member s n
+Among Nothing n = ⊥
+
+-- what is left is well formed
+abbrev pub LeftFormed : Narrowed → Type 0
+LeftFormed (Left s) = SetRules s
+LeftFormed Nothing = Unit {0}
+
+-- Narrowing keeps the form ..
+abbrev pub NarrowFormed : Type 0
+NarrowFormed = (c : Narrowing) (s : NumberSet) (n : ℕ) → SetRules s → LeftFormed (narrowSet c s n)
+
+-- .. and every member that obeys ..
+abbrev pub NarrowKeeps : Type 0
+NarrowKeeps =
+    (c : Narrowing) (s : NumberSet) (n m : ℕ) → SetRules s → Member s m → compares c m n true ≡ true → Among (narrowSet c s n) m
+
+-- .. and only members of the set ..
+abbrev pub NarrowWithin : Type 0
+NarrowWithin = (c : Narrowing) (s : NumberSet) (n m : ℕ) → SetRules s → Among (narrowSet c s n) m → Member s m
+
+-- .. that obey, but for "not equal", where only an end is dropped.
+abbrev pub NarrowObeys : Type 0
+NarrowObeys =
+    (c : Narrowing) (s : NumberSet) (n m : ℕ) → SetRules s → (c ≡ NotEqualTo → ⊥) → Among (narrowSet c s n) m
+    → compares c m n true ≡ true

@@ -1,0 +1,68 @@
+-- What arithmetic, logic and shifts make of sets of numbers (document 01, "What each word does to a row", rules 3, 5 and 6).
+use Prim.Native.Nat.{ℕ, _+_, _-_, _*_, _/_, _^_, min}
+use mathlib.Core.Bool.{cond, _||_}
+use lib.Dec.{leb, ltb, eqb}
+use Rattle.v8.specs.declared.AluOp.{AluOp}
+use Rattle.v8.specs.declared.AluOp.the-variants.{Add, And, Or, Xor, Sub, Andn, Orn, Xnor}
+use Rattle.v8.specs.declared.ShiftOp.{ShiftOp}
+use Rattle.v8.specs.declared.ShiftOp.the-variants.{Sll, Srl, Sra}
+use Rattle.sets.specs.Sets.{nought, numbers, full, ended}
+use Rattle.sets.specs.declared.NumberSet.{NumberSet}
+
+-- the set with these ends, each 2^31 more than its excess form; "full if an end leaves signed 32 bits"
+unfoldable pub within : ℕ → ℕ → ℕ → NumberSet
+within step lo hi =
+    cond (ltb lo 2147483648 || ltb hi 2147483648 || leb 6442450944 lo || leb 6442450944 hi) full
+    (numbers step (lo - 2147483648) (hi - 2147483648))
+
+-- "ADD on numbers: lo+lo', hi+hi', the smaller step"
+unfoldable pub addSets : NumberSet → NumberSet → NumberSet
+addSets a b = within (min (a .step) (b .step)) (a .lo + b .lo) (a .hi + b .hi)
+
+-- "SUB: lo−hi', hi−lo', the smaller step"
+unfoldable pub subSets : NumberSet → NumberSet → NumberSet
+subSets a b = within (min (a .step) (b .step)) (a .lo + 4294967296 - b .hi) (a .hi + 4294967296 - b .lo)
+
+-- "AND on numbers: from 0 to the smaller hi of the operands with lo ≥ 0, step 1; full if neither."
+unfoldable pub andSets : NumberSet → NumberSet → NumberSet
+andSets a b =
+    cond (leb nought (a .lo))
+    (cond (leb nought (b .lo)) (ended 1 nought (min (a .hi) (b .hi))) (ended 1 nought (a .hi)))
+    (cond (leb nought (b .lo)) (ended 1 nought (b .hi)) full)
+
+-- what an operation makes of two sets of numbers: "Other logic on numbers: full."
+abbrev pub aluSets : AluOp → NumberSet → NumberSet → NumberSet
+aluSets Add a b = addSets a b
+aluSets And a b = andSets a b
+aluSets Or a b = full
+aluSets Xor a b = full
+aluSets Sub a b = subSets a b
+aluSets Andn a b = full
+aluSets Orn a b = full
+aluSets Xnor a b = full
+
+-- an end times 2^s, 2^31 more than its excess form; 0, which is outside the 32 bits there, if it lies below them all
+abbrev pub shiftedUp : ℕ → ℕ → ℕ
+shiftedUp n s = n * 2 ^ s + 4294967296 - 2147483648 * 2 ^ s
+
+-- "SLL multiplies the ends by 2^s, with step the smaller of 8 and step × 2^s, full if an end leaves the signed 32 bits"
+unfoldable pub sllSet : NumberSet → ℕ → NumberSet
+sllSet a s = within (min 8 (a .step * 2 ^ s)) (shiftedUp (a .lo) s) (shiftedUp (a .hi) s)
+
+-- an end divided by 2^s, rounding down, in excess form
+abbrev pub shiftedDown : ℕ → ℕ → ℕ
+shiftedDown n s = n / 2 ^ s + (2147483648 - 2147483648 / 2 ^ s)
+
+-- "SRA divides the ends rounding down, step 1"
+unfoldable pub sraSet : NumberSet → ℕ → NumberSet
+sraSet a s = ended 1 (shiftedDown (a .lo) s) (shiftedDown (a .hi) s)
+
+-- "SRL as SRA if lo ≥ 0, else full for s = 0, else 0 to 2^(32−s)−1, step 1"
+unfoldable pub srlSet : NumberSet → ℕ → NumberSet
+srlSet a s = cond (leb nought (a .lo)) (sraSet a s) (cond (eqb s 0) full (numbers 1 nought (2147483647 + 2 ^ (32 - s))))
+
+-- what a shift by the single count s, below 32, makes of a set
+abbrev pub shiftSet : ShiftOp → NumberSet → ℕ → NumberSet
+shiftSet Sll a s = sllSet a s
+shiftSet Srl a s = srlSet a s
+shiftSet Sra a s = sraSet a s

@@ -1,0 +1,102 @@
+// What a comparison with a number leaves of a set. (Document 01, "A branch with note 2 narrows a
+// noted number".)
+ghost use mathlib.Core.Path.{_≡_};
+ghost use Rattle.sets.specs.Narrow.{atMost, atLeast, lessThan, greaterThan, isMember, only, without, narrowSet};
+use crate::Narrowed;
+use crate::NumberSet;
+use crate::form::ended;
+use crate::form::single;
+use crate::natural::larger;
+use crate::natural::minus;
+use crate::natural::remainder;
+use crate::natural::round_down;
+use crate::natural::smaller;
+use alu::Narrowing;
+
+// The members up to `n`.
+fn at_most(a: NumberSet, n: u32) -> Narrowed
+    ensures { λ r. ⌜ r ≡ atMost a n ⌝ }
+{
+    if n < a.lo {
+        return Narrowed::Nothing;
+    }
+    let span = round_down(minus(smaller(a.hi, n), a.lo), a.step);
+    Narrowed::Left(ended(a.step, a.lo, a.lo + span))
+}
+
+// The members from `n` on.
+fn at_least(a: NumberSet, n: u32) -> Narrowed
+    ensures { λ r. ⌜ r ≡ atLeast a n ⌝ }
+{
+    if a.hi < n {
+        return Narrowed::Nothing;
+    }
+    let span = round_down(minus(a.hi, larger(a.lo, n)), a.step);
+    Narrowed::Left(ended(a.step, a.hi - span, a.hi))
+}
+
+// The members below `n`.
+fn less_than(a: NumberSet, n: u32) -> Narrowed
+    ensures { λ r. ⌜ r ≡ lessThan a n ⌝ }
+{
+    if n == 0 {
+        return Narrowed::Nothing;
+    }
+    at_most(a, n - 1)
+}
+
+// The members above `n`.
+fn greater_than(a: NumberSet, n: u32) -> Narrowed
+    ensures { λ r. ⌜ r ≡ greaterThan a n ⌝ }
+{
+    if n == 4294967295 {
+        return Narrowed::Nothing;
+    }
+    at_least(a, n + 1)
+}
+
+// Whether `n` is one of the set.
+fn is_member(a: NumberSet, n: u32) -> bool
+    ensures { λ r. ⌜ r ≡ isMember a n ⌝ }
+{
+    let rest = remainder(minus(n, a.lo), a.step);
+    (a.lo <= n) & (n <= a.hi) & (rest == 0)
+}
+
+// The member `n` alone.
+fn only(a: NumberSet, n: u32) -> Narrowed
+    ensures { λ r. ⌜ r ≡ only a n ⌝ }
+{
+    if is_member(a, n) {
+        return Narrowed::Left(single(n));
+    }
+    Narrowed::Nothing
+}
+
+// The set without `n` where `n` is an end.
+fn without(a: NumberSet, n: u32) -> Narrowed
+    ensures { λ r. ⌜ r ≡ without a n ⌝ }
+{
+    if n == a.lo {
+        return greater_than(a, n);
+    }
+    if n == a.hi {
+        return less_than(a, n);
+    }
+    Narrowed::Left(a)
+}
+
+// What a condition of this class leaves of a set compared with `n`.
+pub fn narrow_set(class: Narrowing, a: NumberSet, n: u32) -> Narrowed
+    ensures { λ r. ⌜ r ≡ narrowSet class a n ⌝ }
+{
+    match class {
+        Narrowing::Unrelated => Narrowed::Left(a),
+        Narrowing::EqualTo => only(a, n),
+        Narrowing::NotEqualTo => without(a, n),
+        Narrowing::LessThan => less_than(a, n),
+        Narrowing::AtLeast => at_least(a, n),
+        Narrowing::AtMost => at_most(a, n),
+        Narrowing::GreaterThan => greater_than(a, n),
+    }
+}

@@ -1,0 +1,166 @@
+// What arithmetic, logic and shifts make of sets of numbers. (Document 01, "What each word does to a
+// row", rules 3, 5 and 6.)
+ghost use mathlib.Core.Path.{_≡_};
+ghost use Prim.Native.Nat.{_*_, _%_, _^_, _<_, min};
+ghost use Rattle.sets.specs.Rules.{within, addSets, subSets, andSets, aluSets, shiftedUp, sllSet, shiftedDown, sraSet, srlSet, shiftSet};
+use crate::NumberSet;
+use crate::form::ended;
+use crate::form::full;
+use crate::natural::smaller;
+use crate::natural::smaller_step;
+use v8::AluOp;
+use v8::ShiftOp;
+
+// The set with these ends, each 2^31 more than its excess form; full if one leaves signed 32 bits.
+fn within(step: u8, lo: u64, hi: u64) -> NumberSet
+    ensures { λ r. ⌜ r ≡ within step lo hi ⌝ }
+{
+    if lo < 2147483648 {
+        return full();
+    }
+    if hi < 2147483648 {
+        return full();
+    }
+    if 6442450944 <= lo {
+        return full();
+    }
+    if 6442450944 <= hi {
+        return full();
+    }
+    let low = (lo - 2147483648) as u32;
+    let high = (hi - 2147483648) as u32;
+    NumberSet {
+        step,
+        lo: low,
+        hi: high,
+    }
+}
+
+// ADD.
+pub fn add_sets(a: NumberSet, b: NumberSet) -> NumberSet
+    ensures { λ r. ⌜ r ≡ addSets a b ⌝ }
+{
+    let step = smaller_step(a.step, b.step);
+    let lo = a.lo as u64 + b.lo as u64;
+    let hi = a.hi as u64 + b.hi as u64;
+    within(step, lo, hi)
+}
+
+// SUB.
+pub fn sub_sets(a: NumberSet, b: NumberSet) -> NumberSet
+    ensures { λ r. ⌜ r ≡ subSets a b ⌝ }
+{
+    let step = smaller_step(a.step, b.step);
+    let lo = a.lo as u64 + 4294967296 - b.hi as u64;
+    let hi = a.hi as u64 + 4294967296 - b.lo as u64;
+    within(step, lo, hi)
+}
+
+// AND.
+fn and_sets(a: NumberSet, b: NumberSet) -> NumberSet
+    ensures { λ r. ⌜ r ≡ andSets a b ⌝ }
+{
+    if 2147483648 <= a.lo {
+        if 2147483648 <= b.lo {
+            return ended(1, 2147483648, smaller(a.hi, b.hi));
+        }
+        return ended(1, 2147483648, a.hi);
+    }
+    if 2147483648 <= b.lo {
+        return ended(1, 2147483648, b.hi);
+    }
+    full()
+}
+
+// What an operation makes of two sets.
+pub fn alu_sets(op: AluOp, a: NumberSet, b: NumberSet) -> NumberSet
+    ensures { λ r. ⌜ r ≡ aluSets op a b ⌝ }
+{
+    match op {
+        AluOp::Add => add_sets(a, b),
+        AluOp::And => and_sets(a, b),
+        AluOp::Or => full(),
+        AluOp::Xor => full(),
+        AluOp::Sub => sub_sets(a, b),
+        AluOp::Andn => full(),
+        AluOp::Orn => full(),
+        AluOp::Xnor => full(),
+    }
+}
+
+// An end times 2^s, 2^31 more than its excess form; 0 if it lies below the signed 32 bits.
+fn shifted_up(n: u32, s: u32) -> u64
+    requires { ⌜ s < 32 ⌝ }
+    ensures { λ r. ⌜ r ≡ shiftedUp n s ⌝ }
+{
+    let top = ((n as u64) << s) + 4294967296;
+    let low = 2147483648u64 << s;
+    if top < low { 0 } else { top - low }
+}
+
+// The step of a set shifted left.
+fn shifted_step(step: u8, s: u32) -> u8
+    requires { ⌜ s < 32 ⌝ }
+    ensures { λ r. ⌜ r ≡ min 8 (step * 2 ^ s) ⌝ }
+{
+    let t = (step as u64) << s;
+    if 8 < t { 8 } else { t as u8 }
+}
+
+// SLL by `s`.
+fn sll_set(a: NumberSet, s: u32) -> NumberSet
+    requires { ⌜ s < 32 ⌝ }
+    ensures { λ r. ⌜ r ≡ sllSet a s ⌝ }
+{
+    within(
+        shifted_step(a.step, s),
+        shifted_up(a.lo, s),
+        shifted_up(a.hi, s),
+    )
+}
+
+// An end divided by 2^s, rounding down.
+fn shifted_down(n: u32, s: u32) -> u32
+    requires { ⌜ s < 32 ⌝ }
+    ensures { λ r. ⌜ r ≡ shiftedDown n s ⌝ }
+{
+    (n >> s) + (2147483648 - (2147483648 >> s))
+}
+
+// SRA by `s`.
+fn sra_set(a: NumberSet, s: u32) -> NumberSet
+    requires { ⌜ s < 32 ⌝ }
+    ensures { λ r. ⌜ r ≡ sraSet a s ⌝ }
+{
+    ended(1, shifted_down(a.lo, s), shifted_down(a.hi, s))
+}
+
+// SRL by `s`.
+fn srl_set(a: NumberSet, s: u32) -> NumberSet
+    requires { ⌜ s < 32 ⌝ }
+    ensures { λ r. ⌜ r ≡ srlSet a s ⌝ }
+{
+    if 2147483648 <= a.lo {
+        return sra_set(a, s);
+    }
+    if s == 0 {
+        return full();
+    }
+    let hi = 2147483647 + (1 << (32 - s));
+    NumberSet {
+        step: 1,
+        lo: 2147483648,
+        hi,
+    }
+}
+
+// What a shift by a single count, of which the five low bits are used, makes of a set.
+pub fn shift_set(op: ShiftOp, a: NumberSet, count: u32) -> NumberSet
+    ensures { λ r. ⌜ r ≡ shiftSet op a (count % 32) ⌝ }
+{
+    match op {
+        ShiftOp::Sll => sll_set(a, count % 32),
+        ShiftOp::Srl => srl_set(a, count % 32),
+        ShiftOp::Sra => sra_set(a, count % 32),
+    }
+}
