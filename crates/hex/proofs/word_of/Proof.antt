@@ -1,8 +1,8 @@
--- `line::word_of` is safe and ends. The measure is how many digits are left. Assumes nothing.
+-- `word_of` is safe and ends. The measure is how many digits are left. Assumes nothing.
 use Prim.Native.Nat.{_≤_, _-_}
 use borrow.Author.Needs.{needs}
-use Rattle.listings.proofs.line.word_of.Statement.{statement}
-use Rattle.listings.proofs.line.word_of.Tie as tie
+use Rattle.hex.proofs.word_of.Statement.{statement}
+use Rattle.hex.proofs.word_of.Tie as tie
 
 abbrev Inv-loop : tie.InvT-loop
 Inv-loop line w₀ i₀ w i = i ≤ 8
