@@ -1,0 +1,96 @@
+// A case run by the machine and compared with what the emulator left.
+use crate::case::RETURNS;
+use crate::case::after;
+use crate::case::before;
+use crate::case::case_of;
+use alu::Codes;
+use machine::End;
+use machine::Outcome;
+use policy::Policy;
+use step::Registers;
+ghost use Prim.Native.Nat.{_≤_};
+ghost use lib.ListN.{length};
+
+// What a case shows.
+pub enum Verdict {
+    // The machine leaves what the emulator left.
+    Kept,
+    // The line is no case.
+    Malformed,
+    NotReturned,
+    OtherRegisters,
+    OtherCodes,
+}
+
+// More steps than any case runs.
+const ALLOWANCE: u64 = 1000;
+
+// The run of a case's routine, with no memory to reach.
+fn run_of(fields: &[u32], start: Registers) -> Outcome
+    requires { ⌜ 10 ≤ length (now fields) ⌝ }
+{
+    let bases = [0u32; 1];
+    let mut memory = [0u8; 1];
+    machine::run(
+        Policy::empty(),
+        &fields[..10],
+        &bases[..0],
+        RETURNS,
+        start,
+        ALLOWANCE,
+        &mut memory[..0],
+    )
+}
+
+// Whether two sets of registers hold the same, with the same marks.
+fn same_registers(a: Registers, b: Registers) -> bool {
+    let mut r = 0;
+    while r < 32 {
+        if a.values[r] != b.values[r] {
+            return false;
+        }
+        if a.marks[r] != b.marks[r] {
+            return false;
+        }
+        r += 1;
+    }
+    true
+}
+
+fn same_codes(a: Codes, b: Codes) -> bool {
+    (a.n == b.n) & (a.z == b.z) & (a.v == b.v) & (a.c == b.c)
+}
+
+fn has_returned(end: End) -> bool {
+    match end {
+        End::Returned => true,
+        End::Spent => false,
+        End::Fault(_) => false,
+        End::Refused(_) => false,
+    }
+}
+
+fn judge_case(fields: &[u32; 24]) -> Verdict {
+    let outcome = run_of(fields, before(fields));
+    let end = outcome.end;
+    let left = outcome.registers;
+    let expected = after(fields);
+    if !has_returned(end) {
+        return Verdict::NotReturned;
+    }
+    if !same_registers(left, expected) {
+        return Verdict::OtherRegisters;
+    }
+    if same_codes(left.codes, expected.codes) & left.coded {
+        return Verdict::Kept;
+    }
+    Verdict::OtherCodes
+}
+
+pub fn judge(line: &[u8; 216]) -> Verdict {
+    let case = case_of(line);
+    if case.well_formed {
+        return judge_case(&case.fields);
+    }
+    Verdict::Malformed
+}

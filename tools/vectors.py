@@ -1,0 +1,325 @@
+#!/usr/bin/env python3
+"""vectors.py SEED: test vectors of the program crates/vectors, made with an outside emulator.
+
+Needs qemu's user-mode SPARC and GNU binutils for SPARC (Debian: qemu-user and
+binutils-sparc64-linux-gnu). Writes the vectors to standard output, in the form that
+crates/vectors/src/case.rt states, and how many there are of each kind to standard error. The same
+seed gives the same vectors.
+
+A case is a routine of at most ten words with the start values of at most six registers and of the
+codes. All cases are assembled for 32-bit V8 into one program. For each case it sets the codes by a
+code-setting instruction, loads all registers, calls the routine, stores all registers and reads the
+codes by branches; at its end it writes all that to its standard output. The words of a vector are
+those in the linked program, its results what qemu left. The run fails where a routine leaves a
+register otherwise that the case does not name, the link register too.
+"""
+import collections
+import itertools
+import os
+import random
+import struct
+import subprocess
+import sys
+import tempfile
+
+AS = ["sparc64-linux-gnu-as", "-32", "-Av8"]
+LD = ["sparc64-linux-gnu-ld", "-m", "elf32_sparc", "-static"]
+OBJCOPY = ["sparc64-linux-gnu-objcopy", "-O", "binary", "-j", ".routines"]
+QEMU = ["qemu-sparc"]
+
+REGISTERS = ["%" + bank + str(k) for bank in "goli" for k in range(8)]
+# The registers that routines use: all but %g0, %g7, the stack, the link and %fp, which has the case's block.
+LINK = 15
+USED = [r for r in range(32) if r not in (0, 7, 14, LINK, 30)]
+PLAIN = "add and or xor sub andn orn xnor".split()
+SETTING = [op + "cc" for op in PLAIN]
+SHIFTS = "sll srl sra".split()
+BRANCHES = "bn be ble bl bleu bcs bneg bvs ba bne bg bge bgu bcc bpos bvc".split()
+CORNERS = [0, 1, 0xFFFFFFFF, 0x7FFFFFFF, 0x80000000]
+NUMBERS = [0, 1, -1, 4095, -4096]
+# The words of a case, and the registers that it names.
+WORDS, NAMED = 10, 6
+# A case's block, in bytes: 32 registers before, 32 after, and the codes.
+BLOCK = 4 * 65
+
+# How each setting of the codes NZVC is reached. No instruction of V8 sets both N and Z.
+CODES = {
+    0b0000: ("addcc", 1, 0),
+    0b0001: ("addcc", 0xFFFFFFFF, 2),
+    0b0010: ("subcc", 0x80000000, 1),
+    0b0011: ("addcc", 0x80000000, 0x80000001),
+    0b0100: ("addcc", 0, 0),
+    0b0101: ("addcc", 0xFFFFFFFF, 1),
+    0b0110: ("tsubcc", 1, 1),
+    0b0111: ("addcc", 0x80000000, 0x80000000),
+    0b1000: ("addcc", 0xFFFFFFFF, 0),
+    0b1001: ("subcc", 0, 1),
+    0b1010: ("addcc", 0x7FFFFFFF, 1),
+    0b1011: ("subcc", 0x7FFFFFFF, 0xFFFFFFFF),
+}
+
+Case = collections.namedtuple("Case", "kind texts start codes")
+
+
+def fail(message):
+    sys.exit("vectors.py: " + message)
+
+
+class Maker:
+    """Makes cases at random."""
+
+    def __init__(self, seed):
+        self.random = random.Random(seed)
+        self.cases = []
+
+    def pick(self, things):
+        return things[int(self.random.random() * len(things))]
+
+    def word(self):
+        return self.pick(CORNERS) if self.pick(range(4)) == 0 else int(self.random.random() * (1 << 32))
+
+    def number(self):
+        return self.pick(range(-4096, 4096))
+
+    def registers(self, count):
+        """Different registers."""
+        left = list(USED)
+        return [left.pop(int(self.random.random() * len(left))) for _ in range(count)]
+
+    def add(self, kind, texts, start, codes=None):
+        """A case with a return after the texts, unless they have one."""
+        texts = list(texts) if "retl" in texts else [*texts, "retl", "nop"]
+        if len(texts) > WORDS or len(start) > NAMED:
+            fail("a case is too long")
+        codes = self.pick(list(CODES)) if codes is None else codes
+        self.cases.append(Case(kind, texts, start, codes))
+
+
+# Single instructions.
+
+def three(op, rs1, operand, rd):
+    return f"{op} {REGISTERS[rs1]},{operand},{REGISTERS[rd]}"
+
+
+def alone(make, kind, text, start):
+    """An instruction before the return or in the return's slot."""
+    make.add(kind, [text] if make.pick(range(3)) else ["retl", text], start)
+
+
+def with_register(make, kind, op, x, y):
+    a, b, c = make.registers(3)
+    alone(make, kind, three(op, a, REGISTERS[b], c), {a: x, b: y, c: make.word()})
+
+
+def with_number(make, kind, op, x, number):
+    a, c = make.registers(2)
+    alone(make, kind, three(op, a, number, c), {a: x, c: make.word()})
+
+
+def in_place(make, kind, op):
+    """Registers that are one, and %g0 in each place."""
+    a, b = make.registers(2)
+    x, y = make.word(), make.word()
+    for rs1, rs2, rd in ((a, a, a), (a, b, a), (a, b, b), (a, a, b), (0, a, b), (a, 0, b), (a, b, 0), (0, 0, a), (0, a, 0)):
+        alone(make, kind, three(op, rs1, REGISTERS[rs2], rd), {a: x, b: y})
+
+
+def operations(make):
+    for kind, ops in (("plain operation", PLAIN), ("code-setting operation", SETTING)):
+        for op in ops:
+            for x, y in itertools.product(CORNERS, CORNERS):
+                with_register(make, kind, op, x, y)
+            for x, number in itertools.product(CORNERS, NUMBERS):
+                with_number(make, kind, op, x, number)
+            in_place(make, kind, op)
+            for _ in range(15):
+                with_register(make, kind, op, make.word(), make.word())
+                with_number(make, kind, op, make.word(), make.number())
+
+
+def shifts(make):
+    for op in SHIFTS:
+        for count in range(32):
+            with_number(make, "shift", op, make.word(), count)
+            with_register(make, "shift", op, make.word(), count)
+        for x, count in itertools.product(CORNERS, (0, 1, 31, 32, 33, 63, 0x80000000, 0xFFFFFFFF)):
+            with_register(make, "shift", op, x, count)
+        for x, count in itertools.product(CORNERS, (0, 1, 30, 31)):
+            with_number(make, "shift", op, x, count)
+        in_place(make, "shift", op)
+        for _ in range(20):
+            with_register(make, "shift", op, make.word(), make.word())
+
+
+def sethis(make):
+    numbers = [0, 1, 0x1FFFFF, 0x200000, 0x3FFFFF]
+    for value in numbers + [int(make.random.random() * (1 << 22)) for _ in range(60)]:
+        (a,) = make.registers(1)
+        alone(make, "sethi", f"sethi {value},{REGISTERS[a]}", {a: make.word()})
+    alone(make, "sethi", "sethi 77,%g0", {})
+
+
+# Branches. A word that runs leaves its mark.
+
+def branch(cond, annul, words):
+    return f"{BRANCHES[cond]}{',a' if annul else ''} .{4 * words:+d}"
+
+
+def marks(register):
+    """Words that each set a bit of a register."""
+    return (three("or", register, 1 << k, register) for k in range(12))
+
+
+def conditions(make):
+    """Each condition on each setting of the codes, and after SUBcc and ADDcc of the corners."""
+    for cond, annul, codes in itertools.product(range(16), (False, True), CODES):
+        (m,) = make.registers(1)
+        a, b, c = itertools.islice(marks(m), 3)
+        make.add("condition", [branch(cond, annul, 3), a, b, c], {m: 0}, codes)
+    for cond, (x, y) in itertools.product(range(16), itertools.product(CORNERS, CORNERS)):
+        for op, annul in (("subcc", make.pick((False, True))), (make.pick(SETTING), make.pick((False, True)))):
+            x, y = (x, y) if op == "subcc" else (make.word(), make.word())
+            p, q, m = make.registers(3)
+            a, b, c = itertools.islice(marks(m), 3)
+            compare = three(op, p, REGISTERS[q], make.pick((0, p)))
+            make.add("condition", [compare, branch(cond, annul, 3), a, b, c], {p: x, q: y, m: 0})
+
+
+def plain_word(make, registers, mark):
+    """A marking word, or now and then one that computes or sets the codes."""
+    a, b = registers
+    kind = make.pick(range(8))
+    if kind == 0:
+        return three(make.pick(SETTING), make.pick((a, b)), REGISTERS[make.pick((a, b))], make.pick((0, a, b)))
+    if kind == 1:
+        return three(make.pick(PLAIN), a, make.number(), b)
+    if kind == 2:
+        return three(make.pick(SHIFTS), b, make.pick(range(32)), a)
+    return mark
+
+
+def forward(make):
+    """A routine whose branches go forward, to words and to slots; no branch stands in a slot."""
+    a, b, m = make.registers(3)
+    size = make.pick((5, 6, 7, 8))
+    mark = marks(m)
+    texts = []
+    while len(texts) < size:
+        room = size - len(texts)
+        if room > 1 and make.pick(range(5)) < 3:
+            # The last target is the return.
+            texts.append(branch(make.pick(range(16)), make.pick((False, True)), make.pick(range(1, room + 1))))
+        texts.append(plain_word(make, (a, b), next(mark)))
+    texts += ["retl", next(mark)]
+    make.add("forward routine", texts, {a: make.word(), b: make.word(), m: 0})
+
+
+def backward(make):
+    """A loop on a counter, whose words count how often they run; a branch forward may stand in it."""
+    c, m, n = make.registers(3)
+    count = (three("add", r, 16**k, r) for r in (m, n) for k in range(3))
+    turns = make.pick(range(1, 6))
+    # Conditions that hold while the counter is above zero, and not for ever after.
+    again = make.pick([9, 10, 12]) if make.pick((0, 1)) else make.pick([11, 14, 13])
+    body = [next(count)]
+    if make.pick((0, 1)):
+        body += [branch(make.pick(range(16)), make.pick((False, True)), make.pick((1, 2))), next(count)]
+    body.append(three("subcc", c, 1, c))
+    body += [branch(again, make.pick((False, True)), -len(body)), next(count)]
+    before = [next(count)] if make.pick((0, 1)) else []
+    after = [next(count)] if make.pick((0, 1)) else []
+    make.add("loop", before + body + after + ["retl", next(count)], {c: turns, m: 0, n: 0})
+
+
+# Assembling, running.
+
+def harness(cases):
+    """The program that runs all cases."""
+    yield "\t.text\n\t.globl _start\n_start:\n"
+    for k, case in enumerate(cases):
+        op, x, y = CODES[case.codes]
+        yield f"\tset {x},%g1\n\tset {y},%g2\n\t{op} %g1,%g2,%g0\n\tset block{k},%fp\n"
+        yield from (f"\tld [%fp+{4 * r}],{REGISTERS[r]}\n" for r in USED)
+        yield f"link{k}:\n\tcall routine{k}\n\tnop\n"
+        yield from (f"\tst {REGISTERS[r]},[%fp+{128 + 4 * r}]\n" for r in [*USED, LINK])
+        yield "\taddx %g0,%g0,%g1\n"
+        for name, bit in (("bneg", 8), ("be", 4), ("bvs", 2)):
+            yield f"\t{name} 1f\n\tmov {bit},%g2\n\tmov 0,%g2\n1:\tor %g1,%g2,%g1\n"
+        yield "\tst %g1,[%fp+256]\n"
+    yield "\tset blocks,%o1\n1:\tmov 1,%o0\n\tset blocks_end,%o2\n\tsub %o2,%o1,%o2\n\tmov 4,%g1\n\tta 0x10\n"
+    yield "\tset blocks_end,%o2\n\tadd %o1,%o0,%o1\n\tcmp %o1,%o2\n\tblu 1b\n\tnop\n"
+    yield "\tmov 0,%o0\n\tmov 1,%g1\n\tta 0x10\n"
+    yield "\t.section .routines,\"ax\"\n"
+    for k, case in enumerate(cases):
+        padded = case.texts + ["nop"] * (WORDS - len(case.texts))
+        yield f"routine{k}:\n" + "".join(f"\t{text}\n" for text in padded)
+    yield "\t.data\n\t.align 8\nblocks:\n"
+    for k, case in enumerate(cases):
+        start = [case.start.get(r, unnamed(r)) for r in range(32)]
+        start[LINK] = f"link{k}"
+        yield f"block{k}:\n\t.word " + ",".join(map(str, start)) + f"\n\t.skip {BLOCK - 128}\n"
+    yield "blocks_end:\n"
+
+
+def unnamed(r):
+    """What a register holds that a case does not name."""
+    return 0xC0DE0000 + r
+
+
+def run(command, **more):
+    done = subprocess.run(command, capture_output=True, **more)
+    if done.returncode or done.stderr:
+        fail(f"{command[0]}: status {done.returncode}: {done.stderr.decode()[:2000]}")
+    return done.stdout
+
+
+def emulated(cases):
+    """The words of all routines, and the blocks that qemu left."""
+    with tempfile.TemporaryDirectory() as folder:
+        path = os.path.join(folder, "cases")
+        with open(path + ".s", "w") as out:
+            out.writelines(harness(cases))
+        run(AS + ["-o", path + ".o", path + ".s"])
+        run(LD + ["-o", path, path + ".o"])
+        run(OBJCOPY + [path, path + ".words"])
+        with open(path + ".words", "rb") as words:
+            return words.read(), run(QEMU + [path], timeout=60)
+
+
+def vector(case, words, block):
+    """A case's line."""
+    start, end, codes = block[:32], block[32:64], block[64]
+    wrong = [REGISTERS[r] for r in [*USED, LINK] if r not in case.start and end[r] != start[r]]
+    if wrong:
+        fail(f"{case.texts} changes {wrong}")
+    named = [*case.start] + [0] * (NAMED - len(case.start))
+    packed = struct.unpack(">2I", bytes([*named, case.codes, codes]))
+    values = [case.start.get(r, 0) for r in named] + [end[r] if r else 0 for r in named]
+    return " ".join(f"{w:08x}" for w in (*words, *packed, *values)) + "\n"
+
+
+def main():
+    if len(sys.argv) != 2:
+        sys.exit(__doc__)
+    make = Maker(int(sys.argv[1]))
+    operations(make)
+    shifts(make)
+    sethis(make)
+    conditions(make)
+    for _ in range(1300):
+        forward(make)
+    for _ in range(300):
+        backward(make)
+    cases = make.cases
+    words, blocks = emulated(cases)
+    if len(words) != 4 * WORDS * len(cases) or len(blocks) != BLOCK * len(cases):
+        fail("the program is not as long as its cases")
+    words = struct.iter_unpack(f">{WORDS}I", words)
+    blocks = struct.iter_unpack(f">{BLOCK // 4}I", blocks)
+    sys.stdout.writelines(map(vector, cases, words, blocks))
+    for kind, count in collections.Counter(case.kind for case in cases).items():
+        print(f"{count} {kind}", file=sys.stderr)
+
+
+if __name__ == "__main__":
+    main()
