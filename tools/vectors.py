@@ -4,7 +4,7 @@
 Needs qemu's user-mode SPARC and GNU binutils for SPARC (Debian: qemu-user and
 binutils-sparc64-linux-gnu). Writes the vectors to standard output, in the form that
 crates/vectors/src/case.rt states, and how many there are of each kind to standard error. The same
-seed gives the same vectors.
+seed gives the same vectors: crates/vectors/stdin is what seed 8 gives.
 
 A case is a routine of at most ten words with the start values of at most six registers and of the
 codes. All cases are assembled for 32-bit V8 into one program. For each case it sets the codes by a
@@ -214,21 +214,37 @@ def forward(make):
     make.add("forward routine", texts, {a: make.word(), b: make.word(), m: 0})
 
 
-def backward(make):
-    """A loop on a counter, whose words count how often they run; a branch forward may stand in it."""
+def counters(m, n):
+    """Words that count how often they run, at most 15 times each, in digits of two registers."""
+    return (three("add", r, 16**k, r) for r in (m, n) for k in range(3))
+
+
+def ended_below(make):
+    """A loop with its test at the end; a branch forward may stand in it."""
     c, m, n = make.registers(3)
-    count = (three("add", r, 16**k, r) for r in (m, n) for k in range(3))
-    turns = make.pick(range(1, 6))
-    # Conditions that hold while the counter is above zero, and not for ever after.
-    again = make.pick([9, 10, 12]) if make.pick((0, 1)) else make.pick([11, 14, 13])
+    count = counters(m, n)
+    # The first three hold while the counter is above zero, the others for one turn more.
+    again = make.pick((9, 10, 12, 11, 14, 13))
+    before = [next(count)] if make.pick((0, 1)) else []
     body = [next(count)]
     if make.pick((0, 1)):
         body += [branch(make.pick(range(16)), make.pick((False, True)), make.pick((1, 2))), next(count)]
     body.append(three("subcc", c, 1, c))
     body += [branch(again, make.pick((False, True)), -len(body)), next(count)]
-    before = [next(count)] if make.pick((0, 1)) else []
     after = [next(count)] if make.pick((0, 1)) else []
-    make.add("loop", before + body + after + ["retl", next(count)], {c: turns, m: 0, n: 0})
+    make.add("loop", before + body + after + ["retl", next(count)], {c: make.pick(range(1, 6)), m: 0, n: 0})
+
+
+def ended_above(make):
+    """A loop with its test at the start, closed by a branch that is always taken."""
+    c, m, n = make.registers(3)
+    count = counters(m, n)
+    # The first three hold once the counter is zero, the others a turn later.
+    out = make.pick((1, 2, 4, 3, 5, 6))
+    before = [next(count)] if make.pick((0, 1)) else []
+    body = [three("subcc", c, 1, c), branch(out, make.pick((False, True)), 5), next(count), next(count)]
+    body += [branch(8, make.pick((False, True)), -4), next(count)]
+    make.add("loop", before + body + ["retl", next(count)], {c: make.pick(range(1, 6)), m: 0, n: 0})
 
 
 # Assembling, running.
@@ -308,8 +324,9 @@ def main():
     conditions(make)
     for _ in range(1300):
         forward(make)
-    for _ in range(300):
-        backward(make)
+    for _ in range(250):
+        ended_below(make)
+        ended_above(make)
     cases = make.cases
     words, blocks = emulated(cases)
     if len(words) != 4 * WORDS * len(cases) or len(blocks) != BLOCK * len(cases):
