@@ -11,6 +11,7 @@ mod rules;
 // Narrowing by a comparison.
 mod narrow;
 
+pub use form::ended;
 pub use form::fits_set;
 pub use form::full;
 pub use form::set_ok;

@@ -1,0 +1,10 @@
+pub mod Tests
+pub mod FormKinds
+pub mod FitKinds
+pub mod ReadRows
+pub mod RowFit
+pub mod ByKind
+pub mod Fitting
+pub mod Order
+pub mod RowFitting
+pub mod Obeying

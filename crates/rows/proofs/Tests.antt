@@ -1,0 +1,32 @@
+-- What tests that passed say: which of two did, and that both did; and that an entry has one kind.
+use Prim.Native.Nat.{ℕ, _+_, _≤_, _<_}
+use mathlib.Core.Path.{_≡_, refl, sym, _∙_}
+use mathlib.Core.Bool.{Bool, true, false, _&&_, _||_, cond}
+use native.Mathlib.Omega.{arith}
+use lib.Dec.{eqb}
+use borrow.Author.Tests.{eqb-true, ne-eqb}
+
+pub or-went : {C : Type 0} (a b : Bool) → a || b ≡ true → (a ≡ true → C) → (b ≡ true → C) → C
+or-went true b e f g = f refl
+or-went false b e f g = g e
+
+pub false-true : {C : Type 0} → false ≡ true → C
+false-true e = let z : _≡_ {A = ℕ} 0 1 = cc in absurd (omega arith)
+
+pub and-went : (a b : Bool) → a && b ≡ true → (a ≡ true) × (b ≡ true)
+and-went true b e = (refl, e)
+and-went false b e = false-true e
+
+pub true-or : (a b : Bool) → a ≡ true → a || b ≡ true
+true-or a b e = rw e
+
+pub or-true : (a b : Bool) → b ≡ true → a || b ≡ true
+or-true true b e = refl
+or-true false b e = e
+
+-- one number is not two
+pub one-kind : {C : Type 0} (k a b : ℕ) → eqb k a ≡ true → eqb k b ≡ true → (a ≡ b → ⊥) → C
+one-kind k a b p q ne = absurd (ne (sym (eqb-true k a p) ∙ eqb-true k b q))
+
+pub other-kind : (k a b : ℕ) → eqb k a ≡ true → (a ≡ b → ⊥) → eqb k b ≡ false
+other-kind k a b p ne = ne-eqb k b (λ q. ne (sym (eqb-true k a p) ∙ q))

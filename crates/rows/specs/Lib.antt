@@ -1,0 +1,4 @@
+pub mod Entry
+pub mod Row
+pub mod Matches
+pub mod Laws

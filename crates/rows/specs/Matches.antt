@@ -1,0 +1,62 @@
+-- When registers, codes and fields hold what rows and policy say (document 01, "Machine run": "A register matches an entry if the entry is
+-- unset, or the register is set and holds one of the entry's values (kind 4: the return address)"; "Codes match note 0 always, note 1 if
+-- set, note 2 if set and as it says").
+use Prim.Native.Nat.{ℕ, _+_, _*_, _≤_, _<_}
+use mathlib.Core.Path.{_≡_}
+use mathlib.Core.Logic.{_⊎_}
+use mathlib.Core.Bool.{Bool, true, false}
+use mathlib.Core.List.{List}
+use lib.Dec.{eqb}
+use lib.ListN.{getD}
+use Rattle.v8.specs.Signed.{excess}
+use Rattle.v8.specs.declared.AluOp.the-variants.{Sub}
+use Rattle.alu.specs.declared.codes.Codes.{Codes}
+use Rattle.alu.specs.Codes.{codesOf}
+use Rattle.sets.specs.Sets.{Member}
+use Rattle.sets.specs.Laws.{Offset}
+use Rattle.rows.specs.declared.Entry.{Entry}
+use Rattle.rows.specs.declared.Note.{Note}
+use Rattle.rows.specs.declared.Row.{Row}
+use Rattle.rows.specs.Entry.{isUnset, isNumber, isAddress, isStartOrNull, isReturn, isComparison}
+use Rattle.rows.specs.Row.{entryAt}
+
+-- what the host has chosen: where each region starts, and the return address
+pub record Host : Type 0 where
+  pub bases : List ℕ
+  pub returns : ℕ
+
+-- where region r starts
+abbrev pub baseOf : Host → ℕ → ℕ
+baseOf h r = getD (h .bases) r 0
+
+-- a word is one of the entry's values
+pub record Holds (h : Host) (e : Entry) (v : ℕ) : Type 0 where
+  -- "1 number: one of lo, lo+step, .., hi, read signed"
+  pub number : isNumber e ≡ true → Member (e .set) (excess v)
+  -- "2 address: region start plus an offset from the same sort of set"
+  pub address : isAddress e ≡ true → Offset (baseOf h (e .region)) (e .set) v
+  -- "3 address of a region's start, or null"
+  pub start : isStartOrNull e ≡ true → (v ≡ 0) ⊎ (v ≡ baseOf h (e .region))
+  -- "4 return address"
+  pub link : isReturn e ≡ true → v ≡ h .returns
+
+-- a register, marked set or not, matches an entry
+abbrev pub Matches : Host → Entry → Bool → ℕ → Type 0
+Matches h e mark v = isUnset e ≡ false → (mark ≡ true) × Holds h e v
+
+-- what registers and codes hold: the value and the mark of each register, the codes and theirs
+pub record Held : Type 0 where
+  pub value : ℕ → ℕ
+  pub mark : ℕ → Bool
+  pub codes : Codes
+  pub coded : Bool
+
+-- the codes match a note
+pub record NoteMatches (n : Note) (g : Held) : Type 0 where
+  pub coded : eqb (n .kind) 0 ≡ false → g .coded ≡ true
+  pub compared : isComparison n ≡ true → g .codes ≡ codesOf Sub (g .value (n .register)) (excess (n .number))
+
+-- registers and codes match a row
+pub record RowMatches (h : Host) (row : Row) (g : Held) : Type 0 where
+  pub entries : (r : ℕ) → Matches h (entryAt row r) (g .mark r) (g .value r)
+  pub note : NoteMatches (row .note) g

@@ -1,0 +1,206 @@
+// Entries: the kinds, an entry of each, their form, and when one fits another (specs/Entry.antt).
+ghost use mathlib.Core.Path.{_≡_};
+ghost use Prim.Native.Nat.{_≤_};
+ghost use Rattle.v8.specs.Signed.{excess};
+ghost use Rattle.rows.specs.Entry.{noEntry, numberIn, addressIn, startOrNull, constant, startOf, isBlank, isConstant, onlyNought, isZero, isStartOf, sizeIn, entryOk, fits, fieldEntry};
+use crate::Entry;
+use policy::Field;
+use policy::element::NOUGHT;
+use sets::NumberSet;
+use sets::ended;
+use sets::fits_set;
+use sets::set_ok;
+use sets::single;
+
+// Nothing is known of the register.
+pub const UNSET: u8 = 0;
+// A number of the set.
+pub const NUMBER: u8 = 1;
+// The address of the region's start plus an offset of the set.
+pub const ADDRESS: u8 = 2;
+// The address of the region's start, or null.
+pub const START_OR_NULL: u8 = 3;
+// The return address.
+pub const RETURN_ADDRESS: u8 = 4;
+
+// The excess form of a word.
+pub fn excess(x: u32) -> u32
+    ensures { λ r. ⌜ r ≡ excess x ⌝ }
+{
+    if x < NOUGHT { x + NOUGHT } else { x - NOUGHT }
+}
+
+// The entry of a register of which nothing is known.
+pub fn no_entry() -> Entry
+    ensures { λ r. ⌜ r ≡ noEntry ⌝ }
+{
+    let set = NumberSet {
+        step: 0,
+        lo: 0,
+        hi: 0,
+    };
+    Entry {
+        kind: UNSET,
+        region: 0,
+        set,
+    }
+}
+
+// A number of this set.
+pub fn number_in(s: NumberSet) -> Entry
+    ensures { λ r. ⌜ r ≡ numberIn s ⌝ }
+{
+    Entry {
+        kind: NUMBER,
+        region: 0,
+        set: s,
+    }
+}
+
+// The address of a region's start plus an offset of this set.
+pub fn address_in(r: u8, s: NumberSet) -> Entry
+    ensures { λ res. ⌜ res ≡ addressIn r s ⌝ }
+{
+    Entry {
+        kind: ADDRESS,
+        region: r,
+        set: s,
+    }
+}
+
+// The address of a region's start, or null.
+pub fn start_or_null(r: u8) -> Entry
+    ensures { λ res. ⌜ res ≡ startOrNull r ⌝ }
+{
+    let blank = NumberSet {
+        step: 0,
+        lo: NOUGHT,
+        hi: NOUGHT,
+    };
+    Entry {
+        kind: START_OR_NULL,
+        region: r,
+        set: blank,
+    }
+}
+
+// The single number that a word stands for.
+pub fn constant(word: u32) -> Entry
+    ensures { λ r. ⌜ r ≡ constant word ⌝ }
+{
+    number_in(single(excess(word)))
+}
+
+// The start of a region.
+pub fn region_start(r: u8) -> Entry
+    ensures { λ res. ⌜ res ≡ startOf r ⌝ }
+{
+    address_in(r, single(NOUGHT))
+}
+
+// Whether the entry is a single number.
+pub fn is_constant(e: Entry) -> bool
+    ensures { λ r. ⌜ r ≡ isConstant e ⌝ }
+{
+    (e.kind == NUMBER) & (e.set.lo == e.set.hi)
+}
+
+// Whether the set is 0 alone.
+fn only_nought(s: NumberSet) -> bool
+    ensures { λ r. ⌜ r ≡ onlyNought s ⌝ }
+{
+    (s.lo == NOUGHT) & (s.hi == NOUGHT)
+}
+
+// Whether the entry is the single number 0.
+pub fn is_zero(e: Entry) -> bool
+    ensures { λ r. ⌜ r ≡ isZero e ⌝ }
+{
+    (e.kind == NUMBER) & only_nought(e.set)
+}
+
+// Whether the entry is the start of this region.
+pub fn is_start_of(r: u8, e: Entry) -> bool
+    ensures { λ res. ⌜ res ≡ isStartOf r e ⌝ }
+{
+    (e.kind == ADDRESS) & (e.region == r) & only_nought(e.set)
+}
+
+// The size of a region; there is none above 7.
+pub fn size_in(sizes: &[u16; 8], r: u8) -> u32
+    ensures { λ res. ⌜ (res ≡ sizeIn (now (sizes .entry)) r) × (res ≤ 65535) ⌝ }
+{
+    if r < 8 {
+        return wide(sizes[r as usize]);
+    }
+    0
+}
+
+// A size as a number of bytes.
+fn wide(size: u16) -> u32
+    ensures { λ r. ⌜ (r ≡ size) × (r ≤ 65535) ⌝ }
+{
+    size as u32
+}
+
+// Whether the set's fields are those of a kind that has no set.
+fn is_blank(s: NumberSet) -> bool
+    ensures { λ r. ⌜ r ≡ isBlank s ⌝ }
+{
+    (s.step == 0) & (s.lo == NOUGHT) & (s.hi == NOUGHT)
+}
+
+// Whether an entry is well formed, where there are this many regions of these sizes.
+pub fn entry_ok(regions: u8, sizes: &[u16; 8], e: Entry) -> bool
+    ensures { λ r. ⌜ r ≡ entryOk regions (now (sizes .entry)) e ⌝ }
+{
+    let kind = e.kind;
+    if kind == NUMBER {
+        return (e.region == 0) & set_ok(e.set);
+    }
+    if kind == ADDRESS {
+        let size = size_in(sizes, e.region);
+        let formed = set_ok(e.set);
+        return (e.region < regions) & formed & (NOUGHT <= e.set.lo) & (e.set.hi <= NOUGHT + size);
+    }
+    if kind == START_OR_NULL {
+        return (e.region < regions) & is_blank(e.set);
+    }
+    ((kind == UNSET) | (kind == RETURN_ADDRESS)) & (e.region == 0) & is_blank(e.set)
+}
+
+// Whether what a register holds by entry `a` obeys entry `b`.
+pub fn fits(a: Entry, b: Entry) -> bool
+    ensures { λ r. ⌜ r ≡ fits a b ⌝ }
+{
+    let held = a.kind;
+    let asked = b.kind;
+    if asked == UNSET {
+        return true;
+    }
+    if asked == NUMBER {
+        return (held == NUMBER) & fits_set(a.set, b.set);
+    }
+    if asked == ADDRESS {
+        return (held == ADDRESS) & (a.region == b.region) & fits_set(a.set, b.set);
+    }
+    if asked == START_OR_NULL {
+        let zero = is_zero(a);
+        let start = is_start_of(b.region, a);
+        return (held == START_OR_NULL) & (a.region == b.region) | (zero | start);
+    }
+    (held == RETURN_ADDRESS) & (asked == RETURN_ADDRESS)
+}
+
+// What a load of a field gives.
+pub fn field_entry(f: Field) -> Entry
+    ensures { λ r. ⌜ r ≡ fieldEntry f ⌝ }
+{
+    if f.element < 6 {
+        return number_in(ended(1, f.lo, f.hi));
+    }
+    if f.element == 6 {
+        return region_start(f.target);
+    }
+    start_or_null(f.target)
+}

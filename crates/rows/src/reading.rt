@@ -1,0 +1,92 @@
+// Entries, notes and rows, read from bytes (specs/Row.antt).
+ghost use mathlib.Core.Path.{_≡_};
+ghost use Prim.Native.Nat.{_+_, _≤_};
+ghost use lib.ListN.{length};
+ghost use Rattle.v8.specs.Signed.{excess};
+ghost use Rattle.memory.specs.Memory.{wordAt};
+ghost use Rattle.rows.specs.Row.{entryOf, entryFormed, noteOf, noteFormed, rowOf};
+use crate::Entry;
+use crate::Note;
+use crate::Row;
+use crate::entries::entry_ok;
+use crate::entries::excess;
+use crate::entries::no_entry;
+use crate::notes::note_ok;
+use memory::load;
+use sets::NumberSet;
+use v8::LoadOp;
+
+// The signed number at a place, in excess form.
+fn number_at(bytes: &[u8], at: usize) -> u32
+    requires { ⌜ at + 4 ≤ length (now bytes) ⌝ }
+    ensures { λ r. ⌜ r ≡ excess (wordAt (now (bytes .entry)) at) ⌝ }
+{
+    excess(load(LoadOp::Ld, bytes, at))
+}
+
+// The entry at a place.
+pub fn read_entry(bytes: &[u8], at: usize) -> Entry
+    requires { ⌜ at + 12 ≤ length (now bytes) ⌝ }
+    ensures { λ r. ⌜ r ≡ entryOf (now (bytes .entry)) at ⌝ }
+{
+    let kind = bytes[at];
+    let region = bytes[at + 1];
+    let step = bytes[at + 2];
+    let lo = number_at(bytes, at + 4);
+    let hi = number_at(bytes, at + 8);
+    let set = NumberSet { step, lo, hi };
+    Entry { kind, region, set }
+}
+
+// Whether the entry at a place is well formed, its zero byte too.
+pub fn entry_formed(regions: u8, sizes: &[u16; 8], bytes: &[u8], at: usize) -> bool
+    requires { ⌜ at + 12 ≤ length (now bytes) ⌝ }
+    ensures { λ r. ⌜ r ≡ entryFormed regions (now (sizes .entry)) (now (bytes .entry)) at ⌝ }
+{
+    let zero = bytes[at + 3];
+    let e = read_entry(bytes, at);
+    (zero == 0) & entry_ok(regions, sizes, e)
+}
+
+// The note at a place.
+pub fn read_note(bytes: &[u8], at: usize) -> Note
+    requires { ⌜ at + 8 ≤ length (now bytes) ⌝ }
+    ensures { λ r. ⌜ r ≡ noteOf (now (bytes .entry)) at ⌝ }
+{
+    let kind = bytes[at];
+    let register = bytes[at + 1];
+    let number = number_at(bytes, at + 4);
+    Note {
+        kind,
+        register,
+        number,
+    }
+}
+
+// Whether the note at a place is well formed, its zero bytes too.
+pub fn note_formed(bytes: &[u8], at: usize) -> bool
+    requires { ⌜ at + 8 ≤ length (now bytes) ⌝ }
+    ensures { λ r. ⌜ r ≡ noteFormed (now (bytes .entry)) at ⌝ }
+{
+    let third = bytes[at + 2];
+    let fourth = bytes[at + 3];
+    let n = read_note(bytes, at);
+    (third == 0) & (fourth == 0) & note_ok(n)
+}
+
+// The row at a place.
+pub fn read_row(bytes: &[u8], at: usize) -> Row
+    requires { ⌜ at + 392 ≤ length (now bytes) ⌝ }
+    ensures { λ r. ⌜ r ≡ rowOf (now (bytes .entry)) at ⌝ }
+{
+    let none = no_entry();
+    let mut entries = [none; 32];
+    let mut r = 0;
+    while r < 32 {
+        let e = read_entry(bytes, at + 12 * r);
+        entries[r] = e;
+        r += 1;
+    }
+    let note = read_note(bytes, at + 384);
+    Row { entries, note }
+}
