@@ -1,0 +1,122 @@
+-- What an accepted check shows: of passes in a row each accepts, of a pass over the words each word does.
+use Prim.Native.Nat.{ℕ, _+_, _*_, _≤_, _<_}
+use mathlib.Core.Path.{_≡_, refl, sym, ap, _∙_, subst}
+use mathlib.Core.Bool.{Bool, true, false, not, cond, _&&_, and-false}
+use mathlib.Core.List.{List}
+use native.Mathlib.Omega.{arith}
+use lib.Dec.{leb, ltb, eqb}
+use lib.ListN.{length}
+use borrow.Author.Tests.{ltb-true, ltb-false, eqb-true}
+use Rattle.v8.specs.Choice.{cond-both}
+use Rattle.v8.specs.Search.{first, first-passes, first-least, needed, needed-le, needed-eq}
+use Rattle.policy.specs.declared.Policy.{Policy}
+use Rattle.policy.specs.Policy.{policyOk}
+use Rattle.rows.specs.Row.{entryFormed, formFault, misfit, places}
+use Rattle.rows.proofs.Tests.{false-true}
+use Rattle.checker.specs.declared.Answer.{Answer}
+use Rattle.checker.specs.Answer.{accepted, refuse, passes, andThen, need, refuses, passOf}
+use Rattle.checker.specs.Routine.{Routine, routineOf, count, wordAt, rowAt, entryRow, examined, rowBytes, entryBytes}
+use Rattle.checker.specs.Passes.{unlessFault, policyPass, shapeOk, shapePass, rowPass, isRead, readPass, flowOf, flowPass, entryPass, applied, edges, wordPass, answerOf, checkOf, badPolicy, badShape, badRow, unreadWord, badFlow, entryMisfit}
+use Rattle.checker.specs.Laws.{Checked, Accepts}
+
+-- both of two passes accept
+pub both-pass : (a b : Answer) → passes (andThen a b) ≡ true → (passes a ≡ true) × (passes b ≡ true)
+both-pass a b e = at (passes a) refl e
+  where
+    at : (t : Bool) → passes a ≡ t → passes (cond t b a) ≡ true → (passes a ≡ true) × (passes b ≡ true)
+    at true t e = (t, e)
+    at false t e = false-true (sym t ∙ e)
+
+-- a condition that passed holds
+pub need-holds : (t : Bool) (number w r : ℕ) → eqb number 0 ≡ false → passes (need t number w r) ≡ true → t ≡ true
+need-holds true number w r z e = refl
+need-holds false number w r z e = false-true (sym z ∙ e)
+
+-- a search that passed found no fault
+pub no-fault : (number w r : ℕ) → eqb number 0 ≡ false → passes (unlessFault number w r) ≡ true → places ≤ r
+no-fault number w r z e = at (ltb r places) refl e
+  where
+    at : (t : Bool) → ltb r places ≡ t → passes (cond t (refuse number w r) accepted) ≡ true → places ≤ r
+    at true t e = false-true (sym z ∙ e)
+    at false t e = ltb-false r places t
+
+-- a pass over the words that accepts accepts each
+pub each-passes : (f : ℕ → Answer) (n : ℕ) → passes (passOf f n) ≡ true → (w : ℕ) → w < n → passes (f w) ≡ true
+unfolding passOf
+each-passes f n e w l = at (ltb (first (refuses f) 0 n) n) refl e
+  where
+    so : (t : Bool) → not t ≡ false → t ≡ true
+    so true q = refl
+    so false q = sym q
+
+    clash : (t : Bool) → not t ≡ true → t ≡ true → passes (f w) ≡ true
+    clash true q r = false-true q
+    clash false q r = false-true r
+
+    at : (t : Bool) → ltb (first (refuses f) 0 n) n ≡ t → passes (cond t (f (first (refuses f) 0 n)) accepted) ≡ true → passes (f w) ≡ true
+    at true t e = clash (passes (f (first (refuses f) 0 n))) (first-passes (refuses f) 0 n (ltb-true (first (refuses f) 0 n) n t)) e
+    at false t e = so (passes (f w)) (first-least (refuses f) 0 n w (omega arith) (omega (arith, ltb-false (first (refuses f) 0 n) n t)))
+
+module _ (t : Routine) where
+  row-formed : (w : ℕ) → passes (rowPass t w) ≡ true → places ≤ formFault (t .policy .regions) (t .policy .sizes) (t .rows) (rowBytes * w)
+  unfolding rowPass
+  row-formed w e = no-fault badRow w (formFault (t .policy .regions) (t .policy .sizes) (t .rows) (rowBytes * w)) refl e
+
+  word-read : (w : ℕ) → passes (readPass t w) ≡ true → isRead t (wordAt t w) ≡ true
+  unfolding readPass
+  word-read w e = need-holds (isRead t (wordAt t w)) unreadWord w 0 refl e
+
+  word-flows : (w : ℕ) → passes (flowPass t w) ≡ true → flowOf t w (wordAt t w) ≡ true
+  unfolding flowPass
+  word-flows w e = need-holds (flowOf t w (wordAt t w)) badFlow w 0 refl e
+
+  entry-fits : passes (entryPass t) ≡ true → places ≤ misfit (entryRow t) (rowAt t 0)
+  unfolding entryPass
+  entry-fits e = no-fault entryMisfit 0 (misfit (entryRow t) (rowAt t 0)) refl e
+
+  word-passes : (w : ℕ) → passes (wordPass t w) ≡ true → examined t w ≡ true → passes (applied t w (rowAt t w) (edges t w (wordAt t w))) ≡ true
+  unfolding wordPass
+  word-passes w e x = rw x at e
+
+  record Shape : Type 0 where
+    some : 1 ≤ count t
+    most : count t ≤ 128
+    entry : formFault (t .policy .regions) (t .policy .sizes) (t .entry) 0 ≡ places
+    result : entryFormed (t .policy .regions) (t .policy .sizes) (t .result) 0 ≡ true
+
+  shape : shapeOk t ≡ true → Shape
+  unfolding shapeOk
+  shape e =
+      record {
+        some = needed-le (shapeOk t) 1 (count t) e (λ f. simp f);
+        most = needed-le (shapeOk t) (count t) 128 e (λ f. simp (f, and-false));
+        entry = needed-eq (shapeOk t) (formFault (t .policy .regions) (t .policy .sizes) (t .entry) 0) places e (λ f. simp (f, and-false));
+        result = needed (shapeOk t) (entryFormed (t .policy .regions) (t .policy .sizes) (t .result) 0) e (λ f. rw (f, and-false));
+      }
+
+  pub checked : passes (answerOf t) ≡ true → Checked t
+  unfolding answerOf
+  checked e =
+      let a = both-pass (policyPass t) _ e in
+      let b = both-pass (shapePass t) _ (a .1) in
+      let c = both-pass (passOf (rowPass t) (count t)) _ (b .1) in
+      let d = both-pass (passOf (readPass t) (count t)) _ (c .1) in
+      let f = both-pass (passOf (flowPass t) (count t)) _ (d .1) in
+      let g = both-pass (entryPass t) (passOf (wordPass t) (count t)) (f .1) in
+      let s = shape (need-holds (shapeOk t) badShape 0 0 refl (b .0)) in
+      record {
+        policy = need-holds (policyOk (t .policy)) badPolicy 0 0 refl (a .0);
+        some = s .some;
+        most = s .most;
+        entry-formed = omega (arith, s .entry);
+        result-formed = s .result;
+        rows-formed = λ w l. row-formed w (each-passes (rowPass t) (count t) (c .0) w l);
+        reads = λ w l. word-read w (each-passes (readPass t) (count t) (d .0) w l);
+        flows = λ w l. word-flows w (each-passes (flowPass t) (count t) (f .0) w l);
+        entry = entry-fits (g .0);
+        words = λ w l x. word-passes w (each-passes (wordPass t) (count t) (g .1) w l) x;
+      }
+
+pub accepts : Accepts
+unfolding checkOf
+accepts p words rows entry result e = checked (routineOf p words rows entry result) (ap passes e)

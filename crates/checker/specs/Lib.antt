@@ -1,0 +1,4 @@
+pub mod Answer
+pub mod Routine
+pub mod Passes
+pub mod Laws

@@ -1,0 +1,11 @@
+// The check of a routine: each pass of document 01 in its order, and the answer. (Document 01, "Order
+// of the check, and its numbers".)
+use v8::WordIndex;
+
+// An answer: the number of the first condition that is broken, the word and the register named;
+// accepted is 0 0 0.
+pub struct Answer {
+    pub number: u8,
+    pub word: WordIndex,
+    pub register: u8,
+}

@@ -1,0 +1,10 @@
+pub mod Writing
+pub mod Placed
+pub mod Numbers
+pub mod Computed
+pub mod Elements
+pub mod Stored
+pub mod Accessed
+pub mod Stepping
+pub mod Running
+pub mod Whole

@@ -1,0 +1,108 @@
+-- Demand 3, the running guarantee: "one claim about the whole run, not one for each step: for every input that demand 2's check answers with
+-- 0 0 0, every matching start and every allowance, 0 too". `RunningGuarantee`, at the end, is the claim; its proof is
+-- proofs/Whole.antt's `running-guarantee`.
+use Prim.Native.Nat.{ℕ, suc, _+_, _-_, _<_}
+use mathlib.Core.Path.{_≡_}
+use mathlib.Core.Bool.{Bool, true, false}
+use mathlib.Core.List.{List, []}
+use lib.ListN.{length, getD}
+use Rattle.policy.specs.declared.Policy.{Policy}
+use Rattle.alu.specs.declared.codes.Codes.{Codes}
+use Rattle.memory.specs.Memory.{Bytes}
+use Rattle.step.specs.declared.Registers.{Registers}
+use Rattle.step.specs.Registers.{valueOf, isSet}
+use Rattle.step.specs.Setting.{Setting, readingAt}
+use Rattle.step.specs.Transfer.{goTo}
+use Rattle.step.specs.Effect.{Core}
+use Rattle.step.specs.Step.{State, Step, stopped, next, returned, stepOf}
+use Rattle.machine.specs.declared.End.{End}
+use Rattle.machine.specs.declared.End.the-variants.{Returned, Spent, Fault, Refused}
+use Rattle.machine.specs.Placement.{placedIn}
+use Rattle.machine.specs.Run.{Run, settingOf, startState, runOf, traceFrom}
+use Rattle.rows.specs.declared.Entry.{Entry}
+use Rattle.rows.specs.Row.{entryOf, rowOf}
+use Rattle.rows.specs.Matches.{Host, Matches, Held, RowMatches}
+use Rattle.checker.specs.Answer.{accepted}
+use Rattle.checker.specs.Passes.{checkOf, resultRegister}
+use Rattle.guarantee.specs.Fields.{Declared, Framed}
+use Rattle.guarantee.specs.Safe.{ReadingSafe}
+
+-- what the host has chosen
+abbrev pub hostOf : List ℕ → ℕ → Host
+hostOf bases returns = record { bases = bases; returns = returns }
+
+-- what the registers and codes of the machine hold; "r0 counts as a set zero"
+abbrev pub heldOf : Registers → Held
+heldOf g = record { value = valueOf g; mark = isSet g; codes = g .codes; coded = g .coded }
+
+-- 32 registers of 32 bits, each with its mark
+pub record Words (g : Registers) : Type 0 where
+  pub values : length (g .values) ≡ 32
+  pub marks : length (g .marks) ≡ 32
+  pub small : (r : ℕ) → getD (g .values) r 0 < 4294967296
+
+-- "A start matches if 22 finds nothing wrong in it, registers and codes match the entry row, and readable fields (permission 1 or 3) match,
+-- that is hold declared values."
+pub record Start (p : Policy) (entry bases : List ℕ) (returns : ℕ) (g : Registers) (memory : List ℕ) : Type 0 where
+  pub words : Words g
+  pub bytes : Bytes memory
+  pub placed : placedIn (p .regions) (p .sizes) bases returns memory ≡ true
+  pub row : RowMatches (hostOf bases returns) (rowOf entry 0) (heldOf g)
+  pub fields : Declared p (hostOf bases returns) memory
+
+-- a default for looking states up
+abbrev pub noState : State
+noState =
+    record {
+      control = goTo 0;
+      core = record { registers = record { values = []; marks = []; codes = noCodes; coded = false }; memory = [] };
+    }
+  where
+    noCodes : Codes
+    noCodes = record { n = false; z = false; v = false; c = false }
+
+-- "isn't refused and ends at no fault"; "if it returned, r8 matches the result entry"
+abbrev pub EndsWell : Host → Entry → Registers → End → Type 0
+EndsWell h result g Returned = Matches h result (isSet g resultRegister) (valueOf g resultRegister)
+EndsWell h result g Spent = Unit {0}
+EndsWell h result g (Fault n) = ⊥
+EndsWell h result g (Refused n) = ⊥
+
+-- a run ends with what a step left
+abbrev pub EndsWith : Run → End → Core → Type 0
+EndsWith run end c = (run .outcome .end ≡ end) × (run .outcome .registers ≡ c .registers) × (run .memory ≡ c .memory)
+
+-- the step that was the last one left what the run ends with
+abbrev pub LastStep : Run → Step → Type 0
+LastStep run (stopped n) = ⊥
+LastStep run (next st) = EndsWith run Spent (st .core)
+LastStep run (returned c) = EndsWith run Returned c
+
+-- one claim about a whole run from a state, with the states whose steps were run
+pub record Guaranteed (p : Policy) (result : Entry) (s : Setting) (h : Host) (start : State) (run : Run) (trace : List State) : Type 0 where
+  -- not refused, at no fault, and the result matches if it returned
+  pub ends : EndsWell h result (run .outcome .registers) (run .outcome .end)
+  -- the steps counted are exactly those of the trace
+  pub steps : run .outcome .steps ≡ length trace
+  -- "Each of its steps is demand 2's step on what the one before left"
+  pub first : 0 < length trace → getD trace 0 noState ≡ start
+  pub linked : (i : ℕ) → suc i < length trace → stepOf s (getD trace i noState) ≡ next (getD trace (suc i) noState)
+  pub last : 0 < length trace → LastStep run (stepOf s (getD trace (length trace - 1) noState))
+  pub none : length trace ≡ 0 → EndsWith run Spent (start .core)
+  -- no step reads anything unset, uses a null or unaligned address, or leaves the fields that its policy allows
+  pub safe : (i : ℕ) → i < length trace
+      → ReadingSafe p h (getD trace i noState .core .registers) (readingAt (s .readings) (getD trace i noState .control .at .0))
+  -- "every readable field still holds declared values"
+  pub declared : Declared p h (run .memory)
+  -- "every byte of the lent memory outside writable fields is as it was at the start"
+  pub framed : Framed p (start .core .memory) (run .memory)
+
+-- the running guarantee
+abbrev pub RunningGuarantee : Type 0
+RunningGuarantee =
+    (p : Policy) (words rows entry result : List ℕ) → checkOf p words rows entry result ≡ accepted
+    → (bases : List ℕ) (returns : ℕ) (g : Registers) (memory : List ℕ) → Start p entry bases returns g memory
+    → (allowance : ℕ)
+    → Guaranteed p (entryOf result 0) (settingOf p words bases returns) (hostOf bases returns) (startState g memory)
+    (runOf p words bases returns g allowance memory)
+    (traceFrom (settingOf p words bases returns) allowance (startState g memory))

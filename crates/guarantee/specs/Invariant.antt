@@ -1,0 +1,110 @@
+-- What holds of every state that a run of an accepted routine passes through, so that the guarantee can be taken from any of them and not from
+-- the start alone.
+use Prim.Native.Nat.{ℕ, _+_, _<_}
+use mathlib.Core.Path.{_≡_}
+use mathlib.Core.Bool.{true, false}
+use mathlib.Core.List.{List}
+use lib.ListN.{length}
+use Rattle.v8.specs.declared.Instruction.{Instruction}
+use Rattle.v8.specs.declared.Reading.{Reading}
+use Rattle.policy.specs.declared.Policy.{Policy}
+use Rattle.memory.specs.Memory.{Bytes}
+use Rattle.memory.specs.Place.{lengthOf}
+use Rattle.step.specs.declared.Pending.{Pending}
+use Rattle.step.specs.declared.Pending.the-variants as Pending·
+use Rattle.step.specs.Registers.{valueOf, isSet}
+use Rattle.step.specs.Effect.{Core, Effect, fault, done}
+use Rattle.step.specs.Step.{State, Step, stopped, next, returned}
+use Rattle.rows.specs.declared.Row.{Row}
+use Rattle.rows.specs.Row.{rowWith}
+use Rattle.rows.specs.Matches.{Host, Matches, RowMatches}
+use Rattle.rows.specs.Laws.{RowRules}
+use Rattle.rules.specs.declared.Change.{Change}
+use Rattle.rules.specs.declared.Change.the-variants.{Writes, Keeps, Breaks}
+use Rattle.checker.specs.Routine.{Routine, count, wordAt, rowAt, resultEntry, transfers, examined}
+use Rattle.checker.specs.Passes.{Destination, to, caller, resultRegister, changeBy}
+use Rattle.guarantee.specs.Fields.{Declared, Framed}
+use Rattle.guarantee.specs.Safe.{InstructionSafe}
+use Rattle.guarantee.specs.Guarantee.{heldOf, Words}
+
+-- registers and memory are what they are meant to be, and readable fields hold declared values
+pub record CoreOk (p : Policy) (h : Host) (c : Core) : Type 0 where
+  pub words : Words (c .registers)
+  pub bytes : Bytes (c .memory)
+  pub long : length (c .memory) ≡ lengthOf (p .sizes) (p .regions)
+  pub declared : Declared p h (c .memory)
+
+-- registers and codes match a well formed row
+pub record Fitted (p : Policy) (h : Host) (row : Row) (c : Core) : Type 0 where
+  pub rules : RowRules (p .regions) (p .sizes) row
+  pub matches : RowMatches h row (heldOf (c .registers))
+
+-- what an instruction leaves: its row matches, and memory outside writable fields is as it was
+pub record Kept (p : Policy) (h : Host) (row : Row) (c c′ : Core) : Type 0 where
+  pub fitted : Fitted p h row c′
+  pub core : CoreOk p h c′
+  pub framed : Framed p (c .memory) (c′ .memory)
+
+-- an effect is no fault, and leaves that
+abbrev pub Good : Policy → Host → Row → Core → Effect → Type 0
+Good p h row c (fault n) = ⊥
+Good p h row c (done c′) = Kept p h row c c′
+
+-- what a word does to a row covers what it does to the machine, unless it breaks a condition
+abbrev pub Covers : Policy → Host → Row → Core → Instruction → Effect → Change → Type 0
+Covers p h row c x e (Writes r entry note) = InstructionSafe p h (c .registers) x × Good p h (rowWith row r entry note) c e
+Covers p h row c x e Keeps = InstructionSafe p h (c .registers) x × Good p h row c e
+Covers p h row c x e (Breaks number r) = Unit {0}
+
+-- at word w, outside slots, with its row
+pub record At (t : Routine) (h : Host) (w : ℕ) (c : Core) : Type 0 where
+  pub inside : w < count t
+  pub free : examined t w ≡ true
+  pub fitted : Fitted (t .policy) h (rowAt t w) c
+
+-- where an edge ends, with what the check wants there
+abbrev pub Arrived : Routine → Host → Destination → Core → Type 0
+Arrived t h (to w) c = At t h w c
+Arrived t h caller c = Matches h (resultEntry t) (isSet (c .registers) resultRegister) (valueOf (c .registers) resultRegister)
+
+-- a row after a change
+abbrev pub After : Row → Change → Row → Type 0
+After row (Writes r entry note) after = after ≡ rowWith row r entry note
+After row Keeps after = after ≡ row
+After row (Breaks number r) after = ⊥
+
+-- a word that is about to run, and where control then goes: some row matches, the word makes another of it, and what matches that one has
+-- arrived
+pub record Due (t : Routine) (h : Host) (x : Reading) (d : Destination) (c : Core) : Type 0 where
+  pub plain : transfers x ≡ false
+  pub row : Row
+  pub fitted : Fitted (t .policy) h row c
+  pub after : Row
+  pub change : After row (changeBy t row x) after
+  pub arrives : (c′ : Core) → CoreOk (t .policy) h c′ → Fitted (t .policy) h after c′ → Arrived t h d c′
+
+-- what is pending: nothing, outside slots; or in a slot, where the transfer goes
+abbrev pub Ready : Routine → Host → ℕ → Core → Pending → Type 0
+Ready t h w c Pending·.Nothing = At t h w c
+Ready t h w c (Pending·.Jump i) = Due t h (wordAt t w) (to (i .0)) c
+Ready t h w c Pending·.Leave = Due t h (wordAt t w) caller c
+
+-- the invariant
+pub record Invariant (t : Routine) (h : Host) (st : State) : Type 0 where
+  pub core : CoreOk (t .policy) h (st .core)
+  pub ready : Ready t h (st .control .at .0) (st .core) (st .control .pending)
+
+-- what a step gives: no fault; a state that satisfies the invariant; or a core with the result as it should be
+pub record Stepped (t : Routine) (h : Host) (c : Core) (st : State) : Type 0 where
+  pub invariant : Invariant t h st
+  pub framed : Framed (t .policy) (c .memory) (st .core .memory)
+
+pub record Left (t : Routine) (h : Host) (c c′ : Core) : Type 0 where
+  pub core : CoreOk (t .policy) h c′
+  pub framed : Framed (t .policy) (c .memory) (c′ .memory)
+  pub result : Arrived t h caller c′
+
+abbrev pub StepGood : Routine → Host → Core → Step → Type 0
+StepGood t h c (stopped n) = ⊥
+StepGood t h c (next st) = Stepped t h c st
+StepGood t h c (returned c′) = Left t h c c′

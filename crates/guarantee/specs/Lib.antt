@@ -1,0 +1,5 @@
+pub mod Fields
+pub mod Safe
+pub mod Guarantee
+pub mod Laws
+pub mod Invariant

@@ -1,0 +1,64 @@
+-- What each step of an accepted routine is safe from (document 01, demand 3): "none reads anything unset, uses a null or unaligned address,
+-- or loads or stores anywhere but inside a field whose policy allows it"; "of the two numbers that an access in a region adds, one lies from
+-- that region's start to start + size".
+use Prim.Native.Nat.{ℕ, _+_, _%_, _≤_, _<_}
+use mathlib.Core.Path.{_≡_}
+use mathlib.Core.Logic.{_⊎_}
+use mathlib.Core.Bool.{Bool, true}
+use Rattle.v8.specs.declared.Displacement.{Displacement}
+use Rattle.v8.specs.declared.Instruction.{Instruction}
+use Rattle.v8.specs.declared.Instruction.the-variants.{Sethi, Bicc, Alu, Shift, Load, Store, Return}
+use Rattle.v8.specs.declared.Reading.{Reading}
+use Rattle.v8.specs.declared.Reading.the-variants.{Read, Unread}
+use Rattle.alu.specs.Result.{add32}
+use Rattle.policy.specs.declared.Policy.{Policy}
+use Rattle.policy.specs.Policy.{sizeOf, countOf, fieldEnd}
+use Rattle.access.specs.declared.Access.{Access}
+use Rattle.access.specs.declared.Access.the-variants.{Loads, Stores}
+use Rattle.access.specs.Serve.{accessWidth, serves, allows}
+use Rattle.step.specs.declared.Registers.{Registers}
+use Rattle.step.specs.Registers.{valueOf, isSet, operandValue, operandSet, addend}
+use Rattle.step.specs.Transfer.{readsCodes}
+use Rattle.step.specs.Step.{link}
+use Rattle.rows.specs.Matches.{Host, baseOf}
+use Rattle.guarantee.specs.Fields.{fieldOf}
+
+-- an access to the sum of x and y
+pub record SafeAccess (p : Policy) (h : Host) (a : Access) (x y : ℕ) : Type 0 where
+  pub region : ℕ
+  pub field : ℕ
+  pub offset : ℕ
+  pub region-is : region < p .regions
+  pub field-is : field < countOf p region
+  -- it lies at an offset of the region, inside the field
+  pub address : add32 x y ≡ baseOf h region + offset
+  pub low : fieldOf p region field .offset .0 ≤ offset
+  pub high : offset + accessWidth a ≤ fieldEnd (fieldOf p region field)
+  -- of matching element and permission
+  pub serving : serves a (fieldOf p region field .element) ≡ true
+  pub allowing : allows a (fieldOf p region field .permission) ≡ true
+  -- neither unaligned nor null
+  pub aligned : add32 x y % accessWidth a ≡ 0
+  pub not-null : 1 ≤ add32 x y
+  -- one of the numbers added lies from the region's start to its end
+  pub near : ((baseOf h region ≤ x) × (x ≤ baseOf h region + sizeOf p region)) ⊎ ((baseOf h region ≤ y) × (y ≤ baseOf h region + sizeOf p region))
+
+-- an access by a register and a displacement, both set
+abbrev pub AccessSafe : Policy → Host → Access → Registers → ℕ → Displacement → Type 0
+AccessSafe p h a g rs1 d =
+    (isSet g rs1 ≡ true) × (operandSet g (addend d) ≡ true) × SafeAccess p h a (valueOf g rs1) (operandValue g (addend d))
+
+-- an instruction that reads what is set, and accesses memory as it may
+abbrev pub InstructionSafe : Policy → Host → Registers → Instruction → Type 0
+InstructionSafe p h g (Sethi rd imm22) = Unit {0}
+InstructionSafe p h g (Bicc annul cnd d) = readsCodes cnd ≡ true → g .coded ≡ true
+InstructionSafe p h g (Alu op cc rd rs1 x) = (isSet g rs1 ≡ true) × (operandSet g x ≡ true)
+InstructionSafe p h g (Shift op rd rs1 x) = (isSet g rs1 ≡ true) × (operandSet g x ≡ true)
+InstructionSafe p h g (Load op rd rs1 d) = AccessSafe p h (Loads op) g rs1 d
+InstructionSafe p h g (Store op rd rs1 d) = (isSet g rd ≡ true) × AccessSafe p h (Stores op) g rs1 d
+InstructionSafe p h g Return = (isSet g link ≡ true) × (valueOf g link ≡ h .returns)
+
+-- a word that is read, and whose instruction is safe
+abbrev pub ReadingSafe : Policy → Host → Registers → Reading → Type 0
+ReadingSafe p h g (Read x) = InstructionSafe p h g x
+ReadingSafe p h g Unread = ⊥

@@ -1,0 +1,5 @@
+pub mod RightResult
+pub mod Writes
+pub mod RightReach
+pub mod Narrowed
+pub mod Numbered

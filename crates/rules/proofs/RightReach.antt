@@ -1,0 +1,197 @@
+-- An access that passed the conditions lies where the machine needs it: the field that was found holds every byte from the lowest to the
+-- highest offset, so it holds those of the offset that is there; the offsets' grid is a multiple of the width.
+use Prim.Native.Nat.{ℕ, _+_, _-_, _%_, _≤_, _<_}
+use mathlib.Core.Path.{_≡_, refl, sym, ap, _∙_, subst}
+use mathlib.Core.Logic.{_⊎_, inl, inr}
+use mathlib.Core.Bool.{Bool, true, false, not, cond, _&&_, _||_}
+use mathlib.Core.List.{List}
+use native.Mathlib.Omega.{arith}
+use lib.Dec.{leb, ltb, eqb}
+use lib.ListN.{getD}
+use borrow.Author.Tests.{eqb-true, leb-true, ltb-true, ltb-false}
+use Rattle.v8.specs.Choice.{cond-both}
+use Rattle.v8.specs.Signed.{excess}
+use Rattle.v8.specs.declared.AluOp.the-variants.{Add}
+use Rattle.v8.specs.declared.LoadOp.{LoadOp}
+use Rattle.v8.specs.declared.LoadOp.the-variants.{Ld, Ldub, Lduh, Ldsb, Ldsh}
+use Rattle.v8.specs.declared.StoreOp.{StoreOp}
+use Rattle.v8.specs.declared.StoreOp.the-variants.{St, Stb, Sth}
+use Rattle.alu.specs.Result.{add32}
+use Rattle.policy.specs.declared.Policy.{Policy}
+use Rattle.policy.specs.declared.Field.{Field}
+use Rattle.policy.specs.declared.Found.{Found}
+use Rattle.policy.specs.declared.Found.the-variants as Found·
+use Rattle.policy.specs.Policy.{sizeOf, countOf, placeOf, fieldAt, fieldEnd}
+use Rattle.policy.specs.Find.{findField}
+use Rattle.policy.specs.Laws.{WellFormed, FoundHere}
+use Rattle.policy.proofs.FoundField.{found-holds}
+use Rattle.access.specs.declared.Access.{Access}
+use Rattle.access.specs.declared.Access.the-variants.{Loads, Stores}
+use Rattle.access.specs.Serve.{accessWidth, serves, allows}
+use Rattle.sets.specs.declared.NumberSet.{NumberSet}
+use Rattle.sets.specs.Sets.{nought, Step, s1, s2, s4, s8, SetRules, Member}
+use Rattle.sets.specs.Rules.{addSets}
+use Rattle.sets.specs.Laws.{Offset}
+use Rattle.sets.proofs.Steps.{by-step, sum-on, difference-on, finer-on, finer-of}
+use Rattle.sets.proofs.Arithmetic.{alu-formed}
+use Rattle.sets.proofs.Offsets.{adds-offset}
+use Rattle.rows.specs.declared.Entry.{Entry}
+use Rattle.rows.specs.Entry.{isNumber, isAddress, isStartOrNull, sizeIn}
+use Rattle.rows.specs.Matches.{Host, baseOf, Holds}
+use Rattle.rows.specs.Laws.{EntryRules}
+use Rattle.rows.proofs.Tests.{and-went, false-true}
+use Rattle.rules.specs.declared.Reach.{Reach}
+use Rattle.rules.specs.declared.Reach.the-variants.{Inside, Outside}
+use Rattle.rules.specs.Reach.{endOf, onGrid, inField, inFound, inRegion, reachOf, tooHigh, wrongElement, offGrid, notAllowed, outsideFields, maybeNull}
+use Rattle.rules.specs.Laws.{Laid, Reached, Reaches}
+use Rattle.rules.proofs.RightResult.{size-in, adds-turn}
+
+-- a width is a step
+pub width-step : (a : Access) → Step (accessWidth a)
+width-step (Loads Ld) = s4
+width-step (Loads Ldub) = s1
+width-step (Loads Lduh) = s2
+width-step (Loads Ldsb) = s1
+width-step (Loads Ldsh) = s2
+width-step (Stores St) = s4
+width-step (Stores Stb) = s1
+width-step (Stores Sth) = s2
+
+-- what lies on the grid of a set whose ends and steps are multiples of the width is one
+on-width : {w : ℕ} (s : NumberSet) (n o : ℕ) → Step w → SetRules s → onGrid s w ≡ true → Member s n → n ≡ o + nought → o % w ≡ 0
+on-width {w} s n o step rules g m e =
+    let p = and-went (eqb (s .lo % w) 0) (eqb (s .step % w) 0) g in
+    let rest = finer-on (rules .steps) step (finer-of (rules .steps) step (eqb-true (s .step % w) 0 (p .1))) (n - s .lo) (m .grid) in
+    let whole = sum-on step (s .lo) (n - s .lo) (eqb-true (s .lo % w) 0 (p .0)) rest in
+    subst (λ (k : ℕ). k % w ≡ 0) (apart (m .low) e) (difference-on step (s .lo + (n - s .lo)) nought whole (by-step (λ (k : ℕ). nought % k ≡ 0) refl refl refl refl step))
+  where
+    apart : s .lo ≤ n → n ≡ o + nought → s .lo + (n - s .lo) - nought ≡ o
+    apart l e = omega arith
+
+module _ (p : Policy) (h : Host) (wf : WellFormed p) (laid : Laid (p .regions) (p .sizes) h) (a : Access) (rs1 x y : ℕ) where
+  -- a reach, if it is inside, is as the law says
+  abbrev Good : Reach → Type 0
+  Good (Inside place) = Reached p h a x y place
+  Good (Outside number r) = Unit {0}
+
+  abbrev Near : ℕ → Type 0
+  Near r = ((baseOf h r ≤ x) × (x ≤ baseOf h r + sizeOf p r)) ⊎ ((baseOf h r ≤ y) × (y ≤ baseOf h r + sizeOf p r))
+
+  module _ (r : ℕ) (s : NumberSet) (there : r < p .regions) (rules : SetRules s) (near : Near r)
+      (offset : nought ≤ s .lo → s .hi ≤ nought + sizeIn (p .sizes) r → baseOf h r + sizeIn (p .sizes) r < 4294967296 → Offset (baseOf h r) s (add32 x y)) where
+    size-is : sizeIn (p .sizes) r ≡ sizeOf p r
+    size-is = size-in (p .sizes) r (omega (arith, laid .regions-most))
+
+    -- where the sum lies, if the bytes end inside the region
+    lies : nought ≤ s .lo → endOf s (accessWidth a) ≤ sizeOf p r → 1 ≤ accessWidth a → Offset (baseOf h r) s (add32 x y)
+    lies low high w =
+        offset low (rw size-is (end (s .hi) (accessWidth a) (sizeOf p r) high w)) (rw size-is (laid .below r there))
+      where
+        end : (hi w size : ℕ) → hi - nought + w ≤ size → 1 ≤ w → hi ≤ nought + size
+        end hi w size a b = omega arith
+
+    module _ (place : ℕ) (found : FoundHere p r (s .lo - nought) (endOf s (accessWidth a)) place) (low : nought ≤ s .lo) where
+      at-place : (C : Field → Type 0) → C (fieldAt p (placeOf r (found .index))) → C (fieldAt p place)
+      at-place C c = subst (λ (n : ℕ). C (fieldAt p n)) (sym (found .here)) c
+
+      reached : serves a (fieldAt p place .element) ≡ true → onGrid s (accessWidth a) ≡ true → allows a (fieldAt p place .permission) ≡ true
+          → Reached p h a x y place
+      reached se gr al =
+          let inside = wf .field r (found .index) there (found .counted) .inside in
+          let o = lies low (omega (arith, found .holds .1, inside)) (some (width-step a)) in
+          let v = add32 x y - baseOf h r in
+          record {
+            region = r;
+            field = found .index;
+            offset = v;
+            region-is = there;
+            field-is = found .counted;
+            here = found .here;
+            address = whole (baseOf h r) (add32 x y) (o .above);
+            low = at-place (λ (f : Field). f .offset .0 ≤ v) (first (s .lo) v (found .holds .0) (o .member .low));
+            high = at-place (λ (f : Field). v + accessWidth a ≤ fieldEnd f) (last (s .hi) v (accessWidth a) (found .holds .1) (o .member .high));
+            aligned = on-width s (v + nought) v (width-step a) rules gr (o .member) refl;
+            serving = se;
+            allowing = al;
+            near = near;
+          }
+        where
+          some : {w : ℕ} → Step w → 1 ≤ w
+          some = by-step (λ (w : ℕ). 1 ≤ w) (omega arith) (omega arith) (omega arith) (omega arith)
+
+          whole : (b n : ℕ) → b ≤ n → n ≡ b + (n - b)
+          whole b n l = omega arith
+
+          first : {f : ℕ} (lo v : ℕ) → f ≤ lo - nought → lo ≤ v + nought → f ≤ v
+          first lo v p q = omega arith
+
+          last : {f : ℕ} (hi v w : ℕ) → hi - nought + w ≤ f → v + nought ≤ hi → v + w ≤ f
+          last hi v w p q = omega arith
+
+      field-good : Good (inField p a rs1 s place)
+      unfolding inField
+      field-good =
+          cond-both Good (ltb 4096 (endOf s (accessWidth a))) (λ _. tt)
+          λ _. cond-both Good (not (serves a (fieldAt p place .element))) (λ _. tt)
+          λ t₁. cond-both Good (not (onGrid s (accessWidth a))) (λ _. tt)
+          λ t₂. cond-both Good (not (allows a (fieldAt p place .permission))) (λ _. tt)
+          λ t₃. reached (so (serves a (fieldAt p place .element)) t₁) (so (onGrid s (accessWidth a)) t₂) (so (allows a (fieldAt p place .permission)) t₃)
+        where
+          so : (t : Bool) → not t ≡ false → t ≡ true
+          so true e = refl
+          so false e = sym e
+
+    found-good : nought ≤ s .lo → (f : Found) → findField p r (s .lo - nought) (endOf s (accessWidth a)) ≡ f → Good (inFound p a rs1 s f)
+    found-good low (Found·.At place) e = field-good place (found-holds p r (s .lo - nought) (endOf s (accessWidth a)) place e) low
+    found-good low Found·.Nothing e = tt
+
+    region-good : Good (inRegion p a rs1 r s)
+    unfolding inRegion
+    region-good =
+        cond-both Good (ltb (s .lo) nought) (λ _. tt)
+        (λ t. found-good (ltb-false (s .lo) nought t) (findField p r (s .lo - nought) (endOf s (accessWidth a))) refl)
+
+-- an address that an entry holds lies in its region
+in-region : (p : Policy) (h : Host) → Laid (p .regions) (p .sizes) h → (e : Entry) (v : ℕ) → EntryRules (p .regions) (p .sizes) e → isAddress e ≡ true → Holds h e v
+    → (baseOf h (e .region) ≤ v) × (v ≤ baseOf h (e .region) + sizeOf p (e .region))
+in-region p h laid e v w k m =
+    let d = w .address k in let o = m .address k in
+    (o .above, at (baseOf h (e .region)) (e .set .hi) (sizeIn (p .sizes) (e .region)) (sizeOf p (e .region)) (o .above) (o .member .high) (d .high) (size-in (p .sizes) (e .region) (omega (arith, laid .regions-most, d .region))))
+  where
+    at : (b hi s t : ℕ) → b ≤ v → v - b + nought ≤ hi → hi ≤ nought + s → s ≡ t → v ≤ b + t
+    at b hi s t a c d q = omega arith
+
+turned : (x y : ℕ) → add32 x y ≡ add32 y x
+turned x y = omega arith
+
+module _ (p : Policy) (h : Host) (wf : WellFormed p) (laid : Laid (p .regions) (p .sizes) h) (a : Access) (rs1 rs2 : ℕ) (d e : Entry) (x y : ℕ)
+    (wd : EntryRules (p .regions) (p .sizes) d) (we : EntryRules (p .regions) (p .sizes) e) (lx : x < 4294967296) (ly : y < 4294967296)
+    (md : Holds h d x) (me : Holds h e y) where
+  reach-good : Good p h wf laid a rs1 x y (reachOf p a rs1 d rs2 e)
+  unfolding reachOf
+  reach-good =
+      cond-both (Good p h wf laid a rs1 x y) (isStartOrNull d) (λ _. tt)
+      λ _. cond-both (Good p h wf laid a rs1 x y) (isStartOrNull e) (λ _. tt)
+      λ _. cond-both (Good p h wf laid a rs1 x y) (isAddress d && isNumber e)
+      (λ t. let k = and-went (isAddress d) (isNumber e) t in
+      let da = wd .address (k .0) in
+      region-good p h wf laid a rs1 x y (d .region) (addSets (d .set) (e .set)) (da .region)
+      (alu-formed Add (d .set) (e .set) (da .set) (we .number (k .1)))
+      (inl (in-region p h laid d x wd (k .0) md))
+      (λ low high below. adds-offset (d .set) (e .set) (baseOf h (d .region)) (sizeIn (p .sizes) (d .region)) x y (da .set) (we .number (k .1)) ly below low high
+      (md .address (k .0)) (me .number (k .1))))
+      λ _. cond-both (Good p h wf laid a rs1 x y) (isNumber d && isAddress e)
+      (λ t. let k = and-went (isNumber d) (isAddress e) t in
+      let de = we .address (k .1) in
+      subst (λ (s : NumberSet). Good p h wf laid a rs1 x y (inRegion p a rs1 (e .region) s)) (adds-turn (e .set) (d .set))
+      (region-good p h wf laid a rs1 x y (e .region) (addSets (e .set) (d .set)) (de .region)
+      (alu-formed Add (e .set) (d .set) (de .set) (wd .number (k .0)))
+      (inr (in-region p h laid e y we (k .1) me))
+      (λ low high below. subst (Offset (baseOf h (e .region)) (addSets (e .set) (d .set))) (turned y x)
+      (adds-offset (e .set) (d .set) (baseOf h (e .region)) (sizeIn (p .sizes) (e .region)) y x (de .set) (wd .number (k .0)) lx below low high
+      (me .address (k .1)) (md .number (k .0))))))
+      λ _. tt
+
+pub reaches : Reaches
+reaches p h wf laid a rs1 rs2 d e x y place wd we lx ly md me q =
+    subst (Good p h wf laid a rs1 x y) q (reach-good p h wf laid a rs1 rs2 d e x y wd we lx ly md me)

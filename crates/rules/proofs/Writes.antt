@@ -1,0 +1,127 @@
+-- A row that is written as the register is matches, and notes stay right: the entry of the register written is the new one, the others are as
+-- they were; a note of the register written becomes "set".
+use Prim.Native.Nat.{ℕ, _+_, _≤_, _<_}
+use mathlib.Core.Path.{_≡_, refl, sym, ap, _∙_, subst}
+use mathlib.Core.Bool.{Bool, true, false, not, cond, _&&_, _||_}
+use mathlib.Core.List.{List}
+use native.Mathlib.Omega.{arith}
+use lib.Dec.{leb, ltb, eqb}
+use lib.ListN.{length, getD, set, length-set, List·getD-eq-default}
+use lib.Seq.{getD-set-same, getD-set-other}
+use borrow.Author.Tests.{eqb-true, eqb-false, leb-true, ltb-true, ltb-false, lt-ltb, le-ltb, eq-eqb, ne-eqb}
+use Rattle.v8.specs.Choice.{cond-both}
+use Rattle.v8.specs.Signed.{excess}
+use Rattle.v8.specs.declared.AluOp.{AluOp}
+use Rattle.v8.specs.declared.AluOp.the-variants.{Add, And, Or, Xor, Sub, Andn, Orn, Xnor}
+use Rattle.alu.specs.Codes.{codesOf}
+use Rattle.rows.specs.declared.Entry.{Entry}
+use Rattle.rows.specs.declared.Note.{Note}
+use Rattle.rows.specs.declared.Row.{Row}
+use Rattle.rows.specs.Entry.{noEntry, isUnset, isConstant, isComparison, codesSet, comparison, wordOf}
+use Rattle.rows.specs.Row.{entryAt, entriesWith, rowWith}
+use Rattle.rows.specs.Matches.{Host, Holds, Matches, Held, NoteMatches, RowMatches}
+use Rattle.rows.specs.Laws.{EntryRules, RowRules}
+use Rattle.rows.proofs.Tests.{and-went, false-true, one-kind}
+use Rattle.rows.proofs.ByKind.{unset-rules}
+use Rattle.rules.specs.Result.{isSub}
+use Rattle.rules.specs.Change.{noteAfter, codesNote}
+use Rattle.rules.specs.Laws.{Wrote, WritesRow, KeepsNote, MakesNote}
+use Rattle.rules.proofs.RightResult.{constant-holds}
+
+-- register r of the row written, whatever is asked of what stands there
+module _ (P : ℕ → Entry → Type 0) (row : Row) (rd : ℕ) (e : Entry) (n : Note) (old : (r : ℕ) → P r noEntry) where
+  -- where nothing is written, and elsewhere, the old entry
+  pub entry-after : (r : ℕ)
+      → (1 ≤ rd → rd < 32 → r ≡ rd → P r e) → ((r ≡ rd → 1 ≤ rd → rd < 32 → ⊥) → P r (entryAt row r)) → P r (entryAt (rowWith row rd e n) r)
+  unfolding entryAt entriesWith
+  entry-after r here other =
+      cond-both (λ (es : List Entry). P r (cond (ltb r 32) (getD es r noEntry) noEntry)) (eqb rd 0)
+      (λ t. other (λ _ q _. omega (arith, eqb-true rd 0 t)))
+      λ t. cond-both (λ (es : List Entry). P r (cond (ltb r 32) (getD es r noEntry) noEntry)) (ltb rd 32)
+      (λ u. at (eqb r rd) refl (eqb-false rd 0 t) (ltb-true rd 32 u))
+      λ u. other (λ _ _ q. omega (arith, ltb-false rd 32 u))
+    where
+      some : (rd ≡ 0 → ⊥) → 1 ≤ rd
+      some z = omega arith
+
+      in-list : r ≡ rd → P r e → (t : Bool) → ltb rd (length (row .entries)) ≡ t → P r (getD (set (row .entries) rd e) r noEntry)
+      in-list q p true l =
+          subst (λ (x : Entry). P r x) (sym (ap (λ (k : ℕ). getD (set (row .entries) rd e) k noEntry) q ∙ getD-set-same (row .entries) rd e noEntry (ltb-true rd (length (row .entries)) l))) p
+      in-list q p false l =
+          subst (λ (x : Entry). P r x)
+          (sym (ap (λ (k : ℕ). getD (set (row .entries) rd e) k noEntry) q ∙ List·getD-eq-default (set (row .entries) rd e) noEntry (rw (length-set (row .entries) rd e) (ltb-false rd (length (row .entries)) l))))
+          (old r)
+
+      at : (t : Bool) → eqb r rd ≡ t → (rd ≡ 0 → ⊥) → rd < 32 → P r (cond (ltb r 32) (getD (set (row .entries) rd e) r noEntry) noEntry)
+      at true q z l =
+          cond-both (P r) (ltb r 32) (λ _. in-list (eqb-true r rd q) (here (some z) l (eqb-true r rd q)) (ltb rd (length (row .entries))) refl) (λ _. old r)
+      at false q z l =
+          rw (getD-set-other (row .entries) rd r e noEntry (eqb-false r rd q)) (other (λ p _ _. eqb-false r rd q p))
+
+pub writes-row : WritesRow
+writes-row regions sizes h row g g′ rd v e n w rules m re he top note = (
+  record {
+    entries = λ r. entry-after (λ (_ : ℕ) (x : Entry). EntryRules regions sizes x) row rd e n (λ _. unset-rules regions sizes noEntry refl) r
+        (λ _ _ _. re) (λ _. rules .entries r);
+    number = top;
+  },
+  record {
+    entries = λ r. entry-after (λ (k : ℕ) (x : Entry). Matches h x (g′ .mark k) (g′ .value k)) row rd e n (λ k u. false-true (sym u)) r
+        (λ a b q _. let s = w .here a b in
+        (ap (g′ .mark) q ∙ s .0, subst (Holds h e) (sym (ap (g′ .value) q ∙ s .1)) he))
+        (λ away u. let s = w .others r away in let k = m .entries r u in (s .0 ∙ k .0, subst (Holds h (entryAt row r)) (sym (s .1)) (k .1)));
+    note = note;
+  },
+)
+
+-- only that the codes are set
+set-note : (g : Held) → g .coded ≡ true → NoteMatches codesSet g
+set-note g e = record { coded = λ _. e; compared = λ q. false-true q }
+
+pub keeps-note : KeepsNote
+unfolding noteAfter
+keeps-note n g g′ rd v w same-codes same-mark m =
+    cond-both (λ (x : Note). NoteMatches x g′) (isComparison n && eqb (n .register) rd)
+    (λ t. set-note g′ (same-mark ∙ m .coded (known (and-went (isComparison n) (eqb (n .register) rd) t .0))))
+    (λ t. record {
+      coded = λ u. same-mark ∙ m .coded u;
+      compared = λ c. same-codes ∙ m .compared c
+          ∙ ap (λ (x : ℕ). codesOf Sub x (excess (n .number))) (sym (w .others (n .register) (λ q _ _. elsewhere c t q) .1));
+    })
+  where
+    known : isComparison n ≡ true → eqb (n .kind) 0 ≡ false
+    known c = ne-eqb (n .kind) 0 (λ z. two (eqb-true (n .kind) 2 c) z)
+      where
+        two : n .kind ≡ 2 → n .kind ≡ 0 → ⊥
+        two p q = omega arith
+
+    elsewhere : isComparison n ≡ true → isComparison n && eqb (n .register) rd ≡ false → n .register ≡ rd → ⊥
+    elsewhere c t q = false-true (sym t ∙ rw (c, eq-eqb (n .register) rd q))
+
+-- SUB alone makes a comparison
+is-sub : (op : AluOp) (x y : ℕ) → isSub op ≡ true → codesOf op x y ≡ codesOf Sub x y
+is-sub Add x y e = false-true e
+is-sub And x y e = false-true e
+is-sub Or x y e = false-true e
+is-sub Xor x y e = false-true e
+is-sub Sub x y e = refl
+is-sub Andn x y e = false-true e
+is-sub Orn x y e = false-true e
+is-sub Xnor x y e = false-true e
+
+pub makes-note : MakesNote
+unfolding codesNote
+makes-note op h g g′ rd rs1 v b y w small mb coded codes =
+    cond-both (λ (x : Note). NoteMatches x g′) (isSub op && leb 1 rs1 && isConstant b && not (eqb rd rs1))
+    (λ t. let p = and-went (isSub op && leb 1 rs1 && isConstant b) (not (eqb rd rs1)) t in
+    let q = and-went (isSub op && leb 1 rs1) (isConstant b) (p .0) in
+    let r = and-went (isSub op) (leb 1 rs1) (q .0) in
+    record {
+      coded = λ _. coded;
+      compared = λ _. codes ∙ is-sub op (g .value rs1) y (r .0)
+          ∙ rw (← constant-holds h b y small (q .1) mb, ← w .others rs1 (λ e _ _. apart (p .1) e) .1);
+    })
+    (λ _. set-note g′ coded)
+  where
+    apart : not (eqb rd rs1) ≡ true → rs1 ≡ rd → ⊥
+    apart t e = false-true (rw (eq-eqb rd rs1 (sym e)) at t)

@@ -1,0 +1,120 @@
+-- What the running guarantee rests on: what registers, codes and accesses hold that match a row, they hold of what the rules make of it. (The
+-- laws speak of V8's results and codes, `alu`'s, and of the regions as the host has laid them.) The proofs are in proofs/.
+use Prim.Native.Nat.{ℕ, _+_, _*_, _%_, _≤_, _<_}
+use mathlib.Core.Path.{_≡_}
+use mathlib.Core.Logic.{_⊎_}
+use mathlib.Core.Bool.{Bool, true, false}
+use mathlib.Core.List.{List}
+use lib.ListN.{getD}
+use Rattle.v8.specs.declared.AluOp.{AluOp}
+use Rattle.v8.specs.declared.ShiftOp.{ShiftOp}
+use Rattle.alu.specs.Result.{add32, aluOf, shiftOf}
+use Rattle.alu.specs.Codes.{codesOf}
+use Rattle.alu.specs.Condition.{condHolds, conditionOf}
+use Rattle.policy.specs.declared.Policy.{Policy}
+use Rattle.policy.specs.Policy.{sizeOf, countOf, placeOf, fieldAt, fieldEnd}
+use Rattle.policy.specs.Laws.{WellFormed}
+use Rattle.access.specs.declared.Access.{Access}
+use Rattle.access.specs.Serve.{accessWidth, serves, allows}
+use Rattle.rows.specs.declared.Entry.{Entry}
+use Rattle.rows.specs.declared.Note.{Note}
+use Rattle.rows.specs.declared.Row.{Row}
+use Rattle.rows.specs.Row.{rowWith}
+use Rattle.rows.specs.Matches.{Host, baseOf, Holds, Held, NoteMatches, RowMatches}
+use Rattle.rows.specs.Laws.{EntryRules, RowRules}
+use Rattle.rules.specs.declared.Result.{Result}
+use Rattle.rules.specs.declared.Result.the-variants.{Gives, Fails}
+use Rattle.rules.specs.declared.Reach.the-variants.{Inside, Outside}
+use Rattle.rules.specs.Result.{aluResult, shiftResult}
+use Rattle.rules.specs.Reach.{reachOf}
+use Rattle.rules.specs.Change.{noteAfter, codesNote}
+use Rattle.rules.specs.Narrow.{RowLeft, left, nothing, narrowRow}
+
+-- the regions as the host must lay them: "bases are nonzero multiples of 8, base + size is below 2^32, regions are disjoint"
+pub record Laid (regions : ℕ) (sizes : List ℕ) (h : Host) : Type 0 where
+  pub regions-most : regions ≤ 8
+  pub some : (r : ℕ) → r < regions → 1 ≤ baseOf h r
+  pub aligned : (r : ℕ) → r < regions → baseOf h r % 8 ≡ 0
+  pub below : (r : ℕ) → r < regions → baseOf h r + getD sizes r 0 < 4294967296
+  -- an address lies in one region
+  pub one : (r q a : ℕ) → r < regions → q < regions → baseOf h r ≤ a → a < baseOf h r + getD sizes r 0
+      → baseOf h q ≤ a → a < baseOf h q + getD sizes q 0 → r ≡ q
+
+module _ (regions : ℕ) (sizes : List ℕ) (h : Host) where
+  -- a result, if there is one, is well formed and holds the word
+  abbrev pub Right : Result → ℕ → Type 0
+  Right (Gives e) v = EntryRules regions sizes e × Holds h e v
+  Right (Fails number) v = Unit {0}
+
+  -- a row, if one is left, is well formed and matches; one is left
+  abbrev pub LeftMatches : RowLeft → Held → Type 0
+  LeftMatches (left row) g = RowRules regions sizes row × RowMatches h row g
+  LeftMatches nothing g = ⊥
+
+-- What the rules give holds what V8 gives.
+abbrev pub AluRight : Type 0
+AluRight =
+    (regions : ℕ) (sizes : List ℕ) (h : Host) → Laid regions sizes h
+    → (op : AluOp) (a b : Entry) (x y : ℕ) → EntryRules regions sizes a → EntryRules regions sizes b → x < 4294967296 → y < 4294967296
+    → Holds h a x → Holds h b y → Right regions sizes h (aluResult sizes op a b) (aluOf op x y)
+
+abbrev pub ShiftRight : Type 0
+ShiftRight =
+    (regions : ℕ) (sizes : List ℕ) (h : Host)
+    → (op : ShiftOp) (a b : Entry) (x y : ℕ) → EntryRules regions sizes a → EntryRules regions sizes b → x < 4294967296 → y < 4294967296
+    → Holds h a x → Holds h b y → Right regions sizes h (shiftResult op a b) (shiftOf op x y)
+
+-- register rd has been written with v: "writes to it vanish" for r0
+pub record Wrote (g g′ : Held) (rd v : ℕ) : Type 0 where
+  pub here : 1 ≤ rd → rd < 32 → (g′ .mark rd ≡ true) × (g′ .value rd ≡ v)
+  pub others : (r : ℕ) → (r ≡ rd → 1 ≤ rd → rd < 32 → ⊥) → (g′ .mark r ≡ g .mark r) × (g′ .value r ≡ g .value r)
+
+-- A row that is written as the register is stays well formed and matches, whatever note matches then.
+abbrev pub WritesRow : Type 0
+WritesRow =
+    (regions : ℕ) (sizes : List ℕ) (h : Host) (row : Row) (g g′ : Held) (rd v : ℕ) (e : Entry) (n : Note)
+    → Wrote g g′ rd v → RowRules regions sizes row → RowMatches h row g → EntryRules regions sizes e → Holds h e v
+    → n .number < 4294967296 → NoteMatches n g′
+    → RowRules regions sizes (rowWith row rd e n) × RowMatches h (rowWith row rd e n) g′
+
+-- A note stays right where a register is written and the codes are not.
+abbrev pub KeepsNote : Type 0
+KeepsNote =
+    (n : Note) (g g′ : Held) (rd v : ℕ) → Wrote g g′ rd v → g′ .codes ≡ g .codes → g′ .coded ≡ g .coded
+    → NoteMatches n g → NoteMatches (noteAfter n rd) g′
+
+-- The note of a code-setting word is right of the codes that V8 gives.
+abbrev pub MakesNote : Type 0
+MakesNote =
+    (op : AluOp) (h : Host) (g g′ : Held) (rd rs1 v : ℕ) (b : Entry) (y : ℕ) → Wrote g g′ rd v → y < 4294967296 → Holds h b y
+    → g′ .coded ≡ true → g′ .codes ≡ codesOf op (g .value rs1) y → NoteMatches (codesNote op rd rs1 b) g′
+
+-- an access that passed the conditions: it is aligned and not null, lies inside one field of matching element and permission, and one of
+-- the two numbers that it adds lies from the region's start to its end
+pub record Reached (p : Policy) (h : Host) (a : Access) (x y place : ℕ) : Type 0 where
+  pub region : ℕ
+  pub field : ℕ
+  pub offset : ℕ
+  pub region-is : region < p .regions
+  pub field-is : field < countOf p region
+  pub here : place ≡ placeOf region field
+  pub address : add32 x y ≡ baseOf h region + offset
+  pub low : fieldAt p place .offset .0 ≤ offset
+  pub high : offset + accessWidth a ≤ fieldEnd (fieldAt p place)
+  pub aligned : offset % accessWidth a ≡ 0
+  pub serving : serves a (fieldAt p place .element) ≡ true
+  pub allowing : allows a (fieldAt p place .permission) ≡ true
+  pub near : ((baseOf h region ≤ x) × (x ≤ baseOf h region + sizeOf p region)) ⊎ ((baseOf h region ≤ y) × (y ≤ baseOf h region + sizeOf p region))
+
+abbrev pub Reaches : Type 0
+Reaches =
+    (p : Policy) (h : Host) → WellFormed p → Laid (p .regions) (p .sizes) h
+    → (a : Access) (rs1 rs2 : ℕ) (d e : Entry) (x y place : ℕ) → EntryRules (p .regions) (p .sizes) d → EntryRules (p .regions) (p .sizes) e
+    → x < 4294967296 → y < 4294967296 → Holds h d x → Holds h e y → reachOf p a rs1 d rs2 e ≡ Inside place → Reached p h a x y place
+
+-- Narrowing by a condition that holds never drops what is there.
+abbrev pub NarrowsRow : Type 0
+NarrowsRow =
+    (regions : ℕ) (sizes : List ℕ) (h : Host) (cnd : ℕ) (row : Row) (g : Held) → ((r : ℕ) → g .value r < 4294967296)
+    → RowRules regions sizes row → RowMatches h row g → condHolds cnd (g .codes) ≡ true
+    → LeftMatches regions sizes h (narrowRow (conditionOf cnd .narrowing) row) g

@@ -1,0 +1,76 @@
+-- Where an access lies, by the entries of the two operands that it adds (document 01, "One word's conditions": "For memory: 5 .. 10"). The
+-- conditions are tested in the paper's order, and each names a register: "5 names the kind 3 register, rs1 first; the others name rs1".
+use Prim.Native.Nat.{ℕ, _+_, _-_, _%_}
+use mathlib.Core.Bool.{Bool, cond, not, _&&_, _||_}
+use lib.Dec.{leb, ltb, eqb}
+use Rattle.policy.specs.declared.Policy.{Policy}
+use Rattle.policy.specs.declared.Field.{Field}
+use Rattle.policy.specs.declared.Found.{Found}
+use Rattle.policy.specs.declared.Found.the-variants as Found·
+use Rattle.policy.specs.Policy.{fieldAt}
+use Rattle.policy.specs.Find.{findField}
+use Rattle.access.specs.declared.Access.{Access}
+use Rattle.access.specs.Serve.{accessWidth, serves, allows}
+use Rattle.sets.specs.declared.NumberSet.{NumberSet}
+use Rattle.sets.specs.Sets.{nought}
+use Rattle.sets.specs.Rules.{addSets}
+use Rattle.rows.specs.declared.Entry.{Entry}
+use Rattle.rules.specs.declared.Reach.{Reach}
+use Rattle.rules.specs.declared.Reach.the-variants.{Inside, Outside}
+use Rattle.rows.specs.Entry.{isNumber, isAddress, isStartOrNull}
+use Rattle.rules.specs.Result.{noRule}
+
+-- the conditions' numbers
+abbrev pub maybeNull : ℕ
+maybeNull = 5
+
+abbrev pub outsideFields : ℕ
+outsideFields = 7
+
+abbrev pub wrongElement : ℕ
+wrongElement = 8
+
+abbrev pub offGrid : ℕ
+offGrid = 9
+
+abbrev pub notAllowed : ℕ
+notAllowed = 10
+
+abbrev pub tooHigh : ℕ
+tooHigh = 13
+
+-- the end of the bytes reached, "from lowest to highest offset plus width"
+abbrev pub endOf : NumberSet → ℕ → ℕ
+endOf s width = s .hi - nought + width
+
+-- "9 an offset off the element grid, or step not a multiple of the width"
+abbrev pub onGrid : NumberSet → ℕ → Bool
+onGrid s width = eqb (s .lo % width) 0 && eqb (s .step % width) 0
+
+-- 13, 8, 9 and 10, of the field at a place that holds the bytes reached
+unfoldable pub inField : Policy → Access → ℕ → NumberSet → ℕ → Reach
+inField p a rs1 s place =
+    cond (ltb 4096 (endOf s (accessWidth a))) (Outside tooHigh rs1)
+    (cond (not (serves a (fieldAt p place .element))) (Outside wrongElement rs1)
+    (cond (not (onGrid s (accessWidth a))) (Outside offGrid rs1)
+    (cond (not (allows a (fieldAt p place .permission))) (Outside notAllowed rs1)
+    (Inside place))))
+
+abbrev pub inFound : Policy → Access → ℕ → NumberSet → Found → Reach
+inFound p a rs1 s (Found·.At place) = inField p a rs1 s place
+inFound p a rs1 s Found·.Nothing = Outside outsideFields rs1
+
+-- 7: the offsets of a region, with all the bytes from the lowest on inside one field
+unfoldable pub inRegion : Policy → Access → ℕ → ℕ → NumberSet → Reach
+inRegion p a rs1 r s =
+    cond (ltb (s .lo) nought) (Outside outsideFields rs1)
+    (inFound p a rs1 s (findField p r (s .lo - nought) (endOf s (accessWidth a))))
+
+-- 5 and 6, then the rest on the sum of an address and a number
+unfoldable pub reachOf : Policy → Access → ℕ → Entry → ℕ → Entry → Reach
+reachOf p a rs1 x rs2 y =
+    cond (isStartOrNull x) (Outside maybeNull rs1)
+    (cond (isStartOrNull y) (Outside maybeNull rs2)
+    (cond (isAddress x && isNumber y) (inRegion p a rs1 (x .region) (addSets (x .set) (y .set)))
+    (cond (isNumber x && isAddress y) (inRegion p a rs1 (y .region) (addSets (x .set) (y .set)))
+    (Outside noRule rs1))))

@@ -1,0 +1,50 @@
+// What each word does to a row, the conditions that it may break, and what a branch narrows. (Document
+// 01, "What each word does to a row" and "One word's conditions".)
+use rows::Entry;
+use rows::Note;
+
+// The conditions' numbers.
+pub mod conditions;
+// What an instruction makes of its operands.
+pub mod results;
+// Where an access lies.
+pub mod reaching;
+// Second operands: their entries and names.
+mod operands;
+// What each word does to a row.
+pub mod changes;
+// What a comparison leaves of an entry.
+pub mod narrowing;
+
+pub use changes::change_of;
+pub use narrowing::narrow_entry;
+pub use reaching::reach_of;
+pub use results::alu_result;
+pub use results::shift_result;
+
+// What an instruction makes of its operands: an entry, or the number of the condition that is broken.
+pub enum Result {
+    Gives(Entry),
+    Fails(u8),
+}
+
+// Where an access lies: the place of its field in the policy, or the number of the condition that is
+// broken and the register named.
+pub enum Reach {
+    Inside(usize),
+    Outside(u8, u8),
+}
+
+// What a word does to a row: it writes a register and leaves a note, it keeps the row, or it breaks a
+// condition, given by its number and the register named.
+pub enum Change {
+    Writes(u8, Entry, Note),
+    Keeps,
+    Breaks(u8, u8),
+}
+
+// What a comparison leaves of an entry.
+pub enum Remainder {
+    Left(Entry),
+    Nothing,
+}
