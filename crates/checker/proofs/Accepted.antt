@@ -1,21 +1,17 @@
 -- What an accepted check shows: of passes in a row each accepts, of a pass over the words each word does.
-use Prim.Native.Nat.{ℕ, _+_, _*_, _≤_, _<_}
-use mathlib.Core.Path.{_≡_, refl, sym, ap, _∙_, subst}
-use mathlib.Core.Bool.{Bool, true, false, not, cond, _&&_, and-false}
-use mathlib.Core.List.{List}
+use Prim.Native.Nat.{ℕ, _*_, _≤_, _<_}
+use mathlib.Core.Path.{_≡_, refl, sym, ap, _∙_}
+use mathlib.Core.Bool.{Bool, true, false, not, cond, and-false}
 use native.Mathlib.Omega.{arith}
-use lib.Dec.{leb, ltb, eqb}
-use lib.ListN.{length}
-use borrow.Author.Tests.{ltb-true, ltb-false, eqb-true}
-use Rattle.v8.specs.Choice.{cond-both}
+use lib.Dec.{ltb, eqb}
+use borrow.Author.Tests.{ltb-true, ltb-false}
 use Rattle.v8.specs.Search.{first, first-passes, first-least, needed, needed-le, needed-eq}
-use Rattle.policy.specs.declared.Policy.{Policy}
 use Rattle.policy.specs.Policy.{policyOk}
 use Rattle.rows.specs.Row.{entryFormed, formFault, misfit, places}
 use Rattle.rows.proofs.Tests.{false-true}
 use Rattle.checker.specs.declared.Answer.{Answer}
 use Rattle.checker.specs.Answer.{accepted, refuse, passes, andThen, need, refuses, passOf}
-use Rattle.checker.specs.Routine.{Routine, routineOf, count, wordAt, rowAt, entryRow, examined, rowBytes, entryBytes}
+use Rattle.checker.specs.Routine.{Routine, routineOf, count, wordAt, rowAt, entryRow, examined, rowBytes}
 use Rattle.checker.specs.Passes.{unlessFault, policyPass, shapeOk, shapePass, rowPass, isRead, readPass, flowOf, flowPass, entryPass, applied, edges, wordPass, answerOf, checkOf, badPolicy, badShape, badRow, unreadWord, badFlow, entryMisfit}
 use Rattle.checker.specs.Laws.{Checked, Accepts}
 

@@ -4,14 +4,13 @@ use mathlib.Core.Bool.{Bool, true, false, cond, not, _&&_, _||_}
 use mathlib.Core.List.{List}
 use lib.Dec.{leb, ltb, eqb}
 use lib.ListN.{length}
-use Rattle.v8.specs.declared.Instruction.{Instruction}
 use Rattle.v8.specs.declared.Instruction.the-variants.{Sethi, Bicc, Alu, Shift, Load, Store, Return}
 use Rattle.v8.specs.declared.Reading.{Reading}
 use Rattle.v8.specs.declared.Reading.the-variants.{Read, Unread}
 use Rattle.alu.specs.Condition.{conditionOf}
 use Rattle.policy.specs.declared.Policy.{Policy}
 use Rattle.policy.specs.Policy.{policyOk}
-use Rattle.step.specs.Transfer.{isTransfer, slotRuns, targetOf, landing}
+use Rattle.step.specs.Transfer.{slotRuns, targetOf, landing}
 use Rattle.rows.specs.declared.Row.{Row}
 use Rattle.rows.specs.Entry.{fits}
 use Rattle.rows.specs.Row.{entryAt, rowWith, entryFormed, formFault, misfit, places}
@@ -21,7 +20,7 @@ use Rattle.rules.specs.Change.{changeOf}
 use Rattle.rules.specs.Narrow.{RowLeft, left, nothing, narrowRow}
 use Rattle.checker.specs.declared.Answer.{Answer}
 use Rattle.checker.specs.Answer.{accepted, refuse, andThen, need, passOf}
-use Rattle.checker.specs.Routine.{Routine, routineOf, count, wordAt, rowAt, entryRow, resultEntry, transfers, isSlot, examined, hasTaken, hasOther, rowBytes, entryBytes}
+use Rattle.checker.specs.Routine.{Routine, routineOf, count, wordAt, rowAt, entryRow, resultEntry, examined, hasTaken, hasOther, rowBytes, entryBytes}
 
 -- the numbers of the passes
 abbrev pub badPolicy : ℕ

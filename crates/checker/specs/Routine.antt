@@ -1,16 +1,14 @@
 -- A routine as the check sees it: the policy, the words as they are read, their rows, the entry row and the result entry.
-use Prim.Native.Nat.{ℕ, _+_, _-_, _*_}
-use mathlib.Core.Bool.{Bool, true, false, cond, not, _&&_}
+use Prim.Native.Nat.{ℕ, _-_, _*_}
+use mathlib.Core.Bool.{Bool, false, cond, not}
 use mathlib.Core.List.{List}
-use lib.Dec.{leb, ltb, eqb}
+use lib.Dec.{eqb}
 use lib.ListN.{length}
-use Rattle.v8.specs.declared.Instruction.{Instruction}
-use Rattle.v8.specs.declared.Instruction.the-variants.{Sethi, Bicc, Alu, Shift, Load, Store, Return}
 use Rattle.v8.specs.declared.Reading.{Reading}
 use Rattle.v8.specs.declared.Reading.the-variants.{Read, Unread}
 use Rattle.policy.specs.declared.Policy.{Policy}
 use Rattle.step.specs.Setting.{readingsOf, readingAt}
-use Rattle.step.specs.Transfer.{isTransfer, targetOf}
+use Rattle.step.specs.Transfer.{isTransfer}
 use Rattle.rows.specs.declared.Entry.{Entry}
 use Rattle.rows.specs.declared.Row.{Row}
 use Rattle.rows.specs.Row.{entryOf, rowOf}

@@ -2,50 +2,48 @@
 -- (rules' `reaches`), the machine finds that region and that field, and the fields keep their declared values (Stored).
 use Prim.Native.Nat.{ℕ, _+_, _-_, _%_, _≤_, _<_}
 use mathlib.Core.Path.{_≡_, refl, sym, ap, _∙_, subst}
-use mathlib.Core.Bool.{Bool, true, false, cond, not, _&&_, _||_}
+use mathlib.Core.Bool.{Bool, true, false}
 use mathlib.Core.List.{List}
 use native.Mathlib.Omega.{arith}
 use lib.Dec.{leb, ltb, eqb}
-use lib.ListN.{length, getD}
-use borrow.Author.Tests.{leb-true, ltb-true, ltb-false, lt-ltb, le-leb, eq-eqb, eqb-true}
+use lib.ListN.{getD}
+use borrow.Author.Tests.{leb-true, ltb-true, ltb-false, lt-ltb, le-leb, eq-eqb}
 use Rattle.v8.specs.Choice.{cond-both}
 use Rattle.v8.specs.Search.{first, first-passes, first-least}
 use Rattle.v8.specs.declared.LoadOp.{LoadOp}
 use Rattle.v8.specs.declared.StoreOp.{StoreOp}
 use Rattle.v8.specs.declared.Operand.{Operand}
-use Rattle.v8.specs.declared.Operand.the-variants.{Reg, Imm}
 use Rattle.v8.specs.declared.Displacement.{Displacement}
 use Rattle.v8.specs.declared.Displacement.the-variants as Displacement·
-use Rattle.v8.specs.declared.Instruction.{Instruction}
-use Rattle.v8.specs.declared.Instruction.the-variants.{Sethi, Bicc, Alu, Shift, Load, Store, Return}
+use Rattle.v8.specs.declared.Instruction.the-variants.{Load, Store}
 use Rattle.alu.specs.Result.{add32}
 use Rattle.policy.specs.declared.Policy.{Policy}
 use Rattle.policy.specs.declared.Field.{Field}
 use Rattle.policy.specs.declared.Found.the-variants as Found·
-use Rattle.policy.specs.Policy.{sizeOf, countOf, placeOf, fieldAt, fieldEnd}
-use Rattle.policy.specs.Find.{findIn, findField}
+use Rattle.policy.specs.Policy.{sizeOf, placeOf, fieldAt, fieldEnd}
+use Rattle.policy.specs.Find.{findField}
 use Rattle.policy.specs.Laws.{WellFormed}
 use Rattle.policy.proofs.FoundField.{finds}
-use Rattle.memory.specs.Memory.{loadOf, loadWidth, storeOf, storeWidth}
+use Rattle.memory.specs.Memory.{loadOf, storeOf}
 use Rattle.memory.specs.Place.{startOf}
 use Rattle.memory.proofs.Memory.{load-fits, store-keeps-length, store-keeps-bytes}
 use Rattle.access.specs.declared.Access.{Access}
 use Rattle.access.specs.declared.Access.the-variants.{Loads, Stores}
 use Rattle.access.specs.declared.Located.the-variants as Located·
 use Rattle.access.specs.Serve.{accessWidth, serves, allows}
-use Rattle.access.specs.Layout.{Layout, layoutOf}
-use Rattle.access.specs.Locate.{insideRegion, regionIn, regionOf, baseIn, touches, located, locateIn, locate}
+use Rattle.access.specs.Layout.{layoutOf}
+use Rattle.access.specs.Locate.{insideRegion, regionIn, touches, locate}
 use Rattle.step.specs.declared.Aim.the-variants as Aim·
 use Rattle.step.specs.declared.Registers.{Registers}
-use Rattle.step.specs.Registers.{valueOf, isSet, setIn, operandSetIn, operandValue, operandSet, addend, written}
-use Rattle.step.specs.Effect.{Core, Effect, fault, done, effectOf, aimIn, aimOf, addressIn, loadEffect, storeEffect}
+use Rattle.step.specs.Registers.{valueOf, isSet, operandValue, operandSet, addend}
+use Rattle.step.specs.Effect.{Core, effectOf, aimIn, aimOf}
 use Rattle.sets.specs.Sets.{Step}
 use Rattle.sets.proofs.Steps.{by-step}
 use Rattle.rows.specs.declared.Entry.{Entry}
 use Rattle.rows.specs.declared.Row.{Row}
 use Rattle.rows.specs.Entry.{isUnset, fits, fieldEntry}
 use Rattle.rows.specs.Row.{entryAt}
-use Rattle.rows.specs.Matches.{Host, baseOf, Holds, Matches, RowMatches}
+use Rattle.rows.specs.Matches.{baseOf, Holds}
 use Rattle.rows.specs.Laws.{EntryRules}
 use Rattle.rows.proofs.Tests.{and-went, false-true}
 use Rattle.rows.proofs.Fitting.{fits-matches}
@@ -53,16 +51,15 @@ use Rattle.rows.proofs.Obeying.{field-entry-obeys}
 use Rattle.rules.specs.declared.Reach.{Reach}
 use Rattle.rules.specs.declared.Reach.the-variants.{Inside, Outside}
 use Rattle.rules.specs.declared.Change.{Change}
-use Rattle.rules.specs.declared.Change.the-variants.{Writes, Keeps, Breaks}
 use Rattle.rules.specs.Reach.{reachOf}
-use Rattle.rules.specs.Change.{operandEntry, operandName, indexOf, noteAfter, loaded, loadChange, stored, storeChange, changeOf, wrongValue}
+use Rattle.rules.specs.Change.{operandEntry, operandName, indexOf, loaded, loadChange, stored, storeChange, changeOf}
 use Rattle.rules.specs.Laws.{Laid, Reached}
 use Rattle.rules.proofs.RightReach.{width-step, reaches}
-use Rattle.guarantee.specs.Fields.{fieldOf, isReadable, isWritable, byteOf, Declared, Framed}
-use Rattle.guarantee.specs.Safe.{SafeAccess, AccessSafe, InstructionSafe}
-use Rattle.guarantee.specs.Guarantee.{hostOf, heldOf, Words}
+use Rattle.guarantee.specs.Fields.{fieldOf}
+use Rattle.guarantee.specs.Safe.{SafeAccess, AccessSafe}
+use Rattle.guarantee.specs.Guarantee.{hostOf}
 use Rattle.guarantee.specs.Laws.{InElement}
-use Rattle.guarantee.specs.Invariant.{CoreOk, Fitted, Kept, Good, Covers}
+use Rattle.guarantee.specs.Invariant.{CoreOk, Fitted, Kept, Covers}
 use Rattle.guarantee.proofs.Writing.{read-small}
 use Rattle.guarantee.proofs.Numbers.{OperandSmall}
 use Rattle.guarantee.proofs.Computed.{register-held, operand-held, operand-rules, operand-word, written-kept}

@@ -1,7 +1,7 @@
 -- What SETHI, arithmetic, logic and shifts do to a row covers what they do to the machine. They read registers that match set entries, write
 -- one register with a value that the new entry holds, and leave memory as it is.
-use Prim.Native.Nat.{ℕ, _+_, _≤_, _<_}
-use mathlib.Core.Path.{_≡_, refl, sym, ap, _∙_, subst}
+use Prim.Native.Nat.{ℕ, _≤_, _<_}
+use mathlib.Core.Path.{_≡_, refl}
 use mathlib.Core.Bool.{Bool, true, false, not, cond, _&&_}
 use mathlib.Core.List.{List}
 use native.Mathlib.Omega.{arith}
@@ -12,40 +12,36 @@ use Rattle.v8.specs.declared.AluOp.{AluOp}
 use Rattle.v8.specs.declared.ShiftOp.{ShiftOp}
 use Rattle.v8.specs.declared.Operand.{Operand}
 use Rattle.v8.specs.declared.Operand.the-variants.{Reg, Imm}
-use Rattle.v8.specs.declared.Instruction.{Instruction}
-use Rattle.v8.specs.declared.Instruction.the-variants.{Sethi, Bicc, Alu, Shift, Load, Store, Return}
+use Rattle.v8.specs.declared.Instruction.the-variants.{Sethi, Alu, Shift}
 use Rattle.alu.specs.Result.{aluOf, shiftOf, sethiOf}
 use Rattle.alu.specs.Codes.{codesOf}
 use Rattle.alu.proofs.Words.{alu-small, shift-small, sethi-small}
 use Rattle.policy.specs.declared.Policy.{Policy}
-use Rattle.access.specs.Layout.{Layout, layoutOf}
+use Rattle.access.specs.Layout.{layoutOf}
 use Rattle.step.specs.declared.Registers.{Registers}
 use Rattle.step.specs.Registers.{valueOf, isSet, operandValue, operandSet, written, withCodes}
-use Rattle.step.specs.Effect.{Core, Effect, fault, done, effectOf, aluRegisters, keeping, ifSet, aluEffect, shiftEffect}
-use Rattle.sets.specs.Sets.{single, nought}
+use Rattle.step.specs.Effect.{Core, effectOf}
 use Rattle.sets.proofs.Ends.{single-formed, single-holds}
 use Rattle.rows.specs.declared.Entry.{Entry}
 use Rattle.rows.specs.declared.Note.{Note}
 use Rattle.rows.specs.declared.Row.{Row}
-use Rattle.rows.specs.Entry.{isUnset, isNumber, constant, codesSet, isConstant, comparison, isComparison}
+use Rattle.rows.specs.Entry.{isUnset, isNumber, constant, isConstant, isComparison}
 use Rattle.rows.specs.Row.{entryAt, rowWith}
-use Rattle.rows.specs.Matches.{Host, Holds, Matches, Held, NoteMatches, RowMatches}
-use Rattle.rows.specs.Laws.{EntryRules, RowRules}
+use Rattle.rows.specs.Matches.{Host, Holds}
+use Rattle.rows.specs.Laws.{EntryRules}
 use Rattle.rows.proofs.Tests.{and-went}
 use Rattle.rows.proofs.ByKind.{number-rules, holds-number}
 use Rattle.rules.specs.declared.Result.{Result}
 use Rattle.rules.specs.declared.Result.the-variants.{Gives, Fails}
 use Rattle.rules.specs.declared.Change.{Change}
-use Rattle.rules.specs.declared.Change.the-variants.{Writes, Keeps, Breaks}
 use Rattle.rules.specs.Result.{aluResult, shiftResult, isSub}
-use Rattle.rules.specs.Change.{operandEntry, operandName, noteAfter, codesNote, writing, aluChange, shiftChange, changeOf}
+use Rattle.rules.specs.Change.{operandEntry, noteAfter, codesNote, writing, aluChange, shiftChange, changeOf}
 use Rattle.rules.specs.Laws.{Laid, Right, Wrote}
 use Rattle.rules.proofs.RightResult.{alu-right, shift-right}
 use Rattle.rules.proofs.Writes.{writes-row, keeps-note, makes-note}
 use Rattle.guarantee.specs.Fields.{Framed}
-use Rattle.guarantee.specs.Safe.{InstructionSafe}
 use Rattle.guarantee.specs.Guarantee.{heldOf, Words}
-use Rattle.guarantee.specs.Invariant.{CoreOk, Fitted, Kept, Good, Covers}
+use Rattle.guarantee.specs.Invariant.{CoreOk, Fitted, Kept, Covers}
 use Rattle.guarantee.proofs.Writing.{wrote, words-written, words-coded, read-small}
 use Rattle.guarantee.proofs.Numbers.{OperandSmall}
 

@@ -1,8 +1,7 @@
 -- What 22 shows where it finds nothing wrong: the regions lie as the rules need them, and the memory is as long as all of them.
 use Prim.Native.Nat.{ℕ, _+_, _%_, _≤_, _<_}
-use mathlib.Core.Path.{_≡_, refl, sym, ap, _∙_, subst}
-use mathlib.Core.Logic.{⊎-elim}
-use mathlib.Core.Bool.{Bool, true, false, cond, _&&_, _||_, and-false}
+use mathlib.Core.Path.{_≡_, refl}
+use mathlib.Core.Bool.{Bool, true, false, _&&_, and-false}
 use mathlib.Core.List.{List}
 use native.Mathlib.Omega.{arith}
 use lib.Dec.{leb, ltb, eqb}
@@ -10,8 +9,7 @@ use lib.ListN.{length, getD}
 use borrow.Author.Tests.{eqb-true, leb-true, ltb-true, ltb-false}
 use Rattle.v8.specs.Search.{all, all-at, needed, needed-eq}
 use Rattle.memory.specs.Place.{lengthOf}
-use Rattle.machine.specs.Placement.{basePlaced, apartFrom, baseIn, apartIn, disjointIn, placedIn}
-use Rattle.rows.specs.Matches.{Host, baseOf}
+use Rattle.machine.specs.Placement.{baseIn, apartIn, disjointIn, placedIn}
 use Rattle.rows.proofs.Tests.{and-went, or-went}
 use Rattle.rules.specs.Laws.{Laid}
 use Rattle.guarantee.specs.Guarantee.{hostOf}

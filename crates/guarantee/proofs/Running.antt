@@ -1,22 +1,17 @@
 -- The guarantee from any state that satisfies the invariant, by induction on the allowance: one step leads to such a state or returns, and what
 -- is claimed of the rest of the run is claimed of the whole.
-use Prim.Native.Nat.{ℕ, zero, suc, _+_, _-_, _%_, _≤_, _<_}
+use Prim.Native.Nat.{ℕ, zero, suc, _+_, _-_, _%_, _<_}
 use mathlib.Core.Path.{_≡_, refl, sym, ap, _∙_, subst}
-use mathlib.Core.Bool.{Bool, true, false}
 use mathlib.Core.List.{List, [], _∷_}
 use native.Mathlib.Omega.{arith}
 use native.Mathlib.Nat.{zero-add}
 use lib.ListN.{length, getD}
 use Rattle.policy.specs.declared.Policy.{Policy}
 use Rattle.policy.specs.Laws.{WellFormed}
-use Rattle.memory.specs.Memory.{byteAt}
 use Rattle.access.specs.Layout.{layoutOf}
-use Rattle.step.specs.Registers.{valueOf, isSet}
 use Rattle.step.specs.Setting.{Setting, readingAt}
-use Rattle.step.specs.Effect.{Core}
 use Rattle.step.specs.Step.{State, Step, stopped, next, returned, stepOf}
-use Rattle.machine.specs.declared.End.{End}
-use Rattle.machine.specs.declared.End.the-variants.{Returned, Spent, Fault, Refused}
+use Rattle.machine.specs.declared.End.the-variants.{Returned, Spent}
 use Rattle.machine.specs.Run.{Run, ended, afterStep, tracedStep, runFrom, traceFrom}
 use Rattle.machine.proofs.RunLaws.{counts-trace}
 use Rattle.rows.specs.Matches.{Host}
@@ -27,7 +22,7 @@ use Rattle.checker.specs.Laws.{Checked}
 use Rattle.guarantee.specs.Fields.{Declared, Framed}
 use Rattle.guarantee.specs.Safe.{ReadingSafe}
 use Rattle.guarantee.specs.Guarantee.{hostOf, noState, EndsWell, EndsWith, LastStep, Guaranteed}
-use Rattle.guarantee.specs.Invariant.{CoreOk, Invariant, Stepped, Left, StepGood}
+use Rattle.guarantee.specs.Invariant.{Invariant, StepGood}
 use Rattle.guarantee.proofs.Numbers.{ReadingSmall}
 use Rattle.guarantee.proofs.Computed.{framed-self}
 use Rattle.guarantee.proofs.Stepping.{step-sound}

@@ -1,21 +1,20 @@
 -- One step from a state that satisfies the invariant leads to one, and is safe. A plain word, in a slot or not, is covered by the change that the
 -- check made of its row; a branch takes an edge that the check looked at, narrowed by a condition that holds; the return finds the return
 -- address in r15.
-use Prim.Native.Nat.{ℕ, _+_, _-_, _*_, _%_, _≤_, _<_}
+use Prim.Native.Nat.{ℕ, _+_, _-_, _*_, _%_, _<_}
 use mathlib.Core.Path.{_≡_, refl, sym, ap, _∙_, subst}
 use mathlib.Core.Bool.{Bool, true, false, not, cond, _&&_, _||_, and-false}
 use mathlib.Core.List.{List}
 use native.Mathlib.Omega.{arith}
-use lib.Dec.{leb, ltb, eqb}
-use lib.ListN.{getD}
+use lib.Dec.{ltb, eqb}
 use borrow.Author.Tests.{eqb-true, ltb-true, eq-eqb, ne-eqb}
-use Rattle.v8.specs.Choice.{cond-both, cond-went}
+use Rattle.v8.specs.Choice.{cond-both}
 use Rattle.v8.specs.declared.Instruction.{Instruction}
 use Rattle.v8.specs.declared.Instruction.the-variants.{Sethi, Bicc, Alu, Shift, Load, Store, Return}
 use Rattle.v8.specs.declared.Reading.{Reading}
 use Rattle.v8.specs.declared.Reading.the-variants.{Read, Unread}
 use Rattle.alu.specs.declared.codes.Codes.{Codes}
-use Rattle.alu.specs.Condition.{condHolds, conditionOf, formulas}
+use Rattle.alu.specs.Condition.{condHolds, conditionOf}
 use Rattle.alu.proofs.Conditions.{opposite-holds}
 use Rattle.policy.specs.declared.Policy.{Policy}
 use Rattle.policy.specs.Laws.{WellFormed}
@@ -23,19 +22,17 @@ use Rattle.access.specs.Layout.{Layout, layoutOf}
 use Rattle.step.specs.declared.Pending.{Pending}
 use Rattle.step.specs.declared.Pending.the-variants as Pending·
 use Rattle.step.specs.declared.Control.{Control}
-use Rattle.step.specs.declared.Registers.{Registers}
 use Rattle.step.specs.Registers.{valueOf, isSet}
-use Rattle.step.specs.Setting.{Setting, readingAt}
-use Rattle.step.specs.Transfer.{isTransfer, readsCodes, slotRuns, targetOf, landing, goTo, afterBranch, afterReturn, inSlot}
+use Rattle.step.specs.Setting.{readingAt}
+use Rattle.step.specs.Transfer.{isTransfer, readsCodes, slotRuns, targetOf, landing, goTo, afterBranch}
 use Rattle.step.specs.Effect.{Core, Effect, fault, done, effectOf}
-use Rattle.step.specs.Step.{State, Step, stopped, next, returned, advance, plainStep, branchStep, returnStep, execute, stepWith, stepOf}
-use Rattle.rows.specs.declared.Entry.{Entry}
+use Rattle.step.specs.Step.{State, Step, next, advance, plainStep, branchStep, returnStep, execute, stepWith, stepOf}
 use Rattle.rows.specs.declared.Row.{Row}
-use Rattle.rows.specs.Entry.{isUnset, isReturn, fits}
-use Rattle.rows.specs.Row.{entryAt, rowWith, places, misfit}
-use Rattle.rows.specs.Matches.{Host, Holds, Matches, RowMatches}
+use Rattle.rows.specs.Entry.{isUnset, isReturn}
+use Rattle.rows.specs.Row.{entryAt}
+use Rattle.rows.specs.Matches.{Host}
 use Rattle.rows.specs.Laws.{EntryRules, RowRules}
-use Rattle.rows.proofs.Tests.{and-went, or-went, false-true, other-kind}
+use Rattle.rows.proofs.Tests.{and-went, or-went, false-true}
 use Rattle.rows.proofs.Fitting.{fits-matches}
 use Rattle.rows.proofs.RowFitting.{row-fits}
 use Rattle.rows.proofs.Obeying.{row-obeys}
@@ -45,17 +42,15 @@ use Rattle.rules.specs.Change.{changeOf, branchChange, returnChange, link}
 use Rattle.rules.specs.Narrow.{RowLeft, left, nothing, narrowRow}
 use Rattle.rules.specs.Laws.{Laid, LeftMatches}
 use Rattle.rules.proofs.Narrowed.{narrows-row}
-use Rattle.rules.proofs.Numbered.{Numbered, change-numbered}
 use Rattle.checker.specs.declared.Answer.{Answer}
-use Rattle.checker.specs.Answer.{accepted, refuse, passes, andThen}
+use Rattle.checker.specs.Answer.{passes}
 use Rattle.checker.specs.Routine.{Routine, count, wordAt, rowAt, resultEntry, transfers, isSlot, examined, hasTaken, hasOther}
-use Rattle.checker.specs.Passes.{isRead, landsAt, plainFlow, transferFlow, branchFlow, flowOf, Destination, to, caller, arrive, made, changeBy, applied, edgeOf, ifLeft, branchEdge, branchEdges, edges, oppositeOf, edgeMisfit, resultMisfit, resultRegister}
-use Rattle.checker.specs.Laws.{Checked}
-use Rattle.checker.proofs.Accepted.{both-pass, need-holds, no-fault}
-use Rattle.guarantee.specs.Fields.{Framed}
+use Rattle.checker.specs.Passes.{isRead, landsAt, plainFlow, transferFlow, branchFlow, flowOf, Destination, to, caller, arrive, changeBy, applied, edgeOf, branchEdges, edges, oppositeOf, resultRegister}
+use Rattle.checker.specs.Laws.{Checked, Flows, After}
+use Rattle.checker.proofs.Looked.{branch-flows, word-makes, branch-looks, slot-applied, slot-skipped, arrives-at, arrives-home}
 use Rattle.guarantee.specs.Safe.{InstructionSafe, ReadingSafe}
 use Rattle.guarantee.specs.Guarantee.{hostOf, heldOf}
-use Rattle.guarantee.specs.Invariant.{CoreOk, Fitted, Kept, Good, Covers, At, Arrived, After, Due, Ready, Invariant, Stepped, Left, StepGood}
+use Rattle.guarantee.specs.Invariant.{CoreOk, Fitted, Kept, Good, Covers, At, Arrived, Due, Ready, Invariant, StepGood}
 use Rattle.guarantee.proofs.Writing.{read-small}
 use Rattle.guarantee.proofs.Numbers.{InstructionSmall, ReadingSmall}
 use Rattle.guarantee.proofs.Computed.{framed-self, sethi-covers, alu-covers, shift-covers}
@@ -128,21 +123,6 @@ plain-execute l returns st (Load op rd rs1 d) e = refl
 plain-execute l returns st (Store op rd rs1 d) e = refl
 plain-execute l returns st Return e = false-true (sym e)
 
--- a change that let the check go on made a row, of which the rest passes
-record Made (t : Routine) (w : ℕ) (row : Row) (rest : Row → Answer) (ch : Change) : Type 0 where
-  after : Row
-  change : After row ch after
-  passed : passes (rest after) ≡ true
-
-made-passes : (t : Routine) (w : ℕ) (row : Row) (rest : Row → Answer) (ch : Change) → Numbered ch → passes (made t w row rest ch) ≡ true → Made t w row rest ch
-made-passes t w row rest (Writes r e n) k q = record { after = rowWith row r e n; change = refl; passed = q }
-made-passes t w row rest Keeps k q = record { after = row; change = refl; passed = q }
-made-passes t w row rest (Breaks n r) k q = false-true (sym k ∙ q)
-
-numbered-by : (t : Routine) (row : Row) (x : Reading) → Numbered (changeBy t row x)
-numbered-by t row (Read x) = change-numbered (t .policy) row x
-numbered-by t row Unread = refl
-
 -- what covers a change covers the row after it
 covers-after : (p : Policy) (h : Host) (row after : Row) (c : Core) (x : Instruction) (e : Effect) (ch : Change) → Covers p h row c x e ch → After row ch after
     → InstructionSafe p h (c .registers) x × Good p h after c e
@@ -200,13 +180,13 @@ module _ (t : Routine) (bases : List ℕ) (returns : ℕ) (wf : WellFormed (t .p
             record {
               rules = row-rules i (lands .0);
               matches = row-fits h (t .policy .regions) (t .policy .sizes) row (rowAt t i) (heldOf (c .registers)) (read-small (c .registers) (ck .words))
-                  (f .rules) (row-rules i (lands .0)) (no-fault edgeMisfit w (misfit row (rowAt t i)) refl e) (f .matches);
+                  (f .rules) (row-rules i (lands .0)) (arrives-at t w i row e) (f .matches);
             };
       }
   arrive-sound w caller row lands e c ck f =
       fits-matches h (t .policy .regions) (t .policy .sizes) (entryAt row resultRegister) (resultEntry t) (isSet (c .registers) resultRegister)
       (valueOf (c .registers) resultRegister) (read-small (c .registers) (ck .words) resultRegister) (f .rules .entries resultRegister) result
-      (need-holds (fits (entryAt row resultRegister) (resultEntry t)) resultMisfit w resultRegister refl e) (f .matches .entries resultRegister)
+      (arrives-home t w row e) (f .matches .entries resultRegister)
 
   -- every instruction that is no transfer is covered
   covered : (x : Instruction) → isTransfer x ≡ false → InstructionSmall x → (row : Row) (c : Core) → CoreOk (t .policy) h c → Fitted (t .policy) h row c
@@ -262,15 +242,15 @@ module _ (t : Routine) (bases : List ℕ) (returns : ℕ) (wf : WellFormed (t .p
   -- a plain word outside slots is due to go to the next
   plain-due : (w : ℕ) (x : Instruction) (c : Core) → isTransfer x ≡ false → wordAt t w ≡ Read x → At t h w c → Due t h (Read x) (to (w + 1)) c
   plain-due w x c e q at =
-      let p = subst (λ (r : Reading). passes (made t w (rowAt t w) (edges t w r) (changeBy t (rowAt t w) r)) ≡ true) q (ch .words w (at .inside) (at .free)) in
-      let m = made-passes t w (rowAt t w) (edges t w (Read x)) (changeOf (t .policy) (rowAt t w) x) (change-numbered (t .policy) (rowAt t w) x) p in
+      let m = word-makes t w (rowAt t w) (edges t w (wordAt t w)) (ch .words w (at .inside) (at .free)) in
       record {
         plain = e;
         row = rowAt t w;
         fitted = at .fitted;
         after = m .after;
-        change = m .change;
-        arrives = arrive-sound w (to (w + 1)) (m .after) (on, next-free w (ap transfers q ∙ e)) (subst (λ (a : Answer). passes a ≡ true) (plain-edges t w x e (m .after)) (m .passed));
+        change = subst (λ (r : Reading). After (rowAt t w) (changeBy t (rowAt t w) r) (m .after)) q (m .change);
+        arrives = arrive-sound w (to (w + 1)) (m .after) (on, next-free w (ap transfers q ∙ e))
+            (subst (λ (a : Answer). passes a ≡ true) (ap (λ (r : Reading). edges t w r (m .after)) q ∙ plain-edges t w x e (m .after)) (m .passed));
       }
     where
       on : w + 1 < count t
@@ -283,7 +263,7 @@ module _ (t : Routine) (bases : List ℕ) (returns : ℕ) (wf : WellFormed (t .p
   slot-due : (w : ℕ) (d : Destination) (row : Row) (c : Core) → w + 1 < count t → transfers (wordAt t w) ≡ true → Lands d → Fitted (t .policy) h row c
       → passes (applied t (w + 1) row (arrive t w d)) ≡ true → Due t h (wordAt t (w + 1)) d c
   slot-due w d row c i e lands f p =
-      let m = made-passes t (w + 1) row (arrive t w d) (changeBy t row (wordAt t (w + 1))) (numbered-by t row (wordAt t (w + 1))) p in
+      let m = word-makes t (w + 1) row (arrive t w d) p in
       record {
         plain = slot-plain w i e;
         row = row;
@@ -298,49 +278,31 @@ module _ (t : Routine) (bases : List ℕ) (returns : ℕ) (wf : WellFormed (t .p
     edge-sound : (taken : Bool) (row : Row) → Lands (to (landing w distance taken)) → Fitted (t .policy) h row c
         → passes (edgeOf t w (slotRuns annul cnd taken) (to (landing w distance taken)) row) ≡ true
         → StepGood t h c (next (record { control = afterBranch w annul cnd distance taken; core = c }))
-    unfolding edgeOf
     edge-sound taken row lands f p = at (slotRuns annul cnd taken) p
       where
-        at : (runs : Bool) → passes (cond runs (applied t (w + 1) row (arrive t w (to (landing w distance taken)))) (arrive t w (to (landing w distance taken)) row)) ≡ true
+        at : (runs : Bool) → passes (edgeOf t w runs (to (landing w distance taken)) row) ≡ true
             → StepGood t h c (next (record {
               control = cond runs (record { at = record { 0 = w + 1 }; pending = Pending·.Jump (record { 0 = landing w distance taken }) }) (goTo (landing w distance taken));
               core = c;
             }))
         at true p =
             record {
-              invariant = record { core = ck; ready = slot-due w (to (landing w distance taken)) row c i q lands f p };
+              invariant = record { core = ck; ready = slot-due w (to (landing w distance taken)) row c i q lands f (slot-applied t w (to (landing w distance taken)) row p) };
               framed = framed-self (t .policy) (c .memory);
             }
         at false p =
             record {
-              invariant = record { core = ck; ready = arrive-sound w (to (landing w distance taken)) row lands p c ck f };
+              invariant = record { core = ck; ready = arrive-sound w (to (landing w distance taken)) row lands (slot-skipped t w (to (landing w distance taken)) row p) c ck f };
               framed = framed-self (t .policy) (c .memory);
             }
 
+    -- narrowing has left a row, and the edge from it was looked at
     left-sound : (taken : Bool) (n : RowLeft) → Lands (to (landing w distance taken))
         → LeftMatches (t .policy .regions) (t .policy .sizes) h n (heldOf (c .registers))
-        → passes (ifLeft t (edgeOf t w (slotRuns annul cnd taken) (to (landing w distance taken))) n) ≡ true
+        → ((row : Row) → n ≡ left row → passes (edgeOf t w (slotRuns annul cnd taken) (to (landing w distance taken)) row) ≡ true)
         → StepGood t h c (next (record { control = afterBranch w annul cnd distance taken; core = c }))
-    left-sound taken (left row) lands m p = edge-sound taken row lands (record { rules = m .0; matches = m .1 }) p
+    left-sound taken (left row) lands m p = edge-sound taken row lands (record { rules = m .0; matches = m .1 }) (p row refl)
     left-sound taken nothing lands m p = absurd m
-
-  -- what the flow of a branch says of its edges
-  record Flows (w cnd distance : ℕ) : Type 0 where
-    slot : w + 1 < count t
-    other : hasOther cnd ≡ true → w + 2 < count t
-    target : hasTaken cnd ≡ true → Lands (to (targetOf w distance))
-
-  branch-flows : (w cnd distance : ℕ) → branchFlow t w cnd distance ≡ true → Flows w cnd distance
-  branch-flows w cnd distance e =
-      let p = and-went (transferFlow t w && (not (hasOther cnd) || ltb (w + 2) (count t))) (not (hasTaken cnd) || landsAt t (targetOf w distance)) e in
-      let q = and-went (transferFlow t w) (not (hasOther cnd) || ltb (w + 2) (count t)) (p .0) in
-      record {
-        slot = ltb-true (w + 1) (count t) (and-went (ltb (w + 1) (count t)) (examined t w) (q .0) .0);
-        other = λ o. or-went (not (hasOther cnd)) (ltb (w + 2) (count t)) (q .1) (λ n. false-true (sym (ap not o) ∙ n)) (ltb-true (w + 2) (count t));
-        target = λ o. or-went (not (hasTaken cnd)) (landsAt t (targetOf w distance)) (p .1) (λ n. false-true (sym (ap not o) ∙ n))
-            (λ n. let k = and-went (ltb (targetOf w distance) (count t)) (examined t (targetOf w distance)) n in
-            (ltb-true (targetOf w distance) (count t) (k .0), k .1));
-      }
 
   -- two words after a transfer stands no slot
   second-free : (w : ℕ) → w + 1 < count t → transfers (wordAt t w) ≡ true → examined t (w + 2) ≡ true
@@ -349,9 +311,9 @@ module _ (t : Routine) (bases : List ℕ) (returns : ℕ) (wf : WellFormed (t .p
       two : (w : ℕ) → w + 1 + 1 ≡ w + 2
       two w = omega arith
 
-  lands-on : (w cnd distance : ℕ) → Flows w cnd distance → transfers (wordAt t w) ≡ true → (taken : Bool)
+  lands-on : (w cnd distance : ℕ) → Flows t w cnd distance → transfers (wordAt t w) ≡ true → (taken : Bool)
       → cond taken (hasTaken cnd) (hasOther cnd) ≡ true → Lands (to (landing w distance taken))
-  lands-on w cnd distance f e true o = f .target o
+  lands-on w cnd distance f e true o = (f .inside o, f .free o)
   lands-on w cnd distance f e false o = (f .other o, second-free w (f .slot) e)
 
   -- the codes are set where a branch reads them
@@ -381,46 +343,33 @@ module _ (t : Routine) (bases : List ℕ) (returns : ℕ) (wf : WellFormed (t .p
       cond-both (λ (k : Change). After row k after → after ≡ row) (eqb (row .note .kind) 0 && not (eqb cnd 0) && not (eqb cnd 8)) (λ _ x. absurd x) (λ _ x. x) a
 
   -- the edge that the condition takes was looked at
-  module _ (w : ℕ) (annul : Bool) (cnd distance : ℕ) (c : Core) (ck : CoreOk (t .policy) h c) (q : transfers (wordAt t w) ≡ true) (f : Flows w cnd distance)
+  module _ (w : ℕ) (annul : Bool) (cnd distance : ℕ) (c : Core) (ck : CoreOk (t .policy) h c) (q : transfers (wordAt t w) ≡ true) (f : Flows t w cnd distance)
       (row : Row) (fit : Fitted (t .policy) h row c) where
-    edge-taken : (taken : Bool) → condHolds cnd (c .registers .codes) ≡ taken → cond taken (hasTaken cnd) (hasOther cnd) ≡ true
-        → passes (branchEdge t w annul cnd distance taken row) ≡ true
+    edge-taken : passes (branchEdges t w annul cnd distance row) ≡ true → (taken : Bool) → condHolds cnd (c .registers .codes) ≡ taken
         → StepGood t h c (next (record { control = afterBranch w annul cnd distance taken; core = c }))
-    unfolding branchEdge
-    edge-taken true e o p =
+    edge-taken p true e =
+        let o = taken-some cnd (c .registers .codes) e in
         left-sound w annul cnd distance c ck q (f .slot) true (narrowRow (conditionOf cnd .narrowing) row) (lands-on w cnd distance f q true o)
-        (narrows-row (t .policy .regions) (t .policy .sizes) h cnd row (heldOf (c .registers)) (read-small (c .registers) (ck .words)) (fit .rules) (fit .matches) e) p
-    edge-taken false e o p =
+        (narrows-row (t .policy .regions) (t .policy .sizes) h cnd row (heldOf (c .registers)) (read-small (c .registers) (ck .words)) (fit .rules) (fit .matches) e)
+        (branch-looks t w annul cnd distance row p true o)
+    edge-taken p false e =
+        let o = other-some cnd (c .registers .codes) e in
         left-sound w annul cnd distance c ck q (f .slot) false (narrowRow (conditionOf (oppositeOf cnd) .narrowing) row) (lands-on w cnd distance f q false o)
         (narrows-row (t .policy .regions) (t .policy .sizes) h (oppositeOf cnd) row (heldOf (c .registers)) (read-small (c .registers) (ck .words)) (fit .rules) (fit .matches)
-        (opposite-holds cnd (c .registers .codes) ∙ ap not e)) p
-
-    edges-taken : passes (branchEdges t w annul cnd distance row) ≡ true
-        → StepGood t h c (next (record { control = afterBranch w annul cnd distance (condHolds cnd (c .registers .codes)); core = c }))
-    unfolding branchEdges
-    edges-taken p =
-        let b = both-pass (cond (hasTaken cnd) (branchEdge t w annul cnd distance true row) accepted) (cond (hasOther cnd) (branchEdge t w annul cnd distance false row) accepted) p in
-        at (condHolds cnd (c .registers .codes)) refl (b .0) (b .1)
-      where
-        at : (taken : Bool) → condHolds cnd (c .registers .codes) ≡ taken
-            → passes (cond (hasTaken cnd) (branchEdge t w annul cnd distance true row) accepted) ≡ true
-            → passes (cond (hasOther cnd) (branchEdge t w annul cnd distance false row) accepted) ≡ true
-            → StepGood t h c (next (record { control = afterBranch w annul cnd distance taken; core = c }))
-        at true e p₁ p₂ = let o = taken-some cnd (c .registers .codes) e in edge-taken true e o (rw o at p₁)
-        at false e p₁ p₂ = let o = other-some cnd (c .registers .codes) e in edge-taken false e o (rw o at p₂)
+        (opposite-holds cnd (c .registers .codes) ∙ ap not e))
+        (branch-looks t w annul cnd distance row p false o)
 
   branch-step : (w : ℕ) (annul : Bool) (cnd distance : ℕ) (c : Core) → CoreOk (t .policy) h c → At t h w c → transfers (wordAt t w) ≡ true
-      → branchFlow t w cnd distance ≡ true
-      → passes (made t w (rowAt t w) (branchEdges t w annul cnd distance) (branchChange (rowAt t w .note) cnd)) ≡ true
-      → Numbered (branchChange (rowAt t w .note) cnd)
+      → branchFlow t w cnd distance ≡ true → (after : Row) → After (rowAt t w) (branchChange (rowAt t w .note) cnd) after
+      → passes (branchEdges t w annul cnd distance after) ≡ true
       → (readsCodes cnd ≡ true → c .registers .coded ≡ true) × StepGood t h c (branchStep (record { control = goTo w; core = c }) annul cnd distance)
-  branch-step w annul cnd distance c ck at q flow p n =
-      let m = made-passes t w (rowAt t w) (branchEdges t w annul cnd distance) (branchChange (rowAt t w .note) cnd) n p in
-      let s = codes-set (rowAt t w) c cnd (at .fitted) (m .after) (m .change) in (
+  branch-step w annul cnd distance c ck at q flow after a p =
+      let s = codes-set (rowAt t w) c cnd (at .fitted) after a in (
         s,
         rw (read (readsCodes cnd) (c .registers .coded) s)
-            (edges-taken w annul cnd distance c ck q (branch-flows w cnd distance flow) (rowAt t w) (at .fitted)
-            (subst (λ (r : Row). passes (branchEdges t w annul cnd distance r) ≡ true) (branch-after (rowAt t w) (m .after) cnd (m .change)) (m .passed))),
+            (edge-taken w annul cnd distance c ck q (branch-flows t w cnd distance flow) (rowAt t w) (at .fitted)
+            (subst (λ (r : Row). passes (branchEdges t w annul cnd distance r) ≡ true) (branch-after (rowAt t w) after cnd a) p)
+            (condHolds cnd (c .registers .codes)) refl),
       )
     where
       read : (x y : Bool) → (x ≡ true → y ≡ true) → (x && not y) ≡ false
@@ -440,21 +389,28 @@ module _ (t : Routine) (bases : List ℕ) (returns : ℕ) (wf : WellFormed (t .p
       R = (isSet (c .registers) link ≡ true) × (valueOf (c .registers) link ≡ returns) × (after ≡ row)
 
   return-step : (w : ℕ) (c : Core) → CoreOk (t .policy) h c → At t h w c → transfers (wordAt t w) ≡ true → transferFlow t w ≡ true
-      → passes (made t w (rowAt t w) (edgeOf t w true caller) (returnChange (entryAt (rowAt t w) link))) ≡ true
-      → Numbered (returnChange (entryAt (rowAt t w) link))
+      → (after : Row) → After (rowAt t w) (returnChange (entryAt (rowAt t w) link)) after → passes (edgeOf t w true caller after) ≡ true
       → ((isSet (c .registers) link ≡ true) × (valueOf (c .registers) link ≡ returns)) × StepGood t h c (returnStep returns (record { control = goTo w; core = c }))
-  unfolding edgeOf
-  return-step w c ck at q flow p n =
-      let m = made-passes t w (rowAt t w) (edgeOf t w true caller) (returnChange (entryAt (rowAt t w) link)) n p in
-      let r = return-held (rowAt t w) (m .after) c (at .fitted) (m .change) in
+  return-step w c ck at q flow after a p =
+      let r = return-held (rowAt t w) after c (at .fitted) a in
       let i = ltb-true (w + 1) (count t) (and-went (ltb (w + 1) (count t)) (examined t w) flow .0) in
-      let e = subst (λ (x : Row). passes (edgeOf t w true caller x) ≡ true) (r .2) (m .passed) in (
+      let e = subst (λ (x : Row). passes (edgeOf t w true caller x) ≡ true) (r .2) p in (
         (r .0, r .1),
         rw (r .0, eq-eqb (valueOf (c .registers) link % 4) 0 (ap (λ (v : ℕ). v % 4) (r .1) ∙ four), eq-eqb (valueOf (c .registers) link) returns (r .1))
             (record {
-              invariant = record { core = ck; ready = slot-due w caller (rowAt t w) c i q tt (at .fitted) e };
+              invariant = record { core = ck; ready = slot-due w caller (rowAt t w) c i q tt (at .fitted) (slot-applied t w caller (rowAt t w) e) };
               framed = framed-self (t .policy) (c .memory);
             }),
+      )
+
+  -- what a transfer that was looked at makes of its row
+  word-made : (w : ℕ) (c : Core) → At t h w c → (x : Reading) → wordAt t w ≡ x
+      → (after : Row) × After (rowAt t w) (changeBy t (rowAt t w) x) after × (passes (edges t w x after) ≡ true)
+  word-made w c at x q =
+      let m = word-makes t w (rowAt t w) (edges t w (wordAt t w)) (ch .words w (at .inside) (at .free)) in (
+        m .after,
+        subst (λ (r : Reading). After (rowAt t w) (changeBy t (rowAt t w) r) (m .after)) q (m .change),
+        subst (λ (r : Reading). passes (edges t w r (m .after)) ≡ true) q (m .passed),
       )
 
   abbrev Steps : Core → Reading → Step → Type 0
@@ -466,9 +422,8 @@ module _ (t : Routine) (bases : List ℕ) (returns : ℕ) (wf : WellFormed (t .p
   free-step w c ck at Unread q = false-true (sym (ap (isRead t) q) ∙ ch .reads w (at .inside))
   free-step w c ck at (Read (Sethi rd imm22)) q = plain-step (goTo w) (Sethi rd imm22) c tt ck (plain-due w (Sethi rd imm22) c refl q at)
   free-step w c ck at (Read (Bicc annul cnd d)) q =
-      branch-step w annul cnd (d .0) c ck at (ap transfers q) (subst (λ (r : Reading). flowOf t w r ≡ true) q (ch .flows w (at .inside)))
-      (subst (λ (r : Reading). passes (made t w (rowAt t w) (edges t w r) (changeBy t (rowAt t w) r)) ≡ true) q (ch .words w (at .inside) (at .free)))
-      (change-numbered (t .policy) (rowAt t w) (Bicc annul cnd d))
+      let m = word-made w c at (Read (Bicc annul cnd d)) q in
+      branch-step w annul cnd (d .0) c ck at (ap transfers q) (subst (λ (r : Reading). flowOf t w r ≡ true) q (ch .flows w (at .inside))) (m .0) (m .1) (m .2)
   free-step w c ck at (Read (Alu op cc rd rs1 x)) q =
       plain-step (goTo w) (Alu op cc rd rs1 x) c (subst ReadingSmall q (small w)) ck (plain-due w (Alu op cc rd rs1 x) c refl q at)
   free-step w c ck at (Read (Shift op rd rs1 x)) q =
@@ -478,9 +433,8 @@ module _ (t : Routine) (bases : List ℕ) (returns : ℕ) (wf : WellFormed (t .p
   free-step w c ck at (Read (Store op rd rs1 d)) q =
       plain-step (goTo w) (Store op rd rs1 d) c (subst ReadingSmall q (small w)) ck (plain-due w (Store op rd rs1 d) c refl q at)
   free-step w c ck at (Read Return) q =
-      return-step w c ck at (ap transfers q) (subst (λ (r : Reading). flowOf t w r ≡ true) q (ch .flows w (at .inside)))
-      (subst (λ (r : Reading). passes (made t w (rowAt t w) (edges t w r) (changeBy t (rowAt t w) r)) ≡ true) q (ch .words w (at .inside) (at .free)))
-      (change-numbered (t .policy) (rowAt t w) Return)
+      let m = word-made w c at (Read Return) q in
+      return-step w c ck at (ap transfers q) (subst (λ (r : Reading). flowOf t w r ≡ true) q (ch .flows w (at .inside))) (m .0) (m .1) (m .2)
 
   -- a word in a slot is no transfer, and is read
   slot-step : (k : Control) (c : Core) → CoreOk (t .policy) h c → (x : Reading) → ReadingSmall x → Due t h x (dueOf (k .at .0) (k .pending)) c

@@ -1,45 +1,38 @@
 -- The running guarantee of what is handed in. Acceptance gives a policy that obeys the rules, well formed rows and words that are read; a matching
 -- start gives regions that lie as they must, and the invariant at the start; so the run is not refused, and the guarantee holds from there.
-use Prim.Native.Nat.{ℕ, zero, suc, _+_, _*_, _%_, _≤_, _<_}
+use Prim.Native.Nat.{ℕ, suc, _*_, _≤_, _<_}
 use mathlib.Core.Path.{_≡_, refl, sym, ap, _∙_, subst}
-use mathlib.Core.Bool.{Bool, true, false, cond, _&&_}
-use mathlib.Core.List.{List, [], _∷_, map}
+use mathlib.Core.Bool.{Bool, true, false, cond}
+use mathlib.Core.List.{List, [], _∷_}
 use native.Mathlib.Omega.{arith}
-use lib.Dec.{leb, ltb, eqb}
+use lib.Dec.{ltb, eqb}
 use lib.ListN.{length, getD, set, length-set}
 use lib.Seq.{getD-set-same, getD-set-other}
-use borrow.Author.Tests.{le-ltb, lt-ltb, eqb-true, eqb-false, ltb-true, ltb-false}
-use Rattle.v8.specs.Choice.{cond-both}
-use Rattle.v8.specs.declared.Reading.{Reading}
+use borrow.Author.Tests.{le-ltb, eqb-true, eqb-false}
 use Rattle.policy.specs.declared.Policy.{Policy}
-use Rattle.policy.specs.Policy.{policyOk}
 use Rattle.policy.specs.Laws.{WellFormed}
 use Rattle.policy.proofs.WellFormed.{obeys}
 use Rattle.step.specs.declared.Registers.{Registers}
 use Rattle.step.specs.Registers.{valueIn, setIn, valueOf, isSet, grounded}
-use Rattle.step.specs.Setting.{Setting, readingsOf}
-use Rattle.step.specs.Step.{State}
-use Rattle.machine.specs.Placement.{placedIn}
-use Rattle.machine.specs.Run.{Run, settingOf, startState, refusalOf, runIf, runOf, runFrom, traceFrom}
-use Rattle.rows.specs.declared.Entry.{Entry}
+use Rattle.step.specs.Setting.{readingsOf}
+use Rattle.machine.specs.Run.{Run, settingOf, startState, refusalOf, runOf, runFrom, traceFrom}
 use Rattle.rows.specs.declared.Row.{Row}
 use Rattle.rows.specs.Entry.{entryOk}
-use Rattle.rows.specs.Row.{entryAt, entryOf, rowOf, places}
-use Rattle.rows.specs.Matches.{Host, Holds, Matches, NoteMatches, RowMatches}
+use Rattle.rows.specs.Row.{entryAt, entryOf}
+use Rattle.rows.specs.Matches.{Host, Holds, RowMatches}
 use Rattle.rows.specs.Laws.{EntryRules, RowRules}
-use Rattle.rows.proofs.Tests.{and-went, false-true}
+use Rattle.rows.proofs.Tests.{and-went}
 use Rattle.rows.proofs.RowFitting.{row-fits}
 use Rattle.rows.proofs.Obeying.{entry-obeys, row-obeys}
 use Rattle.rules.specs.Laws.{Laid}
 use Rattle.memory.specs.Memory.{byteAt}
 use Rattle.checker.specs.Answer.{accepted}
-use Rattle.checker.specs.Routine.{Routine, routineOf, count, wordAt, rowAt, entryRow, resultEntry, isSlot, examined}
+use Rattle.checker.specs.Routine.{Routine, routineOf, rowAt, entryRow, isSlot, examined}
 use Rattle.checker.specs.Passes.{checkOf}
 use Rattle.checker.specs.Laws.{Checked}
 use Rattle.checker.proofs.Accepted.{accepts}
-use Rattle.guarantee.specs.Fields.{Declared}
 use Rattle.guarantee.specs.Guarantee.{hostOf, heldOf, Words, Start, Guaranteed, RunningGuarantee}
-use Rattle.guarantee.specs.Invariant.{CoreOk, Fitted, At, Invariant}
+use Rattle.guarantee.specs.Invariant.{CoreOk, Invariant}
 use Rattle.guarantee.proofs.Writing.{read-small}
 use Rattle.guarantee.proofs.Placed.{memory-long, return-aligned, laid}
 use Rattle.guarantee.proofs.Numbers.{readings-small}

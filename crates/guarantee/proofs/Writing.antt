@@ -1,19 +1,18 @@
 -- What a write does to the registers that are held: the one written is set and has the value, the others are as they were; there are still 32,
 -- of 32 bits.
 use Prim.Native.Nat.{ℕ, _≤_, _<_}
-use mathlib.Core.Path.{_≡_, refl, sym, ap, _∙_, subst}
+use mathlib.Core.Path.{_≡_, refl, sym, _∙_, subst}
 use mathlib.Core.Bool.{Bool, true, false, cond}
 use mathlib.Core.List.{List}
 use native.Mathlib.Omega.{arith}
 use lib.Dec.{ltb, eqb}
 use lib.ListN.{length, getD, set, length-set}
 use lib.Seq.{getD-set-same, getD-set-other}
-use borrow.Author.Tests.{eqb-true, eqb-false, ltb-true, ltb-false, lt-ltb, le-ltb, eq-eqb, ne-eqb}
+use borrow.Author.Tests.{eqb-true, eqb-false, ltb-true, lt-ltb, ne-eqb}
 use Rattle.v8.specs.Choice.{cond-both}
 use Rattle.alu.specs.declared.codes.Codes.{Codes}
 use Rattle.step.specs.declared.Registers.{Registers}
-use Rattle.step.specs.Registers.{valueIn, setIn, valuesWith, marksWith, valueOf, isSet, written, withCodes, grounded}
-use Rattle.rows.specs.Matches.{Held}
+use Rattle.step.specs.Registers.{valueIn, setIn, valuesWith, marksWith, valueOf, written, withCodes}
 use Rattle.rules.specs.Laws.{Wrote}
 use Rattle.guarantee.specs.Guarantee.{heldOf, Words}
 

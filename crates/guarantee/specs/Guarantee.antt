@@ -1,9 +1,9 @@
 -- Demand 3, the running guarantee: "one claim about the whole run, not one for each step: for every input that demand 2's check answers with
 -- 0 0 0, every matching start and every allowance, 0 too". `RunningGuarantee`, at the end, is the claim; its proof is
 -- proofs/Whole.antt's `running-guarantee`.
-use Prim.Native.Nat.{ℕ, suc, _+_, _-_, _<_}
+use Prim.Native.Nat.{ℕ, suc, _-_, _<_}
 use mathlib.Core.Path.{_≡_}
-use mathlib.Core.Bool.{Bool, true, false}
+use mathlib.Core.Bool.{true, false}
 use mathlib.Core.List.{List, []}
 use lib.ListN.{length, getD}
 use Rattle.policy.specs.declared.Policy.{Policy}

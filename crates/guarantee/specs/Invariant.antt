@@ -1,9 +1,8 @@
 -- What holds of every state that a run of an accepted routine passes through, so that the guarantee can be taken from any of them and not from
 -- the start alone.
-use Prim.Native.Nat.{ℕ, _+_, _<_}
+use Prim.Native.Nat.{ℕ, _<_}
 use mathlib.Core.Path.{_≡_}
 use mathlib.Core.Bool.{true, false}
-use mathlib.Core.List.{List}
 use lib.ListN.{length}
 use Rattle.v8.specs.declared.Instruction.{Instruction}
 use Rattle.v8.specs.declared.Reading.{Reading}
@@ -23,6 +22,7 @@ use Rattle.rules.specs.declared.Change.{Change}
 use Rattle.rules.specs.declared.Change.the-variants.{Writes, Keeps, Breaks}
 use Rattle.checker.specs.Routine.{Routine, count, wordAt, rowAt, resultEntry, transfers, examined}
 use Rattle.checker.specs.Passes.{Destination, to, caller, resultRegister, changeBy}
+use Rattle.checker.specs.Laws.{After}
 use Rattle.guarantee.specs.Fields.{Declared, Framed}
 use Rattle.guarantee.specs.Safe.{InstructionSafe}
 use Rattle.guarantee.specs.Guarantee.{heldOf, Words}
@@ -66,12 +66,6 @@ pub record At (t : Routine) (h : Host) (w : ℕ) (c : Core) : Type 0 where
 abbrev pub Arrived : Routine → Host → Destination → Core → Type 0
 Arrived t h (to w) c = At t h w c
 Arrived t h caller c = Matches h (resultEntry t) (isSet (c .registers) resultRegister) (valueOf (c .registers) resultRegister)
-
--- a row after a change
-abbrev pub After : Row → Change → Row → Type 0
-After row (Writes r entry note) after = after ≡ rowWith row r entry note
-After row Keeps after = after ≡ row
-After row (Breaks number r) after = ⊥
 
 -- a word that is about to run, and where control then goes: some row matches, the word makes another of it, and what matches that one has
 -- arrived

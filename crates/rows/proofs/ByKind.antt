@@ -1,8 +1,8 @@
 -- A word that has the value its entry's kind asks for is one of the entry's values: an entry has one kind, and the others ask nothing.
-use Prim.Native.Nat.{ℕ, _+_, _≤_, _<_}
-use mathlib.Core.Path.{_≡_, refl}
+use Prim.Native.Nat.{ℕ, _<_}
+use mathlib.Core.Path.{_≡_}
 use mathlib.Core.Logic.{_⊎_}
-use mathlib.Core.Bool.{Bool, true, false}
+use mathlib.Core.Bool.{true}
 use mathlib.Core.List.{List}
 use native.Mathlib.Omega.{arith}
 use borrow.Author.Tests.{eqb-true}
@@ -11,9 +11,9 @@ use Rattle.sets.specs.Sets.{Member, SetRules}
 use Rattle.sets.specs.Laws.{Offset}
 use Rattle.rows.specs.declared.Entry.{Entry}
 use Rattle.rows.specs.Entry.{isUnset, isNumber, isAddress, isStartOrNull, isReturn}
-use Rattle.rows.specs.Matches.{Host, baseOf, Holds, Matches}
+use Rattle.rows.specs.Matches.{Host, baseOf, Holds}
 use Rattle.rows.specs.Laws.{EntryRules, AddressRules}
-use Rattle.rows.proofs.Tests.{one-kind, other-kind}
+use Rattle.rows.proofs.Tests.{one-kind}
 
 module _ (h : Host) (e : Entry) (v : ℕ) where
   pub holds-number : isNumber e ≡ true → Member (e .set) (excess v) → Holds h e v

@@ -1,22 +1,21 @@
 -- What fits matches. The test of `fits` is six cases, each of which names the kinds of both entries; where the sets are compared, every
 -- member of the one is a member of the other.
 use Prim.Native.Nat.{ℕ, _+_, _-_, _≤_, _<_}
-use mathlib.Core.Path.{_≡_, refl, sym, ap, _∙_, subst}
-use mathlib.Core.Logic.{_⊎_, inl, inr, ⊎-elim}
-use mathlib.Core.Bool.{Bool, true, false, not, _&&_, _||_}
-use mathlib.Core.List.{List}
+use mathlib.Core.Path.{_≡_, sym, ap, _∙_, subst}
+use mathlib.Core.Logic.{_⊎_, inl, inr}
+use mathlib.Core.Bool.{Bool, true, false, _&&_, _||_}
 use native.Mathlib.Omega.{arith}
 use lib.Dec.{eqb}
-use borrow.Author.Tests.{eqb-true, eq-eqb}
+use borrow.Author.Tests.{eqb-true}
 use Rattle.v8.specs.Signed.{excess}
 use Rattle.sets.specs.declared.NumberSet.{NumberSet}
-use Rattle.sets.specs.Sets.{nought, fitsSet, Member, SetRules}
+use Rattle.sets.specs.Sets.{nought, fitsSet, Member}
 use Rattle.sets.specs.Laws.{Offset}
-use Rattle.sets.proofs.Fits.{fits-holds, holds-fits}
+use Rattle.sets.proofs.Fits.{fits-holds}
 use Rattle.rows.specs.declared.Entry.{Entry}
 use Rattle.rows.specs.Entry.{isUnset, isNumber, isAddress, isStartOrNull, isReturn, isZero, isStartOf, onlyNought, fits}
-use Rattle.rows.specs.Matches.{Host, baseOf, Holds, Matches}
-use Rattle.rows.specs.Laws.{EntryRules, FitsMatches}
+use Rattle.rows.specs.Matches.{Host, baseOf, Holds}
+use Rattle.rows.specs.Laws.{FitsMatches}
 use Rattle.rows.proofs.Tests.{or-went, and-went, false-true, other-kind}
 use Rattle.rows.proofs.ByKind.{holds-number, holds-address, holds-start, holds-link}
 

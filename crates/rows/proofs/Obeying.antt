@@ -1,30 +1,26 @@
 -- What the form of entries and rows says. An entry that passes has one of the five kinds, and the rules of its kind; a row in which the
 -- search for a fault finds none has only such entries.
-use Prim.Native.Nat.{ℕ, zero, suc, _+_, _-_, _*_, _≤_, _<_}
-use mathlib.Core.Path.{_≡_, refl, sym, ap, _∙_, subst}
+use Prim.Native.Nat.{ℕ, _+_, _-_, _≤_, _<_}
+use mathlib.Core.Path.{_≡_, refl, sym, subst}
 use mathlib.Core.Bool.{Bool, true, false, not, cond, _&&_, _||_, and-false}
-use mathlib.Core.List.{List, [], _∷_}
+use mathlib.Core.List.{List}
 use native.Mathlib.Omega.{arith}
 use lib.Dec.{T, leb, ltb, eqb}
 use lib.ListN.{getD}
 use native.Mathlib.Nat.{mod-one}
-use borrow.Author.Tests.{eqb-true, eqb-false, ltb-true, ltb-false, leb-true, lt-ltb, le-ltb, eq-eqb}
-use Rattle.v8.specs.Search.{first, first-least, needed, needed-le, needed-lt}
+use borrow.Author.Tests.{ltb-true, ltb-false, leb-true, lt-ltb}
+use Rattle.v8.specs.Search.{first-least, needed}
 use Rattle.v8.specs.Table.{at}
 use Rattle.v8.specs.Choice.{cond-went, cond-both}
-use Rattle.v8.specs.Signed.{excess}
-use Rattle.policy.specs.declared.Field.{Field}
 use Rattle.policy.specs.Element.{mosts, mostOf}
-use Rattle.policy.specs.Laws.{FieldRules, NumberRules}
-use Rattle.sets.specs.Sets.{nought, setOk, SetRules, s1, numbers, ended, single}
+use Rattle.sets.specs.Sets.{nought, setOk, s1, numbers, ended}
 use Rattle.sets.proofs.Formed.{obeys}
 use Rattle.sets.proofs.Ends.{ended-formed, single-formed}
 use Rattle.rows.specs.declared.Entry.{Entry}
-use Rattle.rows.specs.declared.Row.{Row}
 use Rattle.rows.specs.Entry.{noEntry, isUnset, isNumber, isAddress, isStartOrNull, isReturn, isBlank, numberIn, startOf, startOrNull, sizeIn, entryOk, fieldEntry}
-use Rattle.rows.specs.Row.{entryAt, entryOf, entryFormed, entryPlace, noteOf, rowOf, formedAt, brokenAt, formFault, places}
-use Rattle.rows.specs.Laws.{AddressRules, EntryRules, RowRules, EntryObeys, RowObeys, FieldEntryObeys}
-use Rattle.rows.proofs.Tests.{or-went, and-went, false-true, one-kind}
+use Rattle.rows.specs.Row.{entryAt, entryOf, entryPlace, noteOf, rowOf, formedAt, brokenAt, formFault, places}
+use Rattle.rows.specs.Laws.{EntryRules, EntryObeys, RowObeys, FieldEntryObeys}
+use Rattle.rows.proofs.Tests.{or-went, and-went}
 use Rattle.rows.proofs.ByKind.{number-rules, address-rules, start-rules, unset-rules, link-rules}
 use Rattle.rows.proofs.ReadRows.{entry-read}
 use Rattle.rows.proofs.RowFitting.{beyond}

@@ -1,21 +1,20 @@
 -- Fits is reflexive and transitive. Each case of the test makes it pass; and of two tests that passed, the kind of the entry between them
 -- leaves few pairs of cases.
-use Prim.Native.Nat.{ℕ, _-_, _%_, _≤_, _<_}
-use mathlib.Core.Path.{_≡_, refl, sym, ap, _∙_, subst}
-use mathlib.Core.Bool.{Bool, true, false, not, _&&_, _||_}
-use mathlib.Core.List.{List}
+use Prim.Native.Nat.{ℕ, _-_, _%_, _≤_}
+use mathlib.Core.Path.{_≡_, refl, _∙_, subst}
+use mathlib.Core.Bool.{Bool, true, false, _&&_, _||_}
 use native.Mathlib.Omega.{arith}
 use lib.Dec.{eqb}
 use borrow.Author.Tests.{eqb-true, eqb-false, eq-eqb}
 use Rattle.sets.specs.declared.NumberSet.{NumberSet}
-use Rattle.sets.specs.Sets.{nought, fitsSet, Step, Member, SetRules}
+use Rattle.sets.specs.Sets.{fitsSet, Step, SetRules}
 use Rattle.sets.proofs.Steps.{by-step}
 use Rattle.sets.proofs.Fits.{fits-holds, holds-fits}
 use Rattle.rows.specs.declared.Entry.{Entry}
 use Rattle.rows.specs.Entry.{isUnset, isNumber, isAddress, isStartOrNull, isReturn, isZero, isStartOf, onlyNought, fits}
-use Rattle.rows.specs.Laws.{EntryRules, FitsSelf, FitsOn}
-use Rattle.rows.proofs.Tests.{or-went, and-went, false-true, true-or, or-true, one-kind}
-use Rattle.rows.proofs.Fitting.{Fits, fits-went, numbersFit, addressesFit, startsFit, linksFit, nullFits, start-address, only-nought}
+use Rattle.rows.specs.Laws.{FitsSelf, FitsOn}
+use Rattle.rows.proofs.Tests.{and-went, true-or, or-true, one-kind}
+use Rattle.rows.proofs.Fitting.{fits-went, numbersFit, addressesFit, startsFit, linksFit, nullFits, start-address, only-nought}
 
 module _ (a b : Entry) where
   fit-unset : isUnset b ≡ true → fits a b ≡ true

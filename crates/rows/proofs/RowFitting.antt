@@ -2,23 +2,18 @@
 -- found none, so each does.
 use Prim.Native.Nat.{ℕ, _≤_, _<_}
 use mathlib.Core.Path.{_≡_, refl, sym, ap, _∙_, subst}
-use mathlib.Core.Bool.{Bool, true, false, not, cond, _&&_, _||_}
+use mathlib.Core.Bool.{Bool, true, false, not, _&&_, _||_}
 use native.Mathlib.Omega.{arith}
 use lib.Dec.{eqb, ltb}
-use lib.ListN.{getD}
 use borrow.Author.Tests.{eqb-true, ltb-true, ltb-false, lt-ltb, le-ltb}
-use Rattle.v8.specs.Search.{first, first-least}
-use Rattle.v8.specs.declared.AluOp.the-variants.{Sub}
-use Rattle.v8.specs.Signed.{excess}
-use Rattle.alu.specs.Codes.{codesOf}
+use Rattle.v8.specs.Search.{first-least}
 use Rattle.rows.specs.declared.Entry.{Entry}
-use Rattle.rows.specs.declared.Note.{Note}
 use Rattle.rows.specs.declared.Row.{Row}
-use Rattle.rows.specs.Entry.{noEntry, isUnset, fits, fitsNote, isComparison}
+use Rattle.rows.specs.Entry.{noEntry, fits, fitsNote}
 use Rattle.rows.specs.Row.{entryAt, fitsAt, misfitsAt, misfit, places}
-use Rattle.rows.specs.Matches.{Host, Matches, Held, NoteMatches, RowMatches}
-use Rattle.rows.specs.Laws.{RowRules, NoteFits, RowFits}
-use Rattle.rows.proofs.Tests.{or-went, and-went, false-true, one-kind, other-kind}
+use Rattle.rows.specs.Matches.{Matches, NoteMatches}
+use Rattle.rows.specs.Laws.{NoteFits, RowFits}
+use Rattle.rows.proofs.Tests.{or-went, and-went, false-true, one-kind}
 use Rattle.rows.proofs.Fitting.{fits-matches}
 
 pub note-fits : NoteFits

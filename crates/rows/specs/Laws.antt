@@ -2,11 +2,9 @@
 -- proofs/.
 use Prim.Native.Nat.{ℕ, _+_, _≤_, _<_}
 use mathlib.Core.Path.{_≡_}
-use mathlib.Core.Bool.{Bool, true, false}
+use mathlib.Core.Bool.{Bool, true}
 use mathlib.Core.List.{List}
-use Rattle.memory.specs.Memory.{Bytes}
 use Rattle.policy.specs.declared.Field.{Field}
-use Rattle.policy.specs.declared.Policy.{Policy}
 use Rattle.policy.specs.Laws.{FieldRules}
 use Rattle.sets.specs.Sets.{nought, SetRules}
 use Rattle.rows.specs.declared.Entry.{Entry}

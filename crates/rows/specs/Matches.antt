@@ -1,7 +1,7 @@
 -- When registers, codes and fields hold what rows and policy say (document 01, "Machine run": "A register matches an entry if the entry is
 -- unset, or the register is set and holds one of the entry's values (kind 4: the return address)"; "Codes match note 0 always, note 1 if
 -- set, note 2 if set and as it says").
-use Prim.Native.Nat.{ℕ, _+_, _*_, _≤_, _<_}
+use Prim.Native.Nat.{ℕ}
 use mathlib.Core.Path.{_≡_}
 use mathlib.Core.Logic.{_⊎_}
 use mathlib.Core.Bool.{Bool, true, false}

@@ -1,12 +1,12 @@
 -- Narrowing never drops what is there. The codes are those of the comparison, so a condition that holds says how the register's number
 -- compares (alu's `narrows`); the sets' law keeps that number, and a kind 3 is 0 or its region's start.
-use Prim.Native.Nat.{ℕ, _+_, _-_, _%_, _≤_, _<_}
+use Prim.Native.Nat.{ℕ, _+_, _-_, _<_}
 use mathlib.Core.Path.{_≡_, refl, sym, ap, _∙_, subst}
-use mathlib.Core.Logic.{_⊎_, inl, inr, ⊎-elim}
-use mathlib.Core.Bool.{Bool, true, false, not, cond, _&&_}
+use mathlib.Core.Logic.{_⊎_, ⊎-elim}
+use mathlib.Core.Bool.{Bool, true, not, _&&_}
 use mathlib.Core.List.{List}
 use native.Mathlib.Omega.{arith}
-use lib.Dec.{leb, ltb, eqb}
+use lib.Dec.{eqb}
 use borrow.Author.Tests.{eqb-true, eq-eqb}
 use Rattle.v8.specs.Choice.{cond-both}
 use Rattle.v8.specs.Signed.{excess}
@@ -16,25 +16,24 @@ use Rattle.alu.specs.Condition.{condHolds, conditionOf, compares}
 use Rattle.alu.specs.declared.condition.Narrowing.{Narrowing}
 use Rattle.alu.specs.declared.condition.Narrowing.the-variants.{Unrelated, EqualTo, NotEqualTo, LessThan, AtLeast, AtMost, GreaterThan}
 use Rattle.alu.proofs.Conditions.{narrows}
-use Rattle.sets.specs.declared.NumberSet.{NumberSet}
 use Rattle.sets.specs.declared.Narrowed.{Narrowed}
 use Rattle.sets.specs.declared.Narrowed.the-variants as Set·
-use Rattle.sets.specs.Sets.{nought, single, SetRules, Member}
+use Rattle.sets.specs.Sets.{nought, single, Member}
 use Rattle.sets.specs.Narrow.{narrowSet}
 use Rattle.sets.specs.Laws.{Offset, Among, LeftFormed}
 use Rattle.sets.proofs.Ends.{single-formed, single-holds}
 use Rattle.sets.proofs.Narrowing.{narrow-formed, narrow-keeps}
 use Rattle.rows.specs.declared.Entry.{Entry}
 use Rattle.rows.specs.declared.Row.{Row}
-use Rattle.rows.specs.Entry.{noEntry, isUnset, isNumber, isStartOrNull, isComparison, numberIn, constant, startOf}
-use Rattle.rows.specs.Row.{entryAt, rowWith}
-use Rattle.rows.specs.Matches.{Host, baseOf, Holds, Matches, Held, NoteMatches, RowMatches}
+use Rattle.rows.specs.Entry.{noEntry, isNumber, isStartOrNull, isComparison, numberIn, constant, startOf}
+use Rattle.rows.specs.Row.{entryAt}
+use Rattle.rows.specs.Matches.{Host, baseOf, Holds, Matches, Held, RowMatches}
 use Rattle.rows.specs.Laws.{EntryRules, RowRules}
 use Rattle.rows.proofs.Tests.{and-went, false-true, other-kind}
 use Rattle.rows.proofs.ByKind.{holds-number, holds-address, number-rules, address-rules, unset-rules}
 use Rattle.rules.specs.declared.Remainder.{Remainder}
 use Rattle.rules.specs.declared.Remainder.the-variants.{Left, Nothing}
-use Rattle.rules.specs.Narrow.{leftOf, narrowStart, narrowEntry, RowLeft, left, nothing, rowLeft, narrowRow}
+use Rattle.rules.specs.Narrow.{leftOf, narrowStart, narrowEntry, RowLeft, rowLeft, narrowRow}
 use Rattle.rules.specs.Laws.{LeftMatches, NarrowsRow}
 use Rattle.rules.proofs.Writes.{entry-after}
 

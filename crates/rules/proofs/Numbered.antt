@@ -1,7 +1,7 @@
 -- A condition that is broken has a number: what refuses is no 0, which stands for acceptance.
 use Prim.Native.Nat.{ℕ}
 use mathlib.Core.Path.{_≡_, refl}
-use mathlib.Core.Bool.{Bool, true, false, cond, not, _&&_}
+use mathlib.Core.Bool.{false, cond, not, _&&_}
 use mathlib.Core.List.{List}
 use lib.Dec.{leb, ltb, eqb}
 use Rattle.v8.specs.Choice.{cond-both}
@@ -24,7 +24,7 @@ use Rattle.sets.specs.Rules.{addSets, subSets}
 use Rattle.rows.specs.declared.Entry.{Entry}
 use Rattle.rows.specs.declared.Note.{Note}
 use Rattle.rows.specs.declared.Row.{Row}
-use Rattle.rows.specs.Entry.{isUnset, isNumber, isAddress, isStartOrNull, isZero, isConstant, isReturn, fits, fieldEntry, sizeIn}
+use Rattle.rows.specs.Entry.{isUnset, isNumber, isAddress, isStartOrNull, isZero, isConstant, isReturn, fits, fieldEntry}
 use Rattle.rows.specs.Row.{entryAt}
 use Rattle.rules.specs.declared.Result.{Result}
 use Rattle.rules.specs.declared.Result.the-variants.{Gives, Fails}

@@ -1,27 +1,22 @@
 -- An access that passed the conditions lies where the machine needs it: the field that was found holds every byte from the lowest to the
 -- highest offset, so it holds those of the offset that is there; the offsets' grid is a multiple of the width.
 use Prim.Native.Nat.{ℕ, _+_, _-_, _%_, _≤_, _<_}
-use mathlib.Core.Path.{_≡_, refl, sym, ap, _∙_, subst}
+use mathlib.Core.Path.{_≡_, refl, sym, subst}
 use mathlib.Core.Logic.{_⊎_, inl, inr}
-use mathlib.Core.Bool.{Bool, true, false, not, cond, _&&_, _||_}
-use mathlib.Core.List.{List}
+use mathlib.Core.Bool.{Bool, true, false, not, _&&_}
 use native.Mathlib.Omega.{arith}
-use lib.Dec.{leb, ltb, eqb}
-use lib.ListN.{getD}
-use borrow.Author.Tests.{eqb-true, leb-true, ltb-true, ltb-false}
+use lib.Dec.{ltb, eqb}
+use borrow.Author.Tests.{eqb-true, ltb-false}
 use Rattle.v8.specs.Choice.{cond-both}
-use Rattle.v8.specs.Signed.{excess}
 use Rattle.v8.specs.declared.AluOp.the-variants.{Add}
-use Rattle.v8.specs.declared.LoadOp.{LoadOp}
 use Rattle.v8.specs.declared.LoadOp.the-variants.{Ld, Ldub, Lduh, Ldsb, Ldsh}
-use Rattle.v8.specs.declared.StoreOp.{StoreOp}
 use Rattle.v8.specs.declared.StoreOp.the-variants.{St, Stb, Sth}
 use Rattle.alu.specs.Result.{add32}
 use Rattle.policy.specs.declared.Policy.{Policy}
 use Rattle.policy.specs.declared.Field.{Field}
 use Rattle.policy.specs.declared.Found.{Found}
 use Rattle.policy.specs.declared.Found.the-variants as Found·
-use Rattle.policy.specs.Policy.{sizeOf, countOf, placeOf, fieldAt, fieldEnd}
+use Rattle.policy.specs.Policy.{sizeOf, placeOf, fieldAt, fieldEnd}
 use Rattle.policy.specs.Find.{findField}
 use Rattle.policy.specs.Laws.{WellFormed, FoundHere}
 use Rattle.policy.proofs.FoundField.{found-holds}
@@ -29,7 +24,7 @@ use Rattle.access.specs.declared.Access.{Access}
 use Rattle.access.specs.declared.Access.the-variants.{Loads, Stores}
 use Rattle.access.specs.Serve.{accessWidth, serves, allows}
 use Rattle.sets.specs.declared.NumberSet.{NumberSet}
-use Rattle.sets.specs.Sets.{nought, Step, s1, s2, s4, s8, SetRules, Member}
+use Rattle.sets.specs.Sets.{nought, Step, s1, s2, s4, SetRules, Member}
 use Rattle.sets.specs.Rules.{addSets}
 use Rattle.sets.specs.Laws.{Offset}
 use Rattle.sets.proofs.Steps.{by-step, sum-on, difference-on, finer-on, finer-of}
@@ -39,10 +34,10 @@ use Rattle.rows.specs.declared.Entry.{Entry}
 use Rattle.rows.specs.Entry.{isNumber, isAddress, isStartOrNull, sizeIn}
 use Rattle.rows.specs.Matches.{Host, baseOf, Holds}
 use Rattle.rows.specs.Laws.{EntryRules}
-use Rattle.rows.proofs.Tests.{and-went, false-true}
+use Rattle.rows.proofs.Tests.{and-went}
 use Rattle.rules.specs.declared.Reach.{Reach}
 use Rattle.rules.specs.declared.Reach.the-variants.{Inside, Outside}
-use Rattle.rules.specs.Reach.{endOf, onGrid, inField, inFound, inRegion, reachOf, tooHigh, wrongElement, offGrid, notAllowed, outsideFields, maybeNull}
+use Rattle.rules.specs.Reach.{endOf, onGrid, inField, inFound, inRegion, reachOf}
 use Rattle.rules.specs.Laws.{Laid, Reached, Reaches}
 use Rattle.rules.proofs.RightResult.{size-in, adds-turn}
 

@@ -1,13 +1,13 @@
 -- What the rules give holds what V8 gives: each rule in turn, as the definition tests them. Single numbers are the words themselves; on
 -- numbers it is the sets' law; on addresses the offsets' law, where the test of 16 keeps the sum inside the region; the rest hands an
 -- operand on.
-use Prim.Native.Nat.{ℕ, _+_, _-_, _%_, _≤_, _<_, min}
+use Prim.Native.Nat.{ℕ, _+_, _%_, _≤_, _<_, min}
 use mathlib.Core.Path.{_≡_, refl, sym, ap, _∙_, subst}
-use mathlib.Core.Bool.{Bool, true, false, not, cond, _&&_, _||_}
+use mathlib.Core.Bool.{true, _&&_}
 use mathlib.Core.List.{List}
 use native.Mathlib.Omega.{arith}
-use lib.Bits.{bitOr, or-zero-l, or-zero-r}
-use lib.Dec.{leb, ltb, eqb}
+use lib.Bits.{or-zero-l, or-zero-r}
+use lib.Dec.{leb, eqb}
 use lib.ListN.{getD}
 use borrow.Author.Tests.{eqb-true, leb-true, lt-ltb}
 use Rattle.v8.specs.Choice.{cond-both}
@@ -18,8 +18,8 @@ use Rattle.v8.specs.declared.ShiftOp.{ShiftOp}
 use Rattle.v8.specs.declared.ShiftOp.the-variants.{Sll, Srl, Sra}
 use Rattle.alu.specs.Result.{aluOf, shiftOf, add32, sub32, sll32, srl32, sra32}
 use Rattle.sets.specs.declared.NumberSet.{NumberSet}
-use Rattle.sets.specs.Sets.{nought, single, full, SetRules, Member}
-use Rattle.sets.specs.Rules.{within, addSets, subSets, aluSets, shiftSet}
+use Rattle.sets.specs.Sets.{nought, full, SetRules, Member}
+use Rattle.sets.specs.Rules.{addSets, subSets, aluSets, shiftSet}
 use Rattle.sets.specs.Laws.{Offset}
 use Rattle.sets.proofs.Ends.{single-formed, single-holds, full-formed, full-holds}
 use Rattle.sets.proofs.Arithmetic.{alu-formed, alu-holds}
@@ -33,8 +33,8 @@ use Rattle.rows.proofs.Tests.{and-went, false-true}
 use Rattle.rows.proofs.ByKind.{holds-number, holds-address, number-rules, address-rules}
 use Rattle.rows.proofs.Fitting.{zero-holds}
 use Rattle.rules.specs.declared.Result.{Result}
-use Rattle.rules.specs.declared.Result.the-variants.{Gives, Fails}
-use Rattle.rules.specs.Result.{isOr, constants, bothNumbers, offsetsGive, addressSum, addressDifference, addressRule, aluResult, shiftResult, noRule, outsideRegion}
+use Rattle.rules.specs.declared.Result.the-variants.{Gives}
+use Rattle.rules.specs.Result.{isOr, constants, bothNumbers, offsetsGive, addressSum, addressDifference, addressRule, aluResult, shiftResult}
 use Rattle.rules.specs.Laws.{Laid, Right, AluRight, ShiftRight}
 
 -- the word of a single number is the one it holds

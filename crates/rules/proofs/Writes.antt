@@ -1,14 +1,14 @@
 -- A row that is written as the register is matches, and notes stay right: the entry of the register written is the new one, the others are as
 -- they were; a note of the register written becomes "set".
-use Prim.Native.Nat.{ℕ, _+_, _≤_, _<_}
+use Prim.Native.Nat.{ℕ, _≤_, _<_}
 use mathlib.Core.Path.{_≡_, refl, sym, ap, _∙_, subst}
-use mathlib.Core.Bool.{Bool, true, false, not, cond, _&&_, _||_}
+use mathlib.Core.Bool.{Bool, true, false, not, cond, _&&_}
 use mathlib.Core.List.{List}
 use native.Mathlib.Omega.{arith}
 use lib.Dec.{leb, ltb, eqb}
 use lib.ListN.{length, getD, set, length-set, List·getD-eq-default}
 use lib.Seq.{getD-set-same, getD-set-other}
-use borrow.Author.Tests.{eqb-true, eqb-false, leb-true, ltb-true, ltb-false, lt-ltb, le-ltb, eq-eqb, ne-eqb}
+use borrow.Author.Tests.{eqb-true, eqb-false, ltb-true, ltb-false, eq-eqb, ne-eqb}
 use Rattle.v8.specs.Choice.{cond-both}
 use Rattle.v8.specs.Signed.{excess}
 use Rattle.v8.specs.declared.AluOp.{AluOp}
@@ -17,15 +17,15 @@ use Rattle.alu.specs.Codes.{codesOf}
 use Rattle.rows.specs.declared.Entry.{Entry}
 use Rattle.rows.specs.declared.Note.{Note}
 use Rattle.rows.specs.declared.Row.{Row}
-use Rattle.rows.specs.Entry.{noEntry, isUnset, isConstant, isComparison, codesSet, comparison, wordOf}
+use Rattle.rows.specs.Entry.{noEntry, isConstant, isComparison, codesSet}
 use Rattle.rows.specs.Row.{entryAt, entriesWith, rowWith}
-use Rattle.rows.specs.Matches.{Host, Holds, Matches, Held, NoteMatches, RowMatches}
-use Rattle.rows.specs.Laws.{EntryRules, RowRules}
-use Rattle.rows.proofs.Tests.{and-went, false-true, one-kind}
+use Rattle.rows.specs.Matches.{Holds, Matches, Held, NoteMatches}
+use Rattle.rows.specs.Laws.{EntryRules}
+use Rattle.rows.proofs.Tests.{and-went, false-true}
 use Rattle.rows.proofs.ByKind.{unset-rules}
 use Rattle.rules.specs.Result.{isSub}
 use Rattle.rules.specs.Change.{noteAfter, codesNote}
-use Rattle.rules.specs.Laws.{Wrote, WritesRow, KeepsNote, MakesNote}
+use Rattle.rules.specs.Laws.{WritesRow, KeepsNote, MakesNote}
 use Rattle.rules.proofs.RightResult.{constant-holds}
 
 -- register r of the row written, whatever is asked of what stands there

@@ -1,7 +1,7 @@
 -- What each word does to a row, or the first condition that it breaks, with the register named (document 01, "What each word does to a row"
 -- and "One word's conditions").
 use Prim.Native.Nat.{ℕ}
-use mathlib.Core.Bool.{Bool, true, cond, not, _&&_}
+use mathlib.Core.Bool.{Bool, cond, not, _&&_}
 use mathlib.Core.List.{List}
 use lib.Dec.{leb, eqb}
 use Rattle.v8.specs.declared.AluOp.{AluOp}
@@ -28,7 +28,7 @@ use Rattle.rules.specs.declared.Reach.the-variants.{Inside, Outside}
 use Rattle.rules.specs.declared.Change.{Change}
 use Rattle.rules.specs.declared.Change.the-variants.{Writes, Keeps, Breaks}
 use Rattle.rows.specs.Entry.{isUnset, isConstant, isReturn, constant, fits, fieldEntry, isComparison, codesSet, comparison}
-use Rattle.rows.specs.Row.{entryAt, rowWith}
+use Rattle.rows.specs.Row.{entryAt}
 use Rattle.rules.specs.Result.{isSub, noRule, aluResult, shiftResult}
 use Rattle.rules.specs.Reach.{reachOf}
 

@@ -1,9 +1,9 @@
 -- What the running guarantee rests on: what registers, codes and accesses hold that match a row, they hold of what the rules make of it. (The
 -- laws speak of V8's results and codes, `alu`'s, and of the regions as the host has laid them.) The proofs are in proofs/.
-use Prim.Native.Nat.{ℕ, _+_, _*_, _%_, _≤_, _<_}
+use Prim.Native.Nat.{ℕ, _+_, _%_, _≤_, _<_}
 use mathlib.Core.Path.{_≡_}
 use mathlib.Core.Logic.{_⊎_}
-use mathlib.Core.Bool.{Bool, true, false}
+use mathlib.Core.Bool.{true}
 use mathlib.Core.List.{List}
 use lib.ListN.{getD}
 use Rattle.v8.specs.declared.AluOp.{AluOp}
@@ -24,7 +24,7 @@ use Rattle.rows.specs.Matches.{Host, baseOf, Holds, Held, NoteMatches, RowMatch
 use Rattle.rows.specs.Laws.{EntryRules, RowRules}
 use Rattle.rules.specs.declared.Result.{Result}
 use Rattle.rules.specs.declared.Result.the-variants.{Gives, Fails}
-use Rattle.rules.specs.declared.Reach.the-variants.{Inside, Outside}
+use Rattle.rules.specs.declared.Reach.the-variants.{Inside}
 use Rattle.rules.specs.Result.{aluResult, shiftResult}
 use Rattle.rules.specs.Reach.{reachOf}
 use Rattle.rules.specs.Change.{noteAfter, codesNote}

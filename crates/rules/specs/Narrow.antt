@@ -1,7 +1,7 @@
 -- What a branch leaves of a row (document 01, "A branch with note 2 narrows a noted number .. to the members that obey it .. a kind 3
 -- compared with 0 becomes single 0 or the start on 1 and 9").
 use Prim.Native.Nat.{ℕ}
-use mathlib.Core.Bool.{Bool, cond, _&&_}
+use mathlib.Core.Bool.{cond, _&&_}
 use lib.Dec.{eqb}
 use Rattle.alu.specs.declared.condition.Narrowing.{Narrowing}
 use Rattle.alu.specs.declared.condition.Narrowing.the-variants.{Unrelated, EqualTo, NotEqualTo, LessThan, AtLeast, AtMost, GreaterThan}

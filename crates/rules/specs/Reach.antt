@@ -1,10 +1,9 @@
 -- Where an access lies, by the entries of the two operands that it adds (document 01, "One word's conditions": "For memory: 5 .. 10"). The
 -- conditions are tested in the paper's order, and each names a register: "5 names the kind 3 register, rs1 first; the others name rs1".
 use Prim.Native.Nat.{ℕ, _+_, _-_, _%_}
-use mathlib.Core.Bool.{Bool, cond, not, _&&_, _||_}
-use lib.Dec.{leb, ltb, eqb}
+use mathlib.Core.Bool.{Bool, cond, not, _&&_}
+use lib.Dec.{ltb, eqb}
 use Rattle.policy.specs.declared.Policy.{Policy}
-use Rattle.policy.specs.declared.Field.{Field}
 use Rattle.policy.specs.declared.Found.{Found}
 use Rattle.policy.specs.declared.Found.the-variants as Found·
 use Rattle.policy.specs.Policy.{fieldAt}

@@ -1,6 +1,6 @@
 -- What an instruction makes of its operands' entries (document 01, "What each word does to a row": "First matching rule", rules 1 to 6).
 use Prim.Native.Nat.{ℕ, _+_, _%_}
-use mathlib.Core.Bool.{Bool, true, false, cond, _&&_, _||_}
+use mathlib.Core.Bool.{Bool, true, false, cond, _&&_}
 use mathlib.Core.List.{List}
 use lib.Dec.{leb}
 use Rattle.v8.specs.declared.AluOp.{AluOp}
