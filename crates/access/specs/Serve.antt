@@ -3,6 +3,10 @@
 use Prim.Native.Nat.{ℕ}
 use mathlib.Core.Bool.{Bool, _&&_, _||_}
 use lib.Dec.{leb, eqb}
+use Rattle.v8.specs.declared.Operand.{Operand}
+use Rattle.v8.specs.declared.Operand.the-variants.{Reg, Imm}
+use Rattle.v8.specs.declared.Displacement.{Displacement}
+use Rattle.v8.specs.declared.Displacement.the-variants.{Index, Bytes}
 use Rattle.v8.specs.declared.LoadOp.{LoadOp}
 use Rattle.v8.specs.declared.LoadOp.the-variants.{Ld, Ldub, Lduh, Ldsb, Ldsh}
 use Rattle.v8.specs.declared.StoreOp.{StoreOp}
@@ -39,3 +43,8 @@ serves (Stores op) e = storeServes op e
 abbrev pub allows : Access → ℕ → Bool
 allows (Loads op) permission = eqb permission 1 || eqb permission 3
 allows (Stores op) permission = eqb permission 2 || eqb permission 3
+
+-- an address's second part, as the operand that is added
+abbrev pub addend : Displacement → Operand
+addend (Index r) = Reg r
+addend (Bytes d) = Imm (d .0)

@@ -7,6 +7,7 @@ pub mod serve;
 pub mod locate;
 
 pub use locate::locate_access;
+pub use serve::addend_of;
 pub use serve::allowed;
 pub use serve::serves_element;
 pub use serve::width_of;

@@ -1,9 +1,11 @@
 // What an access needs of a field: its width, its element and its permission.
 ghost use mathlib.Core.Path.{_≡_};
 ghost use Prim.Native.Nat.{_≤_};
-ghost use Rattle.access.specs.Serve.{accessWidth, serves, allows};
+ghost use Rattle.access.specs.Serve.{accessWidth, serves, allows, addend};
 use crate::Access;
+use v8::Displacement;
 use v8::LoadOp;
+use v8::Operand;
 use v8::StoreOp;
 
 // How many bytes an access touches.
@@ -53,5 +55,15 @@ pub fn allowed(a: Access, permission: u8) -> bool
     match a {
         Access::Loads(_) => (permission == 1) | (permission == 3),
         Access::Stores(_) => (permission == 2) | (permission == 3),
+    }
+}
+
+// An address's second part, as the operand that is added.
+pub fn addend_of(d: Displacement) -> Operand
+    ensures { λ r. ⌜ r ≡ addend d ⌝ }
+{
+    match d {
+        Displacement::Index(r) => Operand::Reg(r),
+        Displacement::Bytes(n) => Operand::Imm(n.0),
     }
 }

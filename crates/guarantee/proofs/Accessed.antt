@@ -12,9 +12,7 @@ use Rattle.v8.specs.Choice.{cond-both}
 use Rattle.v8.specs.Search.{first, first-passes, first-least}
 use Rattle.v8.specs.declared.LoadOp.{LoadOp}
 use Rattle.v8.specs.declared.StoreOp.{StoreOp}
-use Rattle.v8.specs.declared.Operand.{Operand}
 use Rattle.v8.specs.declared.Displacement.{Displacement}
-use Rattle.v8.specs.declared.Displacement.the-variants as Displacement·
 use Rattle.v8.specs.declared.Instruction.the-variants.{Load, Store}
 use Rattle.alu.specs.Result.{add32}
 use Rattle.policy.specs.declared.Policy.{Policy}
@@ -30,12 +28,12 @@ use Rattle.memory.proofs.Memory.{load-fits, store-keeps-length, store-keeps-byt
 use Rattle.access.specs.declared.Access.{Access}
 use Rattle.access.specs.declared.Access.the-variants.{Loads, Stores}
 use Rattle.access.specs.declared.Located.the-variants as Located·
-use Rattle.access.specs.Serve.{accessWidth, serves, allows}
+use Rattle.access.specs.Serve.{accessWidth, serves, allows, addend}
 use Rattle.access.specs.Layout.{layoutOf}
 use Rattle.access.specs.Locate.{insideRegion, regionIn, touches, locate}
 use Rattle.step.specs.declared.Aim.the-variants as Aim·
 use Rattle.step.specs.declared.Registers.{Registers}
-use Rattle.step.specs.Registers.{valueOf, isSet, operandValue, operandSet, addend}
+use Rattle.step.specs.Registers.{valueOf, isSet, operandValue, operandSet}
 use Rattle.step.specs.Effect.{Core, effectOf, aimIn, aimOf}
 use Rattle.sets.specs.Sets.{Step}
 use Rattle.sets.proofs.Steps.{by-step}
@@ -52,7 +50,7 @@ use Rattle.rules.specs.declared.Reach.{Reach}
 use Rattle.rules.specs.declared.Reach.the-variants.{Inside, Outside}
 use Rattle.rules.specs.declared.Change.{Change}
 use Rattle.rules.specs.Reach.{reachOf}
-use Rattle.rules.specs.Change.{operandEntry, operandName, indexOf, loaded, loadChange, stored, storeChange, changeOf}
+use Rattle.rules.specs.Change.{operandEntry, operandName, loaded, loadChange, stored, storeChange, changeOf}
 use Rattle.rules.specs.Laws.{Laid, Reached}
 use Rattle.rules.proofs.RightReach.{width-step, reaches}
 use Rattle.guarantee.specs.Fields.{fieldOf}
@@ -64,11 +62,6 @@ use Rattle.guarantee.proofs.Writing.{read-small}
 use Rattle.guarantee.proofs.Numbers.{OperandSmall}
 use Rattle.guarantee.proofs.Computed.{register-held, operand-held, operand-rules, operand-word, written-kept}
 use Rattle.guarantee.proofs.Stored.{load-declared, store-declared, store-framed}
-
--- the machine and the check take the same operand for an address's second part
-same-operand : (d : Displacement) → indexOf d ≡ addend d
-same-operand (Displacement·.Index r) = refl
-same-operand (Displacement·.Bytes n) = refl
 
 -- a base is a multiple of every width
 base-aligned : {w : ℕ} → Step w → (base offset : ℕ) → base % 8 ≡ 0 → offset % w ≡ 0 → (base + offset) % w ≡ 0
@@ -261,10 +254,9 @@ module _ (p : Policy) (bases : List ℕ) (returns : ℕ) (wf : WellFormed p) (la
       → Covers p (hostOf bases returns) row c (Load op rd rs1 d) (effectOf (layoutOf p bases) c (Load op rd rs1 d)) (changeOf p row (Load op rd rs1 d))
   unfolding loadChange
   load-covers op rd =
-      subst (λ (o : Operand). K (loadChange p (row .note) op rd rs1 (entryAt row rs1) (operandName o) (operandEntry row o))) (sym (same-operand d))
-      (cond-both K (isUnset (entryAt row rs1)) (λ _. tt)
+      cond-both K (isUnset (entryAt row rs1)) (λ _. tt)
       λ ua. cond-both K (isUnset (operandEntry row (addend d))) (λ _. tt)
-      λ ub. load-made op rd ua ub (reachOf p (Loads op) rs1 (entryAt row rs1) (operandName (addend d)) (operandEntry row (addend d))) refl)
+      λ ub. load-made op rd ua ub (reachOf p (Loads op) rs1 (entryAt row rs1) (operandName (addend d)) (operandEntry row (addend d))) refl
     where
       K : Change → Type 0
       K = Covers p (hostOf bases returns) row c (Load op rd rs1 d) (effectOf (layoutOf p bases) c (Load op rd rs1 d))
@@ -312,11 +304,10 @@ module _ (p : Policy) (bases : List ℕ) (returns : ℕ) (wf : WellFormed p) (la
       → Covers p (hostOf bases returns) row c (Store op rd rs1 d) (effectOf (layoutOf p bases) c (Store op rd rs1 d)) (changeOf p row (Store op rd rs1 d))
   unfolding storeChange
   store-covers op rd =
-      subst (λ (o : Operand). K (storeChange p op rd (entryAt row rd) rs1 (entryAt row rs1) (operandName o) (operandEntry row o))) (sym (same-operand d))
-      (cond-both K (isUnset (entryAt row rs1)) (λ _. tt)
+      cond-both K (isUnset (entryAt row rs1)) (λ _. tt)
       λ ua. cond-both K (isUnset (operandEntry row (addend d))) (λ _. tt)
       λ ub. cond-both K (isUnset (entryAt row rd)) (λ _. tt)
-      λ ud. store-made op rd ua ub ud (reachOf p (Stores op) rs1 (entryAt row rs1) (operandName (addend d)) (operandEntry row (addend d))) refl)
+      λ ud. store-made op rd ua ub ud (reachOf p (Stores op) rs1 (entryAt row rs1) (operandName (addend d)) (operandEntry row (addend d))) refl
     where
       K : Change → Type 0
       K = Covers p (hostOf bases returns) row c (Store op rd rs1 d) (effectOf (layoutOf p bases) c (Store op rd rs1 d))

@@ -19,7 +19,7 @@ use Rattle.v8.specs.declared.Reading.the-variants.{Read, Unread}
 use Rattle.v8.specs.declared.read.OperandReading.{OperandReading}
 use Rattle.v8.specs.declared.read.OperandReading.the-variants.{Second, Reserved}
 use Rattle.v8.specs.Read.{readingOf, format00, format10, memoryOf, memoryWith, operandOf, countOf, aluWith, shiftWith, displacementOf, aluOpOf, leafReturn}
-use Rattle.step.specs.Registers.{addend}
+use Rattle.access.specs.Serve.{addend}
 use Rattle.step.specs.Setting.{readingsOf, readingAt}
 
 -- the operand's number is a word

@@ -15,9 +15,9 @@ use Rattle.policy.specs.declared.Policy.{Policy}
 use Rattle.policy.specs.Policy.{sizeOf, countOf, fieldEnd}
 use Rattle.access.specs.declared.Access.{Access}
 use Rattle.access.specs.declared.Access.the-variants.{Loads, Stores}
-use Rattle.access.specs.Serve.{accessWidth, serves, allows}
+use Rattle.access.specs.Serve.{accessWidth, serves, allows, addend}
 use Rattle.step.specs.declared.Registers.{Registers}
-use Rattle.step.specs.Registers.{valueOf, isSet, operandValue, operandSet, addend}
+use Rattle.step.specs.Registers.{valueOf, isSet, operandValue, operandSet}
 use Rattle.step.specs.Transfer.{readsCodes}
 use Rattle.step.specs.Step.{link}
 use Rattle.rows.specs.Matches.{Host, baseOf}

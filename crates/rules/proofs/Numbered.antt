@@ -17,7 +17,7 @@ use Rattle.policy.specs.Policy.{fieldAt}
 use Rattle.policy.specs.Find.{findField}
 use Rattle.access.specs.declared.Access.{Access}
 use Rattle.access.specs.declared.Access.the-variants.{Loads, Stores}
-use Rattle.access.specs.Serve.{accessWidth, serves, allows}
+use Rattle.access.specs.Serve.{accessWidth, serves, allows, addend}
 use Rattle.sets.specs.declared.NumberSet.{NumberSet}
 use Rattle.sets.specs.Sets.{nought}
 use Rattle.sets.specs.Rules.{addSets, subSets}
@@ -34,7 +34,7 @@ use Rattle.rules.specs.declared.Change.{Change}
 use Rattle.rules.specs.declared.Change.the-variants.{Writes, Keeps, Breaks}
 use Rattle.rules.specs.Result.{isOr, constants, bothNumbers, offsetsGive, addressSum, addressDifference, addressRule, aluResult, shiftResult}
 use Rattle.rules.specs.Reach.{endOf, onGrid, inField, inFound, inRegion, reachOf}
-use Rattle.rules.specs.Change.{operandEntry, operandName, indexOf, writing, aluChange, shiftChange, loaded, loadChange, stored, storeChange, branchChange, returnChange, changeOf}
+use Rattle.rules.specs.Change.{operandEntry, operandName, writing, aluChange, shiftChange, loaded, loadChange, stored, storeChange, branchChange, returnChange, changeOf}
 
 -- what fails has a number
 abbrev Failing : Result → Type 0
@@ -144,12 +144,12 @@ change-numbered p row (Shift op rd rs1 x) =
     if-set rs1 (entryAt row rs1) _ (if-set (operandName x) (operandEntry row x) _
     (writing-numbered rd rs1 _ (shiftResult op (entryAt row rs1) (operandEntry row x)) (shift-fails (p .sizes) (entryAt row rs1) (operandEntry row x) op)))
 change-numbered p row (Load op rd rs1 d) =
-    if-set rs1 (entryAt row rs1) _ (if-set (operandName (indexOf d)) (operandEntry row (indexOf d)) _
-    (loaded-numbered p (row .note) rd (reachOf p (Loads op) rs1 (entryAt row rs1) (operandName (indexOf d)) (operandEntry row (indexOf d)))
-    (reach-outlies p (Loads op) rs1 (operandName (indexOf d)) (entryAt row rs1) (operandEntry row (indexOf d)))))
+    if-set rs1 (entryAt row rs1) _ (if-set (operandName (addend d)) (operandEntry row (addend d)) _
+    (loaded-numbered p (row .note) rd (reachOf p (Loads op) rs1 (entryAt row rs1) (operandName (addend d)) (operandEntry row (addend d)))
+    (reach-outlies p (Loads op) rs1 (operandName (addend d)) (entryAt row rs1) (operandEntry row (addend d)))))
 change-numbered p row (Store op rd rs1 d) =
-    if-set rs1 (entryAt row rs1) _ (if-set (operandName (indexOf d)) (operandEntry row (indexOf d)) _ (if-set rd (entryAt row rd) _
-    (stored-numbered p rd (entryAt row rd) (reachOf p (Stores op) rs1 (entryAt row rs1) (operandName (indexOf d)) (operandEntry row (indexOf d)))
-    (reach-outlies p (Stores op) rs1 (operandName (indexOf d)) (entryAt row rs1) (operandEntry row (indexOf d))))))
+    if-set rs1 (entryAt row rs1) _ (if-set (operandName (addend d)) (operandEntry row (addend d)) _ (if-set rd (entryAt row rd) _
+    (stored-numbered p rd (entryAt row rd) (reachOf p (Stores op) rs1 (entryAt row rs1) (operandName (addend d)) (operandEntry row (addend d)))
+    (reach-outlies p (Stores op) rs1 (operandName (addend d)) (entryAt row rs1) (operandEntry row (addend d))))))
 change-numbered p row Return =
     if-set 15 (entryAt row 15) _ (cond-both Numbered (isReturn (entryAt row 15)) (λ _. tt) (λ _. refl))

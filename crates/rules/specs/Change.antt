@@ -10,14 +10,13 @@ use Rattle.v8.specs.declared.LoadOp.{LoadOp}
 use Rattle.v8.specs.declared.StoreOp.{StoreOp}
 use Rattle.v8.specs.declared.Operand.{Operand}
 use Rattle.v8.specs.declared.Operand.the-variants.{Reg, Imm}
-use Rattle.v8.specs.declared.Displacement.{Displacement}
-use Rattle.v8.specs.declared.Displacement.the-variants.{Index, Bytes}
 use Rattle.v8.specs.declared.Instruction.{Instruction}
 use Rattle.v8.specs.declared.Instruction.the-variants.{Sethi, Bicc, Alu, Shift, Load, Store, Return}
 use Rattle.alu.specs.Result.{sethiOf}
 use Rattle.policy.specs.declared.Policy.{Policy}
 use Rattle.policy.specs.Policy.{fieldAt}
 use Rattle.access.specs.declared.Access.the-variants.{Loads, Stores}
+use Rattle.access.specs.Serve.{addend}
 use Rattle.rows.specs.declared.Entry.{Entry}
 use Rattle.rows.specs.declared.Note.{Note}
 use Rattle.rows.specs.declared.Row.{Row}
@@ -55,11 +54,6 @@ operandEntry row (Imm word) = constant word
 abbrev pub operandName : Operand → ℕ
 operandName (Reg r) = r
 operandName (Imm word) = 0
-
--- an address's second part, as an operand
-abbrev pub indexOf : Displacement → Operand
-indexOf (Index r) = Reg r
-indexOf (Bytes d) = Imm (d .0)
 
 -- "Writing the noted register turns note 2 into 1."
 unfoldable pub noteAfter : Note → ℕ → Note
@@ -117,7 +111,7 @@ changeOf p row (Bicc annul cnd d) = branchChange (row .note) cnd
 changeOf p row (Alu op cc rd rs1 x) = aluChange (p .sizes) (row .note) op cc rd rs1 (entryAt row rs1) (operandName x) (operandEntry row x)
 changeOf p row (Shift op rd rs1 x) = shiftChange (row .note) op rd rs1 (entryAt row rs1) (operandName x) (operandEntry row x)
 changeOf p row (Load op rd rs1 d) =
-    loadChange p (row .note) op rd rs1 (entryAt row rs1) (operandName (indexOf d)) (operandEntry row (indexOf d))
+    loadChange p (row .note) op rd rs1 (entryAt row rs1) (operandName (addend d)) (operandEntry row (addend d))
 changeOf p row (Store op rd rs1 d) =
-    storeChange p op rd (entryAt row rd) rs1 (entryAt row rs1) (operandName (indexOf d)) (operandEntry row (indexOf d))
+    storeChange p op rd (entryAt row rd) rs1 (entryAt row rs1) (operandName (addend d)) (operandEntry row (addend d))
 changeOf p row Return = returnChange (entryAt row link)

@@ -10,7 +10,6 @@ use crate::Result;
 use crate::conditions::NO_RULE;
 use crate::conditions::UNSET_OPERAND;
 use crate::conditions::WRONG_VALUE;
-use crate::operands::index_of;
 use crate::operands::operand_entry;
 use crate::operands::operand_name;
 use crate::reaching::reach_of;
@@ -18,6 +17,7 @@ use crate::results::alu_result;
 use crate::results::is_sub;
 use crate::results::shift_result;
 use access::Access;
+use access::addend_of;
 use alu::sethi;
 use policy::Policy;
 use rows::Entry;
@@ -264,7 +264,7 @@ fn shift_in(policy: Policy, row: Row, op: ShiftOp, rd: u8, rs1: u8, count: Opera
 fn load_in(policy: Policy, row: Row, op: LoadOp, rd: u8, rs1: u8, by: Displacement) -> Change
     ensures { λ r. ⌜ r ≡ changeOf policy row (Load op rd rs1 by) ⌝ }
 {
-    let operand = index_of(by);
+    let operand = addend_of(by);
     let a = entry_at(row, rs1);
     let rs2 = operand_name(operand);
     let b = operand_entry(row, operand);
@@ -275,7 +275,7 @@ fn load_in(policy: Policy, row: Row, op: LoadOp, rd: u8, rs1: u8, by: Displaceme
 fn store_in(policy: Policy, row: Row, op: StoreOp, rd: u8, rs1: u8, by: Displacement) -> Change
     ensures { λ r. ⌜ r ≡ changeOf policy row (Store op rd rs1 by) ⌝ }
 {
-    let operand = index_of(by);
+    let operand = addend_of(by);
     let e = entry_at(row, rd);
     let a = entry_at(row, rs1);
     let rs2 = operand_name(operand);

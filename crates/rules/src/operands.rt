@@ -1,11 +1,10 @@
 // Second operands: their entries, and the registers they name (specs/Change.antt).
 ghost use mathlib.Core.Path.{_≡_};
-ghost use Rattle.rules.specs.Change.{operandEntry, operandName, indexOf};
+ghost use Rattle.rules.specs.Change.{operandEntry, operandName};
 use rows::Entry;
 use rows::Row;
 use rows::entries::constant;
 use rows::entry_at;
-use v8::Displacement;
 use v8::Operand;
 
 // The entry of a second operand: an immediate is a single number.
@@ -25,15 +24,5 @@ pub fn operand_name(operand: Operand) -> u8
     match operand {
         Operand::Reg(r) => r,
         Operand::Imm(_) => 0,
-    }
-}
-
-// The second part of an address, as an operand.
-pub fn index_of(displacement: Displacement) -> Operand
-    ensures { λ r. ⌜ r ≡ indexOf displacement ⌝ }
-{
-    match displacement {
-        Displacement::Index(r) => Operand::Reg(r),
-        Displacement::Bytes(d) => Operand::Imm(d.0),
     }
 }

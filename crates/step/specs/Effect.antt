@@ -21,8 +21,9 @@ use Rattle.step.specs.declared.Aim.{Aim}
 use Rattle.step.specs.declared.Aim.the-variants.{Address, Missed}
 use Rattle.access.specs.declared.Located.{Located}
 use Rattle.access.specs.declared.Located.the-variants.{At, Nowhere}
-use Rattle.step.specs.Registers.{valueIn, setIn, operandIn, operandSetIn, valueOf, isSet, written, withCodes, operandValue, operandSet, addend}
+use Rattle.step.specs.Registers.{valueIn, setIn, operandIn, operandSetIn, valueOf, isSet, written, withCodes, operandValue, operandSet}
 use Rattle.access.specs.declared.Access.the-variants.{Loads, Stores}
+use Rattle.access.specs.Serve.{addend}
 use Rattle.access.specs.Layout.{Layout}
 use Rattle.access.specs.Locate.{locate}
 

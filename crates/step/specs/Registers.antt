@@ -7,8 +7,6 @@ use lib.Dec.{ltb, eqb}
 use lib.ListN.{getD, set}
 use Rattle.v8.specs.declared.Operand.{Operand}
 use Rattle.v8.specs.declared.Operand.the-variants.{Reg, Imm}
-use Rattle.v8.specs.declared.Displacement.{Displacement}
-use Rattle.v8.specs.declared.Displacement.the-variants.{Index, Bytes}
 use Rattle.alu.specs.declared.codes.Codes.{Codes}
 use Rattle.step.specs.declared.Registers.{Registers}
 
@@ -62,8 +60,3 @@ operandSetIn marks (Imm v) = true
 
 abbrev pub operandSet : Registers → Operand → Bool
 operandSet g x = operandSetIn (g .marks) x
-
--- an address's second part, as the operand that is added
-abbrev pub addend : Displacement → Operand
-addend (Index r) = Reg r
-addend (Bytes d) = Imm (d .0)

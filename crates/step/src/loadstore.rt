@@ -3,7 +3,6 @@ ghost use mathlib.Core.Path.{_≡_};
 ghost use Prim.Native.Nat.{_<_, _≤_};
 ghost use lib.ListN.{length};
 ghost use Rattle.memory.specs.Memory.{loadWidth, storeWidth};
-ghost use Rattle.step.specs.Registers.{addend};
 ghost use Rattle.step.specs.Effect.{aimIn, loadAt, storeAt, loadEffect, storeEffect};
 ghost use Rattle.step.specs.Lent.{coreOf, Lies, Covers, layoutFrom, Acts};
 use crate::Aim;
@@ -21,6 +20,7 @@ use crate::regs::value;
 use crate::regs::write;
 use access::Access;
 use access::Located;
+use access::addend_of;
 use access::locate::wide;
 use access::locate_access;
 use access::width_of;
@@ -31,18 +31,7 @@ use memory::start_of;
 use memory::store_in;
 use v8::Displacement;
 use v8::LoadOp;
-use v8::Operand;
 use v8::StoreOp;
-
-// An address's second part, as the operand that is added.
-fn addend_of(d: Displacement) -> Operand
-    ensures { λ r. ⌜ r ≡ addend d ⌝ }
-{
-    match d {
-        Displacement::Index(r) => Operand::Reg(r),
-        Displacement::Bytes(n) => Operand::Imm(n.0),
-    }
-}
 
 // Where an access aims: 102 where what it reads is unset, `others` being the rest of that, 104 where
 // the address is no multiple of the width.

@@ -3,8 +3,8 @@ use borrow.Author.Needs.{needs}
 use Rattle.rules.proofs.changes.load_in.Statement.{statement}
 use Rattle.rules.proofs.changes.load_in.Tie as tie
 
-index-of-requires : tie.Need-index-of-requires
-index-of-requires c κs = search needs
+addend-of-requires : tie.Need-addend-of-requires
+addend-of-requires c κs = search needs
 
 entry-at-requires : tie.Need-entry-at-requires
 entry-at-requires c κs = search needs
@@ -22,14 +22,14 @@ returns : tie.Need-returns
 returns c =
     let a = c .before .before .before in
     rw
-    (← a .before .index-of .ensures, ← a .entry-at .ensures, ← c .before .before .operand-name .ensures, ← c .before .operand-entry .ensures)
+    (← a .before .addend-of .ensures, ← a .entry-at .ensures, ← c .before .before .operand-name .ensures, ← c .before .operand-entry .ensures)
     (c .load-change .ensures)
 
 pub load-in-spec : {M : Type 1} → statement M
 load-in-spec =
     tie.close
     (tie.spec
-    index-of-requires
+    addend-of-requires
     entry-at-requires
     operand-name-requires
     operand-entry-requires

@@ -3,8 +3,8 @@ use borrow.Author.Needs.{needs}
 use Rattle.rules.proofs.changes.store_in.Statement.{statement}
 use Rattle.rules.proofs.changes.store_in.Tie as tie
 
-index-of-requires : tie.Need-index-of-requires
-index-of-requires c κs = search needs
+addend-of-requires : tie.Need-addend-of-requires
+addend-of-requires c κs = search needs
 
 entry-at-requires : tie.Need-entry-at-requires
 entry-at-requires c κs = search needs
@@ -25,14 +25,14 @@ returns : tie.Need-returns
 returns c =
     let a = c .before .before .before in
     rw
-    (← a .before .before .index-of .ensures, ← a .before .entry-at .ensures, ← a .entry-at2 .ensures, ← c .before .before .operand-name .ensures, ← c .before .operand-entry .ensures)
+    (← a .before .before .addend-of .ensures, ← a .before .entry-at .ensures, ← a .entry-at2 .ensures, ← c .before .before .operand-name .ensures, ← c .before .operand-entry .ensures)
     (c .store-change .ensures)
 
 pub store-in-spec : {M : Type 1} → statement M
 store-in-spec =
     tie.close
     (tie.spec
-    index-of-requires
+    addend-of-requires
     entry-at-requires
     entry-at-requires-2
     operand-name-requires

@@ -1,7 +1,7 @@
 -- The two cases of a displacement.
 use borrow.Author.Needs.{needs}
-use Rattle.step.proofs.loadstore.addend_of.Statement.{statement}
-use Rattle.step.proofs.loadstore.addend_of.Tie as tie
+use Rattle.access.proofs.serve.addend_of.Statement.{statement}
+use Rattle.access.proofs.serve.addend_of.Tie as tie
 
 enum-known-d : tie.Need-enum-known-d
 enum-known-d c = search needs
