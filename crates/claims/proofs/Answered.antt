@@ -1,0 +1,210 @@
+-- The three routines, passed through the check. What the words are is read by computation, and their flow too. Rows that all equal the entry row
+-- are well formed as it is, and it fits each of them, since it fits itself. A transfer followed by a nop leaves the row as it was: the nop changes
+-- nothing, and neither does the condition always. So the row arrives as it left. One nop alone has no next word, which the flow refuses.
+use Prim.Native.Nat.{ℕ, zero, suc, _+_, _*_, _≤_, _<_}
+use mathlib.Core.Path.{_≡_, refl, ap, _∙_}
+use mathlib.Core.Bool.{true, false, and-false}
+use mathlib.Core.List.{List, [], _∷_}
+use native.Mathlib.Omega.{arith}
+use lib.ListN.{length}
+use borrow.Author.Tests.{le-ltb}
+use Rattle.v8.specs.declared.Instruction.the-variants.{Sethi, Bicc, Return}
+use Rattle.v8.specs.declared.Reading.the-variants.{Read}
+use Rattle.v8.specs.Signed.{signExtend}
+use Rattle.v8.specs.Search.{first, lowest}
+use Rattle.v8.specs.Read.{readingOf, format00, format10}
+use Rattle.alu.specs.Result.{sethiOf}
+use Rattle.alu.specs.Condition.{conditionOf}
+use Rattle.policy.specs.declared.Policy.{Policy}
+use Rattle.memory.specs.Memory.{byteAt}
+use Rattle.step.specs.Transfer.{slotRuns, targetOf}
+use Rattle.rows.specs.Entry.{isReturn, constant, fits}
+use Rattle.rows.specs.Row.{entryAt, entryOf, rowOf, formFault, misfit, places}
+use Rattle.rows.proofs.Tests.{other-kind}
+use Rattle.rules.specs.Change.{branchChange, returnChange}
+use Rattle.checker.specs.Answer.{accepted, refuse, passes, passOf}
+use Rattle.checker.specs.Routine.{Routine, routineOf, transfers, isSlot, rowBytes}
+use Rattle.checker.specs.Passes.{shapeOk, rowPass, readPass, flowPass, entryPass, edgeOf, branchEdge, branchEdges, wordPass, checkOf, badRow, entryMisfit}
+use Rattle.claims.specs.Claims.{nop, returnWord, alwaysHere, WellFormedEntry, AllRowsEqual, ReturnThenNop, OneNop, LoopAccepted}
+use Rattle.claims.proofs.Agreeing.{Agree, same-row}
+use Rattle.claims.proofs.Passing.{unless-none, formed-too, all-pass, flow-answers, all-accept}
+use Rattle.claims.proofs.Keeping.{row-self, nop-keeps, narrowing-keeps}
+
+-- what holds of word 0 holds of each of one word; and of two
+below-one : (P : ℕ → Type 0) → P 0 → (w : ℕ) → w < 1 → P w
+below-one P a zero l = a
+below-one P a (suc w) l = absurd (omega arith)
+
+below-two : (P : ℕ → Type 0) → P 0 → P 1 → (w : ℕ) → w < 2 → P w
+below-two P a b zero l = a
+below-two P a b (suc zero) l = b
+below-two P a b (suc (suc w)) l = absurd (omega arith)
+
+-- what the words are read as
+nop-read : readingOf nop ≡ Read (Sethi 0 0)
+unfolding readingOf format00
+nop-read = refl
+
+return-read : readingOf returnWord ≡ Read Return
+unfolding readingOf format10
+return-read = refl
+
+always-read : readingOf alwaysHere ≡ Read (Bicc false 8 (record { 0 = 0 }))
+unfolding readingOf format00 signExtend
+always-read = refl
+
+-- a word whose row is well formed passes 1
+row-passes : (t : Routine) (w : ℕ) → places ≤ formFault (t .policy .regions) (t .policy .sizes) (t .rows) (rowBytes * w) → passes (rowPass t w) ≡ true
+unfolding rowPass
+row-passes t w l = ap passes (unless-none badRow w (formFault (t .policy .regions) (t .policy .sizes) (t .rows) (rowBytes * w)) l)
+
+module _ (p : Policy) (rows entry result : List ℕ) (f : WellFormedEntry p entry result) where
+  module _ (long : length rows ≡ 392) (formed : formFault (p .regions) (p .sizes) rows 0 ≡ places) where
+    abbrev alone : Routine
+    alone = routineOf p (nop ∷ []) rows entry result
+
+    alone-shape : shapeOk alone ≡ true
+    unfolding shapeOk
+    alone-shape = rw (long, f .entry-long, f .result-long, f .entry-formed, f .result-formed)
+
+    alone-rows : passOf (rowPass alone) 1 ≡ accepted
+    alone-rows = all-pass (rowPass alone) 1 (below-one (λ (w : ℕ). passes (rowPass alone w) ≡ true) (row-passes alone 0 (omega arith)))
+
+    alone-reads : passOf (readPass alone) 1 ≡ accepted
+    unfolding passOf first lowest readPass readingOf format00
+    alone-reads = refl
+
+    alone-flow : passOf (flowPass alone) 1 ≡ refuse 3 0 0
+    unfolding passOf first lowest flowPass readingOf format00 isSlot
+    alone-flow = refl
+
+    alone-answer : checkOf p (nop ∷ []) rows entry result ≡ refuse 3 0 0
+    unfolding checkOf
+    alone-answer = flow-answers alone (f .policy) alone-shape alone-rows alone-reads (refuse 3 0 0) alone-flow refl
+
+pub one-nop : OneNop
+one-nop p rows entry result f long formed = alone-answer p rows entry result f long formed
+
+-- a transfer, then a nop in its slot, both rows equal to the entry row
+module _ (p : Policy) (rows entry result : List ℕ) (f : WellFormedEntry p entry result) (e : AllRowsEqual rows entry 2) where
+  agree : (w : ℕ) → w < 2 → Agree rows entry (392 * w) 0 392
+  agree w l j b = e .same w j l b ∙ ap (byteAt entry) (none j)
+    where
+      none : (k : ℕ) → k ≡ 0 + k
+      none k = omega arith
+
+  -- each row is the entry row, and well formed
+  row-is : (w : ℕ) → w < 2 → rowOf rows (392 * w) ≡ rowOf entry 0
+  row-is w l = same-row rows entry (392 * w) 0 (agree w l)
+
+  row-formed : (w : ℕ) → w < 2 → places ≤ formFault (p .regions) (p .sizes) rows (392 * w)
+  row-formed w l = formed-too (p .regions) (p .sizes) rows entry (392 * w) 0 (agree w l) (f .entry-formed)
+
+  entry-formed : places ≤ formFault (p .regions) (p .sizes) entry 0
+  entry-formed = omega (arith, f .entry-formed)
+
+  -- the entry row fits row 0
+  entry-fits : places ≤ misfit (rowOf entry 0) (rowOf rows (392 * 0))
+  entry-fits = rw (row-is 0 (omega arith)) (row-self (p .regions) (p .sizes) entry 0 entry-formed)
+
+  module _ (word : ℕ) where
+    abbrev pair : Routine
+    pair = routineOf p (word ∷ nop ∷ []) rows entry result
+
+    pair-shape : shapeOk pair ≡ true
+    unfolding shapeOk
+    pair-shape = rw (e .long, f .entry-long, f .result-long, f .entry-formed, f .result-formed)
+
+    pair-rows : passOf (rowPass pair) 2 ≡ accepted
+    pair-rows = all-pass (rowPass pair) 2 (λ w l. row-passes pair w (row-formed w l))
+
+    pair-entry : entryPass pair ≡ accepted
+    unfolding entryPass
+    pair-entry = unless-none entryMisfit 0 (misfit (rowOf entry 0) (rowOf rows (392 * 0))) entry-fits
+
+    -- a transfer that passes each pass makes a routine that does: its slot is read, is no transfer, and is not looked at by itself
+    module _ (reads : passes (readPass pair 0) ≡ true) (slot : transfers (readingOf word) ≡ true) (flows : passes (flowPass pair 0) ≡ true)
+        (accepts : passes (wordPass pair 0) ≡ true) where
+      slot-reads : passes (readPass pair 1) ≡ true
+      unfolding readPass
+      slot-reads = rw nop-read
+
+      slot-flows : passes (flowPass pair 1) ≡ true
+      unfolding flowPass isSlot
+      slot-flows = rw (nop-read, slot)
+
+      slot-accepts : passes (wordPass pair 1) ≡ true
+      unfolding wordPass isSlot
+      slot-accepts = rw slot
+
+      pair-answer : checkOf p (word ∷ nop ∷ []) rows entry result ≡ accepted
+      unfolding checkOf
+      pair-answer =
+          all-accept pair (f .policy) pair-shape pair-rows
+          (all-pass (readPass pair) 2 (below-two (λ (w : ℕ). passes (readPass pair w) ≡ true) reads slot-reads))
+          (all-pass (flowPass pair) 2 (below-two (λ (w : ℕ). passes (flowPass pair w) ≡ true) flows slot-flows))
+          pair-entry
+          (all-pass (wordPass pair) 2 (below-two (λ (w : ℕ). passes (wordPass pair w) ≡ true) accepts slot-accepts))
+
+  -- the return
+  module _ (links : isReturn (entryAt (rowOf entry 0) 15) ≡ true) (fitting : fits (entryAt (rowOf entry 0) 8) (entryOf result 0) ≡ true) where
+    abbrev home : Routine
+    home = routineOf p (returnWord ∷ nop ∷ []) rows entry result
+
+    return-reads : passes (readPass home 0) ≡ true
+    unfolding readPass
+    return-reads = rw return-read
+
+    return-flows : passes (flowPass home 0) ≡ true
+    unfolding flowPass isSlot
+    return-flows = rw return-read
+
+    return-accepts : passes (wordPass home 0) ≡ true
+    unfolding wordPass isSlot edgeOf returnChange
+    return-accepts =
+        rw (
+          return-read,
+          nop-read,
+          row-is 0 (omega arith),
+          other-kind (entryAt (rowOf entry 0) 15 .kind) 4 0 links (λ x. omega arith),
+          links,
+          nop-keeps (p .regions) (p .sizes) entry 0 entry-formed (constant (sethiOf 0)),
+          fitting,
+        )
+
+    return-answer : checkOf p (returnWord ∷ nop ∷ []) rows entry result ≡ accepted
+    return-answer = pair-answer returnWord return-reads (rw return-read) return-flows return-accepts
+
+  -- the branch
+  abbrev loop : Routine
+  loop = routineOf p (alwaysHere ∷ nop ∷ []) rows entry result
+
+  loop-reads : passes (readPass loop 0) ≡ true
+  unfolding readPass
+  loop-reads = rw always-read
+
+  loop-flows : passes (flowPass loop 0) ≡ true
+  unfolding flowPass isSlot targetOf
+  loop-flows = rw always-read
+
+  loop-accepts : passes (wordPass loop 0) ≡ true
+  unfolding wordPass isSlot edgeOf branchChange branchEdges branchEdge conditionOf slotRuns targetOf
+  loop-accepts =
+      rw (
+        always-read,
+        nop-read,
+        row-is 0 (omega arith),
+        and-false,
+        narrowing-keeps (p .regions) (p .sizes) entry 0 entry-formed,
+        nop-keeps (p .regions) (p .sizes) entry 0 entry-formed (constant (sethiOf 0)),
+        le-ltb (misfit (rowOf entry 0) (rowOf rows (392 * 0))) places entry-fits,
+      )
+
+  loop-answer : checkOf p (alwaysHere ∷ nop ∷ []) rows entry result ≡ accepted
+  loop-answer = pair-answer alwaysHere loop-reads (rw always-read) loop-flows loop-accepts
+
+pub return-then-nop : ReturnThenNop
+return-then-nop p rows entry result f e links fitting = return-answer p rows entry result f e links fitting
+
+pub loop-accepted : LoopAccepted
+loop-accepted p rows entry result f e = loop-answer p rows entry result f e

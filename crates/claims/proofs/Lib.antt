@@ -1,0 +1,5 @@
+pub mod Agreeing
+pub mod Passing
+pub mod Keeping
+pub mod Answered
+pub mod Looped

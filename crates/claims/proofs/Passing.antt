@@ -1,0 +1,59 @@
+-- A check that passes: where no register of a row is at fault the search finds none, where each word passes the pass over the words does, and
+-- where each pass does the check accepts. (The other direction, what an accepted check shows, is checker's.)
+use Prim.Native.Nat.{ℕ, _≤_, _<_}
+use mathlib.Core.Path.{_≡_, refl, sym, ap, _∙_}
+use mathlib.Core.Bool.{Bool, true, false, not}
+use mathlib.Core.List.{List}
+use native.Mathlib.Omega.{arith}
+use lib.Dec.{ltb}
+use borrow.Author.Tests.{ltb-true, ltb-false, le-ltb}
+use Rattle.v8.specs.Search.{first, first-passes, first-least}
+use Rattle.policy.specs.Policy.{policyOk}
+use Rattle.rows.specs.Row.{brokenAt, formFault, places}
+use Rattle.rows.proofs.Tests.{false-true}
+use Rattle.checker.specs.declared.Answer.{Answer}
+use Rattle.checker.specs.Answer.{accepted, passes, refuses, passOf}
+use Rattle.checker.specs.Routine.{Routine, count}
+use Rattle.checker.specs.Passes.{unlessFault, shapeOk, rowPass, readPass, flowPass, entryPass, wordPass, answerOf}
+use Rattle.claims.proofs.Agreeing.{Agree, same-form}
+
+-- a search finds none below its bound if none there passes
+pub none-found : (f : ℕ → Bool) (n : ℕ) → ((i : ℕ) → i < n → f i ≡ false) → n ≤ first f 0 n
+none-found f n h = at (ltb (first f 0 n) n) refl
+  where
+    at : (t : Bool) → ltb (first f 0 n) n ≡ t → n ≤ first f 0 n
+    at true t =
+        let l = ltb-true (first f 0 n) n t in
+        false-true (sym (h (first f 0 n) l) ∙ first-passes f 0 n l)
+    at false t = ltb-false (first f 0 n) n t
+
+-- a search that found no fault is accepted
+pub unless-none : (number w r : ℕ) → places ≤ r → unlessFault number w r ≡ accepted
+unless-none number w r l = rw (le-ltb r places l)
+
+-- a row whose bytes agree with those of a well formed one is well formed
+pub formed-too : (regions : ℕ) (sizes xs ys : List ℕ) (x y : ℕ) → Agree xs ys x y 392
+    → formFault regions sizes ys y ≡ places → places ≤ formFault regions sizes xs x
+unfolding formFault
+formed-too regions sizes xs ys x y h e =
+    none-found (brokenAt regions sizes xs x) places
+    (λ r l. ap not (same-form xs ys regions sizes x y r h) ∙ first-least (brokenAt regions sizes ys y) 0 places r (omega arith) (omega arith))
+
+-- a pass over the words accepts if each word does
+pub all-pass : (f : ℕ → Answer) (n : ℕ) → ((w : ℕ) → w < n → passes (f w) ≡ true) → passOf f n ≡ accepted
+unfolding passOf
+all-pass f n h = rw (le-ltb (first (refuses f) 0 n) n (none-found (refuses f) n (λ w l. ap not (h w l))))
+
+-- the passes before the flow of the words
+module _ (t : Routine) (policy : policyOk (t .policy) ≡ true) (shape : shapeOk t ≡ true)
+    (rows : passOf (rowPass t) (count t) ≡ accepted) (reads : passOf (readPass t) (count t) ≡ accepted) where
+  -- a check that goes as far as the flow answers what that pass does, if it refuses
+  pub flow-answers : (a : Answer) → passOf (flowPass t) (count t) ≡ a → passes a ≡ false → answerOf t ≡ a
+  unfolding answerOf
+  flow-answers a e f = rw (policy, shape, rows, reads, e, f)
+
+  -- a check all of whose passes accept does
+  pub all-accept :
+      passOf (flowPass t) (count t) ≡ accepted → entryPass t ≡ accepted → passOf (wordPass t) (count t) ≡ accepted → answerOf t ≡ accepted
+  unfolding answerOf
+  all-accept flows entry words = rw (policy, shape, rows, reads, flows, entry, words)

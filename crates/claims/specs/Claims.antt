@@ -1,0 +1,71 @@
+-- What document 01's trial words say of every row ("Trial words"): stated for every policy, entry row and result entry, not for single ones.
+-- Their proofs are `return-then-nop`, `one-nop` and `loop-accepted` in proofs/Answered.antt, and `loop-never-returns` in proofs/Looped.antt.
+use Prim.Native.Nat.{ℕ, _+_, _*_, _<_}
+use mathlib.Core.Path.{_≡_}
+use mathlib.Core.Bool.{true}
+use mathlib.Core.List.{List, [], _∷_}
+use lib.ListN.{length}
+use Rattle.policy.specs.declared.Policy.{Policy}
+use Rattle.policy.specs.Policy.{policyOk}
+use Rattle.memory.specs.Memory.{byteAt}
+use Rattle.step.specs.declared.Registers.{Registers}
+use Rattle.machine.specs.declared.End.the-variants.{Spent}
+use Rattle.machine.specs.Run.{runOf}
+use Rattle.rows.specs.Entry.{isReturn, fits}
+use Rattle.rows.specs.Row.{entryAt, entryOf, entryFormed, rowOf, formFault, places}
+use Rattle.checker.specs.Answer.{accepted, refuse}
+use Rattle.checker.specs.Passes.{checkOf}
+use Rattle.guarantee.specs.Guarantee.{Start}
+
+-- the words: the leaf return, the nop (SETHI 0 to r0), and the branch that is always taken, to itself
+abbrev pub returnWord : ℕ
+returnWord = 0x81C3E008
+
+abbrev pub nop : ℕ
+nop = 0x01000000
+
+abbrev pub alwaysHere : ℕ
+alwaysHere = 0x10800000
+
+-- a policy that obeys the rules, and an entry row and a result entry that are well formed: of the 33 places of a row, its registers and its note,
+-- none is found at fault
+pub record WellFormedEntry (p : Policy) (entry result : List ℕ) : Type 0 where
+  pub policy : policyOk p ≡ true
+  pub entry-long : length entry ≡ 392
+  pub entry-formed : formFault (p .regions) (p .sizes) entry 0 ≡ places
+  pub result-long : length result ≡ 12
+  pub result-formed : entryFormed (p .regions) (p .sizes) result 0 ≡ true
+
+-- "all rows equal to a well-formed entry row": n rows, each byte by byte the entry row
+pub record AllRowsEqual (rows entry : List ℕ) (n : ℕ) : Type 0 where
+  pub long : length rows ≡ 392 * n
+  pub same : (w j : ℕ) → w < n → j < 392 → byteAt rows (392 * w + j) ≡ byteAt entry j
+
+-- "Return then nop, all rows equal to a well-formed entry row with r15 kind 4 and r8 fitting: 0 0 0."
+abbrev pub ReturnThenNop : Type 0
+ReturnThenNop =
+    (p : Policy) (rows entry result : List ℕ) → WellFormedEntry p entry result → AllRowsEqual rows entry 2
+    → isReturn (entryAt (rowOf entry 0) 15) ≡ true → fits (entryAt (rowOf entry 0) 8) (entryOf result 0) ≡ true
+    → checkOf p (returnWord ∷ nop ∷ []) rows entry result ≡ accepted
+
+-- "One nop alone: 3 0 0." Whatever its row, if it is well formed: number 3, word 0, register 0.
+abbrev pub OneNop : Type 0
+OneNop =
+    (p : Policy) (rows entry result : List ℕ) → WellFormedEntry p entry result
+    → length rows ≡ 392 → formFault (p .regions) (p .sizes) rows 0 ≡ places
+    → checkOf p (nop ∷ []) rows entry result ≡ refuse 3 0 0
+
+-- "10800000 (always, distance 0) then nop, both rows equal to the entry row: accepted, never returns." It is accepted ..
+abbrev pub LoopAccepted : Type 0
+LoopAccepted =
+    (p : Policy) (rows entry result : List ℕ) → WellFormedEntry p entry result → AllRowsEqual rows entry 2
+    → checkOf p (alwaysHere ∷ nop ∷ []) rows entry result ≡ accepted
+
+-- .. and never returns: from every matching start every allowance is spent, to the last step. (A run reads no rows.)
+abbrev pub LoopNeverReturns : Type 0
+LoopNeverReturns =
+    (p : Policy) (entry result : List ℕ) → WellFormedEntry p entry result
+    → (bases : List ℕ) (returns : ℕ) (g : Registers) (memory : List ℕ) → Start p entry bases returns g memory
+    → (allowance : ℕ)
+    → (runOf p (alwaysHere ∷ nop ∷ []) bases returns g allowance memory .outcome .end ≡ Spent)
+    × (runOf p (alwaysHere ∷ nop ∷ []) bases returns g allowance memory .outcome .steps ≡ allowance)
