@@ -4,7 +4,7 @@ use mathlib.Core.Path.{_≡_, refl, sym, ap, _∙_}
 use mathlib.Core.Bool.{Bool, true, false, not, cond, and-false}
 use native.Mathlib.Omega.{arith}
 use lib.Dec.{ltb, eqb}
-use borrow.Author.Tests.{ltb-true, ltb-false}
+use borrow.Author.Tests.{ltb-true, ltb-false, not-false}
 use Rattle.v8.specs.Search.{first, first-passes, first-least, needed, needed-le, needed-eq}
 use Rattle.policy.specs.Policy.{policyOk}
 use Rattle.rows.specs.Row.{entryFormed, formFault, misfit, places}
@@ -41,17 +41,13 @@ pub each-passes : (f : ℕ → Answer) (n : ℕ) → passes (passOf f n) ≡ tru
 unfolding passOf
 each-passes f n e w l = at (ltb (first (refuses f) 0 n) n) refl e
   where
-    so : (t : Bool) → not t ≡ false → t ≡ true
-    so true q = refl
-    so false q = sym q
-
     clash : (t : Bool) → not t ≡ true → t ≡ true → passes (f w) ≡ true
     clash true q r = false-true q
     clash false q r = false-true r
 
     at : (t : Bool) → ltb (first (refuses f) 0 n) n ≡ t → passes (cond t (f (first (refuses f) 0 n)) accepted) ≡ true → passes (f w) ≡ true
     at true t e = clash (passes (f (first (refuses f) 0 n))) (first-passes (refuses f) 0 n (ltb-true (first (refuses f) 0 n) n t)) e
-    at false t e = so (passes (f w)) (first-least (refuses f) 0 n w (omega arith) (omega (arith, ltb-false (first (refuses f) 0 n) n t)))
+    at false t e = not-false (passes (f w)) (first-least (refuses f) 0 n w (omega arith) (omega (arith, ltb-false (first (refuses f) 0 n) n t)))
 
 module _ (t : Routine) where
   row-formed : (w : ℕ) → passes (rowPass t w) ≡ true → places ≤ formFault (t .policy .regions) (t .policy .sizes) (t .rows) (rowBytes * w)

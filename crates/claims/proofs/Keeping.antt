@@ -2,13 +2,13 @@
 -- r0 alone, which vanishes, and a note that compares names no r0. A condition that says nothing of the noted register, as always does, leaves
 -- of its entry what there was: a number's region is 0, so the entry that narrowing makes of its set is that entry.
 use Prim.Native.Nat.{ℕ, _≤_, _<_}
-use mathlib.Core.Path.{_≡_, refl, sym, ap, _∙_}
+use mathlib.Core.Path.{_≡_, refl, ap, _∙_}
 use mathlib.Core.Bool.{Bool, true, false, not, _&&_, _||_, and-false}
 use mathlib.Core.List.{List}
 use native.Mathlib.Omega.{arith}
 use lib.Dec.{ltb, eqb}
 use lib.Seq.{set-getD}
-use borrow.Author.Tests.{eqb-true, eq-eqb, ltb-true, ltb-false, lt-ltb}
+use borrow.Author.Tests.{eqb-true, eq-eqb, ltb-true, ltb-false, lt-ltb, not-false}
 use Rattle.v8.specs.Choice.{cond-both}
 use Rattle.v8.specs.Search.{first-least, needed, needed-le, needed-eq}
 use Rattle.alu.specs.declared.condition.Narrowing.the-variants.{Unrelated}
@@ -87,11 +87,7 @@ module _ (regions : ℕ) (sizes bytes : List ℕ) (at : ℕ) (h : places ≤ for
 
   formed : (r : ℕ) → r < places → formedAt regions sizes bytes at r ≡ true
   unfolding formFault
-  formed r l = so (formedAt regions sizes bytes at r) (first-least (brokenAt regions sizes bytes at) 0 places r (omega arith) (omega arith))
-    where
-      so : (t : Bool) → not t ≡ false → t ≡ true
-      so true e = refl
-      so false e = sym e
+  formed r l = not-false (formedAt regions sizes bytes at r) (first-least (brokenAt regions sizes bytes at) 0 places r (omega arith) (omega arith))
 
   note-formed : noteOk (row .note) ≡ true
   unfolding formedAt rowOf

@@ -62,14 +62,6 @@ dueOf w Pending·.Nothing = to (w + 1)
 dueOf w (Pending·.Jump i) = to (i .0)
 dueOf w Pending·.Leave = caller
 
-not-false : (t : Bool) → not t ≡ false → t ≡ true
-not-false true e = refl
-not-false false e = sym e
-
-not-true : (t : Bool) → not t ≡ true → t ≡ false
-not-true true e = sym e
-not-true false e = refl
-
 -- a word follows a transfer exactly if it is a slot
 slot-next : (readings : List Reading) (w : ℕ) → isSlot readings (w + 1) ≡ transfers (readingAt readings w)
 unfolding isSlot

@@ -2,13 +2,13 @@
 -- search for a fault finds none has only such entries.
 use Prim.Native.Nat.{ℕ, _+_, _-_, _≤_, _<_}
 use mathlib.Core.Path.{_≡_, refl, sym, subst}
-use mathlib.Core.Bool.{Bool, true, false, not, cond, _&&_, _||_, and-false}
+use mathlib.Core.Bool.{Bool, true, false, cond, _&&_, _||_, and-false}
 use mathlib.Core.List.{List}
 use native.Mathlib.Omega.{arith}
 use lib.Dec.{T, leb, ltb, eqb}
 use lib.ListN.{getD}
 use native.Mathlib.Nat.{mod-one}
-use borrow.Author.Tests.{ltb-true, ltb-false, leb-true, lt-ltb}
+use borrow.Author.Tests.{ltb-true, ltb-false, leb-true, lt-ltb, not-false}
 use Rattle.v8.specs.Search.{first-least, needed}
 use Rattle.v8.specs.Table.{at}
 use Rattle.v8.specs.Choice.{cond-went, cond-both}
@@ -80,12 +80,8 @@ formed-each : (regions : ℕ) (sizes bytes : List ℕ) (at : ℕ) → places ≤
     → (r : ℕ) → r < places → formedAt regions sizes bytes at r ≡ true
 unfolding formFault
 formed-each regions sizes bytes at e r l =
-    false-not (formedAt regions sizes bytes at r)
+    not-false (formedAt regions sizes bytes at r)
     (first-least (brokenAt regions sizes bytes at) 0 places r (omega arith) (omega arith))
-  where
-    false-not : (t : Bool) → not t ≡ false → t ≡ true
-    false-not true e = refl
-    false-not false e = sym e
 
 formed-entry : (regions : ℕ) (sizes bytes : List ℕ) (at r : ℕ) → r < 32 → formedAt regions sizes bytes at r ≡ true
     → entryOk regions sizes (entryOf bytes (entryPlace at r)) ≡ true

@@ -5,7 +5,7 @@ use mathlib.Core.Path.{_≡_, refl, sym, ap, _∙_, subst}
 use mathlib.Core.Bool.{Bool, true, false, not, _&&_, _||_}
 use native.Mathlib.Omega.{arith}
 use lib.Dec.{eqb, ltb}
-use borrow.Author.Tests.{eqb-true, ltb-true, ltb-false, lt-ltb, le-ltb}
+use borrow.Author.Tests.{eqb-true, ltb-true, ltb-false, lt-ltb, le-ltb, not-true, not-false}
 use Rattle.v8.specs.Search.{first-least}
 use Rattle.rows.specs.declared.Entry.{Entry}
 use Rattle.rows.specs.declared.Row.{Row}
@@ -35,10 +35,6 @@ note-fits g a b e m =
     some t =
         let p = and-went (eqb (b .kind) 1) (not (eqb (a .kind) 0)) t in
         record { coded = λ u. m .coded (not-true (eqb (a .kind) 0) (p .1)); compared = λ q. one-kind (b .kind) 1 2 (p .0) q (λ x. omega arith) }
-      where
-        not-true : (t : Bool) → not t ≡ true → t ≡ false
-        not-true true e = sym e
-        not-true false e = refl
 
     same : a .kind ≡ b .kind → a .register ≡ b .register → a .number ≡ b .number → NoteMatches b g
     same p q r =
@@ -49,11 +45,7 @@ note-fits g a b e m =
 
 pub fits-each : (a b : Row) → places ≤ misfit a b → (r : ℕ) → r < places → fitsAt a b r ≡ true
 unfolding misfit
-fits-each a b e r l = false-not (fitsAt a b r) (first-least (misfitsAt a b) 0 places r (omega arith) (omega arith))
-  where
-    false-not : (t : Bool) → not t ≡ false → t ≡ true
-    false-not true e = refl
-    false-not false e = sym e
+fits-each a b e r l = not-false (fitsAt a b r) (first-least (misfitsAt a b) 0 places r (omega arith) (omega arith))
 
 fits-here : (a b : Row) → places ≤ misfit a b → (r : ℕ) → r < 32 → fits (entryAt a r) (entryAt b r) ≡ true
 unfolding fitsAt

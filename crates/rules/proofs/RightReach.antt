@@ -3,10 +3,10 @@
 use Prim.Native.Nat.{ℕ, _+_, _-_, _%_, _≤_, _<_}
 use mathlib.Core.Path.{_≡_, refl, sym, subst}
 use mathlib.Core.Logic.{_⊎_, inl, inr}
-use mathlib.Core.Bool.{Bool, true, false, not, _&&_}
+use mathlib.Core.Bool.{true, not, _&&_}
 use native.Mathlib.Omega.{arith}
 use lib.Dec.{ltb, eqb}
-use borrow.Author.Tests.{eqb-true, ltb-false}
+use borrow.Author.Tests.{eqb-true, ltb-false, not-false}
 use Rattle.v8.specs.Choice.{cond-both}
 use Rattle.v8.specs.declared.AluOp.the-variants.{Add}
 use Rattle.v8.specs.declared.LoadOp.the-variants.{Ld, Ldub, Lduh, Ldsb, Ldsh}
@@ -130,11 +130,7 @@ module _ (p : Policy) (h : Host) (wf : WellFormed p) (laid : Laid (p .regions) (
           λ _. cond-both Good (not (serves a (fieldAt p place .element))) (λ _. tt)
           λ t₁. cond-both Good (not (onGrid s (accessWidth a))) (λ _. tt)
           λ t₂. cond-both Good (not (allows a (fieldAt p place .permission))) (λ _. tt)
-          λ t₃. reached (so (serves a (fieldAt p place .element)) t₁) (so (onGrid s (accessWidth a)) t₂) (so (allows a (fieldAt p place .permission)) t₃)
-        where
-          so : (t : Bool) → not t ≡ false → t ≡ true
-          so true e = refl
-          so false e = sym e
+          λ t₃. reached (not-false (serves a (fieldAt p place .element)) t₁) (not-false (onGrid s (accessWidth a)) t₂) (not-false (allows a (fieldAt p place .permission)) t₃)
 
     found-good : nought ≤ s .lo → (f : Found) → findField p r (s .lo - nought) (endOf s (accessWidth a)) ≡ f → Good (inFound p a rs1 s f)
     found-good low (Found·.At place) e = field-good place (found-holds p r (s .lo - nought) (endOf s (accessWidth a)) place e) low
