@@ -1,2 +1,4 @@
 pub mod Accepted
 pub mod Looked
+pub mod Parts
+pub mod Landing

@@ -2,3 +2,4 @@ pub mod Answer
 pub mod Routine
 pub mod Passes
 pub mod Laws
+pub mod Lent

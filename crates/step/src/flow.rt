@@ -84,7 +84,7 @@ pub fn target(at: WordIndex, distance: WordIndex) -> WordIndex
 }
 
 // Where a branch goes: to its target, or past its slot.
-fn landing_of(at: WordIndex, distance: WordIndex, taken: bool) -> WordIndex
+pub fn landing_of(at: WordIndex, distance: WordIndex, taken: bool) -> WordIndex
     requires { ⌜ at .0 < 128 ⌝ }
     ensures { λ r. ⌜ r ≡ record { 0 = landing (at .0) (distance .0) taken } ⌝ }
 {

@@ -1,0 +1,34 @@
+-- A word whose flow is right goes to words of the code.
+use Prim.Native.Nat.{ℕ, _+_, _<_}
+use mathlib.Core.Path.{_≡_}
+use mathlib.Core.Bool.{Bool, true, false, not, _&&_, _||_, and-false}
+use mathlib.Core.List.{List}
+use native.Mathlib.Omega.{arith}
+use lib.Dec.{ltb}
+use lib.ListN.{length, length-map}
+use Rattle.v8.specs.Read.{readingOf}
+use Rattle.v8.specs.Search.{needed-lt}
+use Rattle.step.specs.Transfer.{targetOf}
+use Rattle.checker.specs.Routine.{count, examined, hasTaken, hasOther}
+use Rattle.checker.specs.Passes.{landsAt, plainFlow, transferFlow, branchFlow}
+use Rattle.checker.specs.Lent.{codeOf}
+
+module _ (words : List ℕ) (w : ℕ) where
+  -- the words that are read are those handed over
+  of-code : (k : ℕ) → k < count (codeOf words) → k < length words
+  of-code k l = omega (arith, length-map words readingOf, l)
+
+  pub next-inside : plainFlow (codeOf words) w ≡ true → examined (codeOf words) w ≡ true → w + 1 < length words
+  next-inside h e =
+      of-code (w + 1) (needed-lt (plainFlow (codeOf words) w) (w + 1) (count (codeOf words)) h (λ f. rw (e, f)))
+
+  pub taken-inside : (cnd distance : ℕ) → branchFlow (codeOf words) w cnd distance ≡ true → hasTaken cnd ≡ true
+      → targetOf w distance < length words
+  taken-inside cnd distance h e =
+      of-code (targetOf w distance)
+      (needed-lt (branchFlow (codeOf words) w cnd distance) (targetOf w distance) (count (codeOf words)) h (λ f. rw (e, f, and-false)))
+
+  pub other-inside : (cnd distance : ℕ) → branchFlow (codeOf words) w cnd distance ≡ true → hasOther cnd ≡ true → w + 2 < length words
+  other-inside cnd distance h e =
+      of-code (w + 2)
+      (needed-lt (branchFlow (codeOf words) w cnd distance) (w + 2) (count (codeOf words)) h (λ f. rw (e, f, and-false)))

@@ -1,0 +1,27 @@
+use Rattle.v8.specs.Choice.{tests}
+use borrow.Author.Needs.{needs}
+use Rattle.checker.proofs.answers.unless_fault.Statement.{statement}
+use Rattle.checker.proofs.answers.unless_fault.Tie as tie
+use Rattle.checker.proofs.answers.unless_fault.Reads as reads
+use Rattle.checker.proofs.answers.unless_fault.Lts as lts
+use Rattle.checker.proofs.answers.accept.Reads as accept-reads
+use Rattle.checker.proofs.answers.refuse.Reads as refuse-reads
+
+-- src/answers.rt:65:9
+refuse-requires : tie.Need-refuse-requires
+refuse-requires c κs = search needs
+
+-- src/answers.rt:65:9
+returns : tie.Need-returns
+returns c = search (tests, c .refuse .ensures)
+
+-- src/answers.rt:67:5
+accept-requires : tie.Need-accept-requires
+accept-requires c κs = search needs
+
+-- src/answers.rt:61:1
+returns-2 : tie.Need-returns-2
+returns-2 c = search (tests, c .accept .ensures)
+
+pub unless-fault-spec : {M : Type 1} → statement M
+unless-fault-spec = tie.close (tie.spec refuse-requires returns accept-requires returns-2)

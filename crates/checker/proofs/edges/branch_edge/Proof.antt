@@ -1,0 +1,43 @@
+use Rattle.v8.specs.declared.WordIndex.{WordIndex}
+use mathlib.Core.Path.{ap}
+use Rattle.checker.specs.Passes.{branchEdge}
+use borrow.Author.Needs.{needs}
+use Rattle.checker.proofs.edges.branch_edge.Statement.{statement}
+use Rattle.checker.proofs.edges.branch_edge.Tie as tie
+use Rattle.checker.proofs.edges.branch_edge.Reads as reads
+use Rattle.checker.proofs.edges.branch_edge.Lts as lts
+use Rattle.checker.proofs.edges.class_of.Reads as class-of-reads
+use Rattle.checker.proofs.edges.narrowed_edge.Reads as narrowed-edge-reads
+use Rattle.step.proofs.flow.landing_of.Reads as landing-of-reads
+use Rattle.step.proofs.flow.slot_runs.Reads as slot-runs-reads
+
+-- src/edges.rt:149:9
+slot-runs-requires : tie.Need-slot-runs-requires
+slot-runs-requires c κs = search needs
+
+-- src/edges.rt:150:9
+landing-of-requires : tie.Need-landing-of-requires
+landing-of-requires c κs = search needs
+
+-- src/edges.rt:151:9
+class-of-requires : tie.Need-class-of-requires
+class-of-requires c κs = search needs
+
+-- src/edges.rt:152:5
+narrowed-edge-requires : tie.Need-narrowed-edge-requires
+narrowed-edge-requires c κs = let pre = c .before .before .before .before .before .pre in (pre .0, rw (c .before .landing-of .ensures) (pre .1))
+
+-- src/edges.rt:135:1
+returns : tie.Need-returns
+unfolding branchEdge
+returns c = let l = c .before .before in rw (← c .before .class-of .ensures, ← l .before .slot-runs .ensures, ← ap (λ (n : WordIndex). n .0) (l .landing-of .ensures)) (c .narrowed-edge .ensures)
+
+pub branch-edge-spec : {M : Type 1} → statement M
+branch-edge-spec =
+    tie.close
+    (tie.spec
+    slot-runs-requires
+    landing-of-requires
+    class-of-requires
+    narrowed-edge-requires
+    returns)

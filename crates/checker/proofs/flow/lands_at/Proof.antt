@@ -1,0 +1,22 @@
+use borrow.Author.Needs.{needs}
+use Rattle.checker.proofs.flow.lands_at.Statement.{statement}
+use Rattle.checker.proofs.flow.lands_at.Tie as tie
+use Rattle.checker.proofs.flow.lands_at.Reads as reads
+use Rattle.checker.proofs.flow.lands_at.Lts as lts
+use Rattle.checker.proofs.words.examined.Reads as examined-reads
+use Rattle.checker.proofs.words.inside.Reads as inside-reads
+
+-- src/flow.rt:38:9
+inside-requires : tie.Need-inside-requires
+inside-requires c κs = search needs
+
+-- src/flow.rt:39:14
+examined-requires : tie.Need-examined-requires
+examined-requires c κs = search needs
+
+-- src/flow.rt:35:1
+returns : tie.Need-returns
+returns c = rw (c .before .inside .ensures, c .examined .ensures)
+
+pub lands-at-spec : {M : Type 1} → statement M
+lands-at-spec = tie.close (tie.spec inside-requires examined-requires returns)

@@ -1,0 +1,26 @@
+use borrow.Author.Needs.{needs}
+use Rattle.checker.proofs.flow.plain_flow.Statement.{statement}
+use Rattle.checker.proofs.flow.plain_flow.Tie as tie
+use Rattle.checker.proofs.flow.plain_flow.Reads as reads
+use Rattle.checker.proofs.flow.plain_flow.Lts as lts
+use Rattle.checker.proofs.words.examined.Reads as examined-reads
+use Rattle.checker.proofs.words.inside.Reads as inside-reads
+
+-- src/flow.rt:47:9
+examined-requires : tie.Need-examined-requires
+examined-requires c κs = search needs
+
+-- src/flow.rt:48:41
+add-t6 : tie.Need-add-t6
+add-t6 c = search needs
+
+-- src/flow.rt:48:17
+inside-requires : tie.Need-inside-requires
+inside-requires c κs = search needs
+
+-- src/flow.rt:43:1
+returns : tie.Need-returns
+returns c = rw (c .before .before .examined .ensures, c .inside .ensures)
+
+pub plain-flow-spec : {M : Type 1} → statement M
+plain-flow-spec = tie.close (tie.spec examined-requires add-t6 inside-requires returns)

@@ -1,0 +1,26 @@
+use borrow.Author.Needs.{needs}
+use Rattle.checker.proofs.flow.transfer_flow.Statement.{statement}
+use Rattle.checker.proofs.flow.transfer_flow.Tie as tie
+use Rattle.checker.proofs.flow.transfer_flow.Reads as reads
+use Rattle.checker.proofs.flow.transfer_flow.Lts as lts
+use Rattle.checker.proofs.words.examined.Reads as examined-reads
+use Rattle.checker.proofs.words.inside.Reads as inside-reads
+
+-- src/flow.rt:56:40
+add-t4 : tie.Need-add-t4
+add-t4 c = search needs
+
+-- src/flow.rt:56:9
+inside-requires : tie.Need-inside-requires
+inside-requires c κs = search needs
+
+-- src/flow.rt:57:12
+examined-requires : tie.Need-examined-requires
+examined-requires c κs = search needs
+
+-- src/flow.rt:52:1
+returns : tie.Need-returns
+returns c = rw (c .before .inside .ensures, c .examined .ensures)
+
+pub transfer-flow-spec : {M : Type 1} → statement M
+transfer-flow-spec = tie.close (tie.spec add-t4 inside-requires examined-requires returns)

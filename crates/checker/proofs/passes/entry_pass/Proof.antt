@@ -1,0 +1,28 @@
+use borrow.Author.Needs.{needs}
+use Rattle.checker.proofs.passes.entry_pass.Statement.{statement}
+use Rattle.checker.proofs.passes.entry_pass.Tie as tie
+use Rattle.checker.proofs.passes.entry_pass.Reads as reads
+use Rattle.checker.proofs.passes.entry_pass.Lts as lts
+use Rattle.checker.proofs.answers.unless_fault.Reads as unless-fault-reads
+use Rattle.rows.proofs.misfit.Reads as misfit-reads
+use Rattle.rows.proofs.read_row.Reads as read-row-reads
+
+-- src/passes.rt:107:24
+read-row-requires : tie.Need-read-row-requires
+read-row-requires c κs = search needs
+
+-- src/passes.rt:107:9
+misfit-requires : tie.Need-misfit-requires
+misfit-requires c κs = search needs
+
+-- src/passes.rt:108:5
+unless-fault-requires : tie.Need-unless-fault-requires
+unless-fault-requires c κs = search needs
+
+-- src/passes.rt:103:1
+returns : tie.Need-returns
+returns c = ?
+
+pub entry-pass-spec : {M : Type 1} → statement M
+entry-pass-spec =
+    tie.close (tie.spec read-row-requires misfit-requires unless-fault-requires returns)

@@ -1,0 +1,69 @@
+use borrow.Author.Needs.{needs}
+use Rattle.checker.proofs.passes.instruction_in.Statement.{statement}
+use Rattle.checker.proofs.passes.instruction_in.Tie as tie
+use Rattle.checker.proofs.passes.instruction_in.Reads as reads
+use Rattle.checker.proofs.passes.instruction_in.Lts as lts
+use Rattle.checker.proofs.answers.refuse.Reads as refuse-reads
+use Rattle.checker.proofs.edges.edges_of.Reads as edges-of-reads
+use Rattle.rows.proofs.row_with.Reads as row-with-reads
+use Rattle.rules.proofs.change_of.Reads as change-of-reads
+
+-- src/passes.rt:124:11
+change-of-requires : tie.Need-change-of-requires
+change-of-requires c κs = search needs
+
+-- src/passes.rt:125:24
+enum-known-register : tie.Need-enum-known-register
+enum-known-register c = search needs
+
+-- src/passes.rt:132:13
+row-with-requires : tie.Need-row-with-requires
+row-with-requires c κs = search needs
+
+-- src/passes.rt:125:43
+edges-of-requires : tie.Need-edges-of-requires
+edges-of-requires c κs = search needs
+
+-- src/passes.rt:134:26
+enum-told : tie.Need-enum-told
+enum-told c = search needs
+
+-- src/passes.rt:134:26
+edges-of-requires-2 : tie.Need-edges-of-requires-2
+edges-of-requires-2 c κs = search needs
+
+-- src/passes.rt:135:24
+enum-known-number : tie.Need-enum-known-number
+enum-known-number c = search needs
+
+-- src/passes.rt:135:45
+refuse-requires : tie.Need-refuse-requires
+refuse-requires c κs = search needs
+
+-- src/passes.rt:112:1
+returns : tie.Need-returns
+returns c = ?
+
+-- src/passes.rt:112:1
+returns-2 : tie.Need-returns-2
+returns-2 c = ?
+
+-- src/passes.rt:112:1
+returns-3 : tie.Need-returns-3
+returns-3 c = ?
+
+pub instruction-in-spec : {M : Type 1} → statement M
+instruction-in-spec =
+    tie.close
+    (tie.spec
+    change-of-requires
+    enum-known-register
+    row-with-requires
+    edges-of-requires
+    enum-told
+    edges-of-requires-2
+    enum-known-number
+    refuse-requires
+    returns
+    returns-2
+    returns-3)

@@ -1,0 +1,48 @@
+use borrow.Author.Needs.{needs}
+use Rattle.checker.proofs.passes.read_at.Statement.{statement}
+use Rattle.checker.proofs.passes.read_at.Tie as tie
+use Rattle.checker.proofs.passes.read_at.Reads as reads
+use Rattle.checker.proofs.passes.read_at.Lts as lts
+use Rattle.checker.proofs.answers.accept.Reads as accept-reads
+use Rattle.checker.proofs.answers.refuse.Reads as refuse-reads
+use Rattle.checker.proofs.words.word_at.Reads as word-at-reads
+
+-- src/passes.rt:65:11
+word-at-requires : tie.Need-word-at-requires
+word-at-requires c κs = search needs
+
+-- src/passes.rt:66:29
+enum-told : tie.Need-enum-told
+enum-told c = search needs
+
+-- src/passes.rt:66:29
+accept-requires : tie.Need-accept-requires
+accept-requires c κs = search needs
+
+-- src/passes.rt:67:28
+enum-told-2 : tie.Need-enum-told-2
+enum-told-2 c = search needs
+
+-- src/passes.rt:67:28
+refuse-requires : tie.Need-refuse-requires
+refuse-requires c κs = search needs
+
+-- src/passes.rt:62:1
+returns : tie.Need-returns
+returns c = ?
+
+-- src/passes.rt:62:1
+returns-2 : tie.Need-returns-2
+returns-2 c = ?
+
+pub read-at-spec : {M : Type 1} → statement M
+read-at-spec =
+    tie.close
+    (tie.spec
+    word-at-requires
+    enum-told
+    accept-requires
+    enum-told-2
+    refuse-requires
+    returns
+    returns-2)

@@ -1,0 +1,59 @@
+use Rattle.checker.proofs.passes.read_pass.Statement.{statement}
+use Rattle.checker.proofs.passes.read_pass.Tie as tie
+use Rattle.checker.proofs.passes.read_pass.Reads as reads
+use Rattle.checker.proofs.passes.read_pass.Lts as lts
+use Rattle.checker.proofs.answers.accept.Reads as accept-reads
+use Rattle.checker.proofs.passes.read_at.Reads as read-at-reads
+
+abbrev Inv-loop : tie.InvT-loop
+Inv-loop words count w₀ w = ?
+
+abbrev μ-loop : tie.MeasureT-loop
+μ-loop words count w₀ w = ?
+
+-- src/passes.rt:76:5
+loop-holds : tie.Need-loop-holds Inv-loop μ-loop
+loop-holds c = ?
+
+-- src/passes.rt:77:13
+read-at-requires : tie.Need-read-at-requires Inv-loop μ-loop
+read-at-requires c κs = ?
+
+-- src/passes.rt:79:13
+returns : tie.Need-returns Inv-loop μ-loop
+returns c = ?
+
+-- src/passes.rt:81:9
+add-w : tie.Need-add-w Inv-loop μ-loop
+add-w c = ?
+
+-- src/passes.rt:76:5
+loop-less : tie.Need-loop-less Inv-loop μ-loop
+loop-less c = ?
+
+-- src/passes.rt:76:5
+loop-again : tie.Need-loop-again Inv-loop μ-loop
+loop-again c = ?
+
+-- src/passes.rt:83:5
+accept-requires : tie.Need-accept-requires Inv-loop μ-loop
+accept-requires c κs = ?
+
+-- src/passes.rt:72:1
+returns-2 : tie.Need-returns-2 Inv-loop μ-loop
+returns-2 c = ?
+
+pub read-pass-spec : {M : Type 1} → statement M
+read-pass-spec =
+    tie.close
+    (tie.spec
+    Inv-loop
+    μ-loop
+    loop-holds
+    read-at-requires
+    returns
+    add-w
+    loop-less
+    loop-again
+    accept-requires
+    returns-2)

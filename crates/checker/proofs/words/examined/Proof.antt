@@ -1,0 +1,17 @@
+use borrow.Author.Needs.{needs}
+use Rattle.checker.proofs.words.examined.Statement.{statement}
+use Rattle.checker.proofs.words.examined.Tie as tie
+use Rattle.checker.proofs.words.examined.Reads as reads
+use Rattle.checker.proofs.words.examined.Lts as lts
+use Rattle.checker.proofs.words.is_slot.Reads as is-slot-reads
+
+-- src/words.rt:56:6
+is-slot-requires : tie.Need-is-slot-requires
+is-slot-requires c κs = search needs
+
+-- src/words.rt:53:1
+returns : tie.Need-returns
+returns c = rw (c .is-slot .ensures)
+
+pub examined-spec : {M : Type 1} → statement M
+examined-spec = tie.close (tie.spec is-slot-requires returns)

@@ -1,0 +1,19 @@
+use Rattle.v8.specs.Read.{readingOf}
+use denote.Ref.{now}
+use lib.ListN.{length-map}
+use borrow.Author.Needs.{needs}
+use Rattle.checker.proofs.words.inside.Statement.{statement}
+use Rattle.checker.proofs.words.inside.Tie as tie
+use Rattle.checker.proofs.words.inside.Reads as reads
+use Rattle.checker.proofs.words.inside.Lts as lts
+
+-- src/words.rt:27:13
+cast-i : tie.Need-cast-i
+cast-i c = search needs
+
+-- src/words.rt:24:1
+returns : tie.Need-returns
+returns c = rw (length-map (now (c .before .args .words)) readingOf)
+
+pub inside-spec : {M : Type 1} → statement M
+inside-spec = tie.close (tie.spec cast-i returns)

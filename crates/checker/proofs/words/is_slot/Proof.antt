@@ -1,0 +1,34 @@
+use Rattle.checker.specs.Routine.{isSlot}
+use Rattle.v8.specs.Choice.{tests}
+use borrow.Author.Needs.{needs}
+use Rattle.checker.proofs.words.is_slot.Statement.{statement}
+use Rattle.checker.proofs.words.is_slot.Tie as tie
+use Rattle.checker.proofs.words.is_slot.Reads as reads
+use Rattle.checker.proofs.words.is_slot.Lts as lts
+use Rattle.checker.proofs.words.transfers.Reads as transfers-reads
+use Rattle.checker.proofs.words.word_at.Reads as word-at-reads
+
+-- src/words.rt:46:9
+returns : tie.Need-returns
+unfolding isSlot
+returns c = search tests
+
+-- src/words.rt:48:28
+sub-t5 : tie.Need-sub-t5
+sub-t5 c = search needs
+
+-- src/words.rt:49:15
+word-at-requires : tie.Need-word-at-requires
+word-at-requires c κs = search needs
+
+-- src/words.rt:49:5
+transfers-requires : tie.Need-transfers-requires
+transfers-requires c κs = search needs
+
+-- src/words.rt:42:1
+returns-2 : tie.Need-returns-2
+unfolding isSlot
+returns-2 c = search (tests, c .before .word-at .ensures, c .transfers .ensures)
+
+pub is-slot-spec : {M : Type 1} → statement M
+is-slot-spec = tie.close (tie.spec returns sub-t5 word-at-requires transfers-requires returns-2)

@@ -1,0 +1,68 @@
+// Answers (specs/Answer.antt), and the numbers of the passes.
+ghost use mathlib.Core.Path.{_≡_};
+ghost use Rattle.checker.specs.Answer.{accepted, refuse, need};
+ghost use Rattle.checker.specs.Passes.{unlessFault};
+use crate::Answer;
+use v8::WordIndex;
+
+// The policy breaks a rule.
+pub const BAD_POLICY: u8 = 20;
+// Words, rows, entry row or result entry are too few, too many or badly formed.
+pub const BAD_SHAPE: u8 = 21;
+// A row is badly formed.
+pub const BAD_ROW: u8 = 1;
+// A word is not read.
+pub const UNREAD_WORD: u8 = 2;
+// The flow is broken.
+pub const BAD_FLOW: u8 = 3;
+// The entry row does not fit row 0.
+pub const ENTRY_MISFIT: u8 = 15;
+// An edge's row does not fit the next row.
+pub const EDGE_MISFIT: u8 = 12;
+// r8 does not fit the result entry.
+pub const RESULT_MISFIT: u8 = 14;
+
+// How many places of a row are named: its registers and its note.
+pub const PLACES: u8 = 33;
+
+// The answer that nothing is broken.
+pub fn accept() -> Answer
+    ensures { λ r. ⌜ r ≡ accepted ⌝ }
+{
+    Answer {
+        number: 0,
+        word: WordIndex(0),
+        register: 0,
+    }
+}
+
+// The number of a broken condition, with the word and the register that it names.
+pub fn refuse(number: u8, at: WordIndex, register: u8) -> Answer
+    ensures { λ r. ⌜ r ≡ refuse number (at .0) register ⌝ }
+{
+    Answer {
+        number,
+        word: at,
+        register,
+    }
+}
+
+// A condition that holds, or its number and word.
+pub fn need(holds: bool, number: u8, at: WordIndex) -> Answer
+    ensures { λ r. ⌜ r ≡ need holds number (at .0) 0 ⌝ }
+{
+    if holds {
+        return accept();
+    }
+    refuse(number, at, 0)
+}
+
+// The place of a row that is at fault is named; 33 stands for none.
+pub fn unless_fault(number: u8, at: WordIndex, place: u8) -> Answer
+    ensures { λ r. ⌜ r ≡ unlessFault number (at .0) place ⌝ }
+{
+    if place < PLACES {
+        return refuse(number, at, place);
+    }
+    accept()
+}

@@ -1,0 +1,81 @@
+// The check: the passes in their order (specs/Passes.antt).
+ghost use mathlib.Core.Path.{_≡_};
+ghost use Rattle.checker.specs.Routine.{routineOf};
+ghost use Rattle.checker.specs.Passes.{shapeOk, checkOf};
+use crate::Answer;
+use crate::answers::BAD_POLICY;
+use crate::answers::BAD_SHAPE;
+use crate::answers::PLACES;
+use crate::answers::refuse;
+use crate::arrival::ROW_BYTES;
+use crate::passes::entry_pass;
+use crate::passes::flow_pass;
+use crate::passes::read_pass;
+use crate::passes::row_pass;
+use crate::passes::word_pass;
+use policy::Policy;
+use rows::entry_formed;
+use rows::form_fault;
+use v8::WordIndex;
+
+// The most words that a routine has.
+const MOST_WORDS: usize = 128;
+// How many bytes an entry has.
+const ENTRY_BYTES: usize = 12;
+
+// Whether words, rows, entry row and result entry are as many as they must be, and the last two
+// well formed.
+fn shape_ok(policy: Policy, words: &[u32], rows: &[u8], entry: &[u8], result: &[u8]) -> bool
+    ensures { λ r. ⌜ r ≡ shapeOk (routineOf policy (now (words .entry)) (now (rows .entry)) (now (entry .entry)) (now (result .entry))) ⌝ }
+{
+    let count = words.len();
+    if count < 1 {
+        return false;
+    }
+    if MOST_WORDS < count {
+        return false;
+    }
+    if rows.len() != ROW_BYTES * count {
+        return false;
+    }
+    if entry.len() != ROW_BYTES {
+        return false;
+    }
+    if result.len() != ENTRY_BYTES {
+        return false;
+    }
+    let fault = form_fault(policy.regions, &policy.sizes, entry, 0);
+    let formed = entry_formed(policy.regions, &policy.sizes, result, 0);
+    (fault == PLACES) & formed
+}
+
+// Checks a routine: the first condition that is broken, with the word and the register named, or 0 0 0
+// where none is.
+pub fn check(policy: Policy, words: &[u32], rows: &[u8], entry: &[u8], result: &[u8]) -> Answer
+    ensures { λ r. ⌜ r ≡ checkOf policy (now (words .entry)) (now (rows .entry)) (now (entry .entry)) (now (result .entry)) ⌝ }
+{
+    if !policy.well_formed() {
+        return refuse(BAD_POLICY, WordIndex(0), 0);
+    }
+    if !shape_ok(policy, words, rows, entry, result) {
+        return refuse(BAD_SHAPE, WordIndex(0), 0);
+    }
+    let count = words.len() as u32;
+    let formed = row_pass(policy, rows, count);
+    if formed.number != 0 {
+        return formed;
+    }
+    let read = read_pass(words, count);
+    if read.number != 0 {
+        return read;
+    }
+    let flows = flow_pass(words, count);
+    if flows.number != 0 {
+        return flows;
+    }
+    let entered = entry_pass(rows, entry);
+    if entered.number != 0 {
+        return entered;
+    }
+    word_pass(policy, words, rows, result, count)
+}
