@@ -1,3 +1,7 @@
+use Rattle.checker.specs.Passes.{edgeOf, branchEdge, branchEdges}
+use Rattle.checker.proofs.Landing.{next-inside}
+use denote.Ref.{now}
+use native.Mathlib.Omega.{arith}
 use borrow.Author.Needs.{needs}
 use Rattle.checker.proofs.edges.edges_of.Statement.{statement}
 use Rattle.checker.proofs.edges.edges_of.Tie as tie
@@ -17,7 +21,7 @@ enum-told c = search needs
 
 -- src/edges.rt:231:51
 arrive-at-requires : tie.Need-arrive-at-requires
-arrive-at-requires c κs = ?
+arrive-at-requires c κs = let s = c .before .before .before .before .before .before in omega (arith, s .pre .1, next-inside (now (s .args .words)) (s .args .at .0) (rw (c .enum-told .given .1) at (s .pre .4)) (s .pre .3))
 
 -- src/edges.rt:233:13
 enum-known-x : tie.Need-enum-known-x
@@ -25,7 +29,7 @@ enum-known-x c = search needs
 
 -- src/edges.rt:236:14
 branch-edges-requires : tie.Need-branch-edges-requires
-branch-edges-requires c κs = ?
+branch-edges-requires c κs = let pre = c .before .before .before .before .before .before .before .pre in (pre .0, pre .1, rw (c .before .x .given .1) at (pre .4))
 
 -- src/edges.rt:243:14
 enum-told-2 : tie.Need-enum-told-2
@@ -33,7 +37,7 @@ enum-told-2 c = search needs
 
 -- src/edges.rt:243:14
 arrive-at-requires-2 : tie.Need-arrive-at-requires-2
-arrive-at-requires-2 c κs = ?
+arrive-at-requires-2 c κs = let s = c .before .before .before .before .before .before in omega (arith, s .pre .1, next-inside (now (s .args .words)) (s .args .at .0) (rw (c .enum-told2 .given .1) at (s .pre .4)) (s .pre .3))
 
 -- src/edges.rt:249:14
 enum-told-3 : tie.Need-enum-told-3
@@ -41,7 +45,7 @@ enum-told-3 c = search needs
 
 -- src/edges.rt:249:14
 arrive-at-requires-3 : tie.Need-arrive-at-requires-3
-arrive-at-requires-3 c κs = ?
+arrive-at-requires-3 c κs = let s = c .before .before .before .before .before .before in omega (arith, s .pre .1, next-inside (now (s .args .words)) (s .args .at .0) (rw (c .enum-told3 .given .1) at (s .pre .4)) (s .pre .3))
 
 -- src/edges.rt:255:14
 enum-told-4 : tie.Need-enum-told-4
@@ -49,7 +53,7 @@ enum-told-4 c = search needs
 
 -- src/edges.rt:255:14
 arrive-at-requires-4 : tie.Need-arrive-at-requires-4
-arrive-at-requires-4 c κs = ?
+arrive-at-requires-4 c κs = let s = c .before .before .before .before .before .before in omega (arith, s .pre .1, next-inside (now (s .args .words)) (s .args .at .0) (rw (c .enum-told4 .given .1) at (s .pre .4)) (s .pre .3))
 
 -- src/edges.rt:261:14
 enum-told-5 : tie.Need-enum-told-5
@@ -57,7 +61,7 @@ enum-told-5 c = search needs
 
 -- src/edges.rt:261:14
 arrive-at-requires-5 : tie.Need-arrive-at-requires-5
-arrive-at-requires-5 c κs = ?
+arrive-at-requires-5 c κs = let s = c .before .before .before .before .before .before in omega (arith, s .pre .1, next-inside (now (s .args .words)) (s .args .at .0) (rw (c .enum-told5 .given .1) at (s .pre .4)) (s .pre .3))
 
 -- src/edges.rt:262:32
 enum-told-6 : tie.Need-enum-told-6
@@ -69,31 +73,33 @@ edge-out-requires c κs = search needs
 
 -- src/edges.rt:217:1
 returns : tie.Need-returns
-returns c = ?
+returns c = rw (c .before .enum-told .given .1) (c .arrive-at .ensures)
 
 -- src/edges.rt:217:1
 returns-2 : tie.Need-returns-2
-returns-2 c = ?
+unfolding edgeOf branchEdge branchEdges
+returns-2 c = rw (c .before .before .x .given .1) (c .branch-edges .ensures)
 
 -- src/edges.rt:217:1
 returns-3 : tie.Need-returns-3
-returns-3 c = ?
+returns-3 c = rw (c .before .enum-told2 .given .1) (c .arrive-at2 .ensures)
 
 -- src/edges.rt:217:1
 returns-4 : tie.Need-returns-4
-returns-4 c = ?
+returns-4 c = rw (c .before .enum-told3 .given .1) (c .arrive-at3 .ensures)
 
 -- src/edges.rt:217:1
 returns-5 : tie.Need-returns-5
-returns-5 c = ?
+returns-5 c = rw (c .before .enum-told4 .given .1) (c .arrive-at4 .ensures)
 
 -- src/edges.rt:217:1
 returns-6 : tie.Need-returns-6
-returns-6 c = ?
+returns-6 c = rw (c .before .enum-told5 .given .1) (c .arrive-at5 .ensures)
 
 -- src/edges.rt:217:1
 returns-7 : tie.Need-returns-7
-returns-7 c = ?
+unfolding edgeOf
+returns-7 c = rw (c .before .enum-told6 .given .1) (c .edge-out .ensures)
 
 pub edges-of-spec : {M : Type 1} → statement M
 edges-of-spec =
