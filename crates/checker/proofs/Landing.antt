@@ -1,6 +1,6 @@
 -- A word whose flow is right goes to words of the code.
 use Prim.Native.Nat.{ℕ, _+_, _<_}
-use mathlib.Core.Path.{_≡_}
+use mathlib.Core.Path.{_≡_, refl}
 use mathlib.Core.Bool.{Bool, true, false, not, _&&_, _||_, and-false}
 use mathlib.Core.List.{List}
 use native.Mathlib.Omega.{arith}
@@ -9,9 +9,11 @@ use lib.ListN.{length, length-map}
 use Rattle.v8.specs.Read.{readingOf}
 use Rattle.v8.specs.Search.{needed-lt}
 use Rattle.step.specs.Transfer.{targetOf}
-use Rattle.checker.specs.Routine.{count, examined, hasTaken, hasOther}
-use Rattle.checker.specs.Passes.{landsAt, plainFlow, transferFlow, branchFlow}
+use Rattle.checker.specs.Answer.{passes}
+use Rattle.checker.specs.Routine.{Routine, wordAt, count, examined, hasTaken, hasOther}
+use Rattle.checker.specs.Passes.{landsAt, plainFlow, transferFlow, branchFlow, flowOf, flowPass, badFlow}
 use Rattle.checker.specs.Lent.{codeOf}
+use Rattle.checker.proofs.Accepted.{need-holds}
 
 module _ (words : List ℕ) (w : ℕ) where
   -- the words that are read are those handed over
@@ -32,3 +34,8 @@ module _ (words : List ℕ) (w : ℕ) where
   other-inside cnd distance h e =
       of-code (w + 2)
       (needed-lt (branchFlow (codeOf words) w cnd distance) (w + 2) (count (codeOf words)) h (λ f. rw (e, f, and-false)))
+
+-- a word that pass 3 accepts has its flow
+pub flow-holds : (t : Routine) (w : ℕ) → passes (flowPass t w) ≡ true → flowOf t w (wordAt t w) ≡ true
+unfolding flowPass
+flow-holds t w e = need-holds (flowOf t w (wordAt t w)) badFlow w 0 refl e

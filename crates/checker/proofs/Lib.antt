@@ -2,3 +2,4 @@ pub mod Accepted
 pub mod Looked
 pub mod Parts
 pub mod Landing
+pub mod Passing

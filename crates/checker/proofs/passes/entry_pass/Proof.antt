@@ -1,3 +1,4 @@
+use Rattle.checker.specs.Passes.{entryPass}
 use borrow.Author.Needs.{needs}
 use Rattle.checker.proofs.passes.entry_pass.Statement.{statement}
 use Rattle.checker.proofs.passes.entry_pass.Tie as tie
@@ -21,7 +22,8 @@ unless-fault-requires c κs = search needs
 
 -- src/passes.rt:103:1
 returns : tie.Need-returns
-returns c = ?
+unfolding entryPass
+returns c = rw (← c .before .before .read-row .ensures, ← c .before .misfit .ensures) (c .unless-fault .ensures)
 
 pub entry-pass-spec : {M : Type 1} → statement M
 entry-pass-spec =

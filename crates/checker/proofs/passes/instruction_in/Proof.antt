@@ -42,15 +42,15 @@ refuse-requires c κs = search needs
 
 -- src/passes.rt:112:1
 returns : tie.Need-returns
-returns c = ?
+returns c = let x = c .before .before .before in rw (← x .before .before .change-of .ensures, x .register .given .1, ← c .before .row-with .ensures) (c .edges-of .ensures)
 
 -- src/passes.rt:112:1
 returns-2 : tie.Need-returns-2
-returns-2 c = ?
+returns-2 c = rw (← c .before .before .before .change-of .ensures, c .before .enum-told .given .1) (c .edges-of2 .ensures)
 
 -- src/passes.rt:112:1
 returns-3 : tie.Need-returns-3
-returns-3 c = ?
+returns-3 c = let x = c .before .before in rw (← x .before .before .change-of .ensures, x .number .given .1) (c .refuse .ensures)
 
 pub instruction-in-spec : {M : Type 1} → statement M
 instruction-in-spec =

@@ -1,3 +1,4 @@
+use Rattle.checker.specs.Passes.{readPass}
 use borrow.Author.Needs.{needs}
 use Rattle.checker.proofs.passes.read_at.Statement.{statement}
 use Rattle.checker.proofs.passes.read_at.Tie as tie
@@ -29,11 +30,13 @@ refuse-requires c κs = search needs
 
 -- src/passes.rt:62:1
 returns : tie.Need-returns
-returns c = ?
+unfolding readPass
+returns c = rw (← c .before .before .before .word-at .ensures, c .before .enum-told .given .1) (c .accept .ensures)
 
 -- src/passes.rt:62:1
 returns-2 : tie.Need-returns-2
-returns-2 c = ?
+unfolding readPass
+returns-2 c = rw (← c .before .before .before .word-at .ensures, c .before .enum-told2 .given .1) (c .refuse .ensures)
 
 pub read-at-spec : {M : Type 1} → statement M
 read-at-spec =

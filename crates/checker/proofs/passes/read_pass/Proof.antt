@@ -1,3 +1,11 @@
+use Rattle.checker.specs.Lent.{codeOf}
+use Rattle.checker.specs.Passes.{readPass}
+use Rattle.checker.specs.Answer.{passOf}
+use Rattle.checker.proofs.Passing.{passFrom, pass-start, pass-here, pass-next, pass-end}
+use native.Mathlib.Omega.{arith}
+use mathlib.Core.Path.{_≡_, sym, _∙_}
+use Prim.Native.Nat.{_≤_, _-_}
+use borrow.Author.Needs.{needs}
 use Rattle.checker.proofs.passes.read_pass.Statement.{statement}
 use Rattle.checker.proofs.passes.read_pass.Tie as tie
 use Rattle.checker.proofs.passes.read_pass.Reads as reads
@@ -6,42 +14,42 @@ use Rattle.checker.proofs.answers.accept.Reads as accept-reads
 use Rattle.checker.proofs.passes.read_at.Reads as read-at-reads
 
 abbrev Inv-loop : tie.InvT-loop
-Inv-loop words count w₀ w = ?
+Inv-loop words count w₀ w = (w ≤ count) × (passOf (readPass (codeOf words)) count ≡ passFrom (readPass (codeOf words)) w count)
 
 abbrev μ-loop : tie.MeasureT-loop
-μ-loop words count w₀ w = ?
+μ-loop words count w₀ w = count - w
 
 -- src/passes.rt:76:5
 loop-holds : tie.Need-loop-holds Inv-loop μ-loop
-loop-holds c = ?
+loop-holds c = (omega arith, pass-start _ _)
 
 -- src/passes.rt:77:13
 read-at-requires : tie.Need-read-at-requires Inv-loop μ-loop
-read-at-requires c κs = ?
+read-at-requires c κs = search needs
 
 -- src/passes.rt:79:13
 returns : tie.Need-returns Inv-loop μ-loop
-returns c = ?
+returns c = let d = c .before .before in let i = d .before .before in sym (i .loop .inv .1 ∙ pass-here _ _ _ _ (d .read-at .ensures) (d .before .loop-test .taken) (c .if1 .taken))
 
 -- src/passes.rt:81:9
 add-w : tie.Need-add-w Inv-loop μ-loop
-add-w c = ?
+add-w c = search needs
 
 -- src/passes.rt:76:5
 loop-less : tie.Need-loop-less Inv-loop μ-loop
-loop-less c = ?
+loop-less c = search needs
 
 -- src/passes.rt:76:5
 loop-again : tie.Need-loop-again Inv-loop μ-loop
-loop-again c = ?
+loop-again c = let d = c .before .before in let i = d .before .before in (omega arith, i .loop .inv .1 ∙ pass-next _ _ _ _ (d .read-at .ensures) (d .before .loop-test .taken) (c .if1 .left))
 
 -- src/passes.rt:83:5
 accept-requires : tie.Need-accept-requires Inv-loop μ-loop
-accept-requires c κs = ?
+accept-requires c κs = search needs
 
 -- src/passes.rt:72:1
 returns-2 : tie.Need-returns-2 Inv-loop μ-loop
-returns-2 c = ?
+returns-2 c = c .accept .ensures ∙ sym (c .before .before .loop .inv .1 ∙ pass-end _ _ _ (c .before .loop-test .left))
 
 pub read-pass-spec : {M : Type 1} → statement M
 read-pass-spec =
