@@ -3,3 +3,4 @@ pub mod Looked
 pub mod Parts
 pub mod Landing
 pub mod Passing
+pub mod Stages

@@ -1,29 +1,49 @@
--- What reads only a part of a routine gives the same for the whole of it.
+-- What looks at a part of a routine gives the same for the whole of it, and a pass over the words handed in is one over the words as they
+-- are read.
 use Prim.Native.Nat.{ℕ}
-use mathlib.Core.Path.{_≡_, refl}
+use mathlib.Core.Path.{_≡_, refl, sym, ap, _∙_}
 use mathlib.Core.List.{List}
+use lib.ListN.{length, length-map}
+use Rattle.v8.specs.Read.{readingOf}
 use Rattle.policy.specs.declared.Policy.{Policy}
-use Rattle.checker.specs.Routine.{Routine, routineOf}
+use Rattle.checker.specs.declared.Answer.{Answer}
+use Rattle.checker.specs.Answer.{passOf}
+use Rattle.checker.specs.Routine.{Routine, routineOf, count}
 use Rattle.checker.specs.Passes.{rowPass, readPass, flowPass, entryPass, wordPass, edgeOf, branchEdge, branchEdges}
 use Rattle.checker.specs.Lent.{codeOf, formOf, startOf, bodyOf}
 
-module _ (p : Policy) (words rows entry result : List ℕ) where
-  pub row-part : rowPass (formOf p rows) ≡ rowPass (routineOf p words rows entry result)
+-- what is handed in
+pub record Given : Type 0 where
+  pub policy : Policy
+  pub words : List ℕ
+  pub rows : List ℕ
+  pub entry : List ℕ
+  pub result : List ℕ
+
+-- the routine that it makes
+abbrev pub whole : Given → Routine
+whole g = routineOf (g .policy) (g .words) (g .rows) (g .entry) (g .result)
+
+module _ (g : Given) where
+  over : (f h : ℕ → Answer) → f ≡ h → passOf f (length (g .words)) ≡ passOf h (count (whole g))
+  over f h e = ap (λ (k : ℕ → Answer). passOf k (length (g .words))) e ∙ ap (passOf h) (sym (length-map (g .words) readingOf))
+
+  pub over-rows : passOf (rowPass (formOf (g .policy) (g .rows))) (length (g .words)) ≡ passOf (rowPass (whole g)) (count (whole g))
   unfolding rowPass
-  row-part = refl
+  over-rows = over _ _ refl
 
-  pub read-part : readPass (codeOf words) ≡ readPass (routineOf p words rows entry result)
+  pub over-reads : passOf (readPass (codeOf (g .words))) (length (g .words)) ≡ passOf (readPass (whole g)) (count (whole g))
   unfolding readPass
-  read-part = refl
+  over-reads = over _ _ refl
 
-  pub flow-part : flowPass (codeOf words) ≡ flowPass (routineOf p words rows entry result)
+  pub over-flow : passOf (flowPass (codeOf (g .words))) (length (g .words)) ≡ passOf (flowPass (whole g)) (count (whole g))
   unfolding flowPass
-  flow-part = refl
+  over-flow = over _ _ refl
 
-  pub entry-part : entryPass (startOf rows entry) ≡ entryPass (routineOf p words rows entry result)
-  unfolding entryPass
-  entry-part = refl
-
-  pub word-part : wordPass (bodyOf p words rows result) ≡ wordPass (routineOf p words rows entry result)
+  pub over-words : passOf (wordPass (bodyOf (g .policy) (g .words) (g .rows) (g .result))) (length (g .words)) ≡ passOf (wordPass (whole g)) (count (whole g))
   unfolding wordPass edgeOf branchEdge branchEdges
-  word-part = refl
+  over-words = over _ _ refl
+
+  pub of-entry : entryPass (startOf (g .rows) (g .entry)) ≡ entryPass (whole g)
+  unfolding entryPass
+  of-entry = refl

@@ -1,83 +1,146 @@
+-- `check` meets its contract. After each pass stands what is left of the check.
+use mathlib.Core.Path.{_≡_, refl, sym, ap, _∙_}
+use mathlib.Core.Bool.{true}
+use native.Mathlib.Omega.{arith}
+use denote.Ref.{now}
+use borrow.Author.Needs.{needs}
+use borrow.Author.Tests.{not-true, not-false, eq-eqb}
+use Rattle.policy.specs.Policy.{policyOk}
+use Rattle.checker.specs.declared.Answer.{Answer}
+use Rattle.checker.specs.Answer.{passes}
+use Rattle.checker.specs.Passes.{shapeOk}
+use Rattle.checker.proofs.Parts.{Given, whole, over-rows, over-reads, over-flow, over-words, of-entry}
+use Rattle.checker.proofs.Stages.{goes, stops, Shaped, shaped, answer, bad-policy, bad-shape, from-rows, fromRows, fromReads, fromFlow, fromEntry, fromWords}
 use Rattle.checker.proofs.checking.check.Statement.{statement}
 use Rattle.checker.proofs.checking.check.Tie as tie
-use Rattle.checker.proofs.checking.check.Reads as reads
-use Rattle.checker.proofs.checking.check.Lts as lts
-use Rattle.checker.proofs.answers.refuse.Reads as refuse-reads
-use Rattle.checker.proofs.checking.shape_ok.Reads as shape-ok-reads
-use Rattle.checker.proofs.passes.entry_pass.Reads as entry-pass-reads
-use Rattle.checker.proofs.passes.flow_pass.Reads as flow-pass-reads
-use Rattle.checker.proofs.passes.read_pass.Reads as read-pass-reads
-use Rattle.checker.proofs.passes.row_pass.Reads as row-pass-reads
-use Rattle.checker.proofs.passes.word_pass.Reads as word-pass-reads
-use Rattle.policy.proofs.Policy.well_formed.Reads as well-formed-reads
 
--- src/checking.rt:57:9
+abbrev given : tie.Start → Given
+given s =
+    record {
+      policy = s .args .policy;
+      words = now (s .args .words);
+      rows = now (s .args .rows);
+      entry = now (s .args .entry);
+      result = now (s .args .result);
+    }
+
+-- after 20
+abbrev given1 : tie.Else1 → Given
+given1 c = given (c .before .before .before .before .before .before)
+
+right-policy : (c : tie.Else1) → policyOk (given1 c .policy) ≡ true
+right-policy c = sym (c .before .well-formed .ensures) ∙ not-false _ (c .if1 .left)
+
+-- after 21
+abbrev given2 : tie.Else2 → Given
+given2 c = given1 (c .before .before)
+
+right-shape : (c : tie.Else2) → shapeOk (whole (given2 c)) ≡ true
+right-shape c = sym (c .before .shape-ok .ensures) ∙ not-false _ (c .if2 .left)
+
+lengths : (c : tie.Else2) → Shaped (given2 c)
+lengths c = shaped (given2 c) (right-shape c)
+
+left2 : (c : tie.Else2) → answer (given2 c) ≡ fromRows (given2 c)
+left2 c = from-rows (given2 c) (right-policy (c .before .before)) (right-shape c)
+
+-- after 1
+abbrev given3 : tie.Else3 → Given
+given3 c = given2 (c .before .before .before)
+
+left3 : (c : tie.Else3) → answer (given3 c) ≡ fromReads (given3 c)
+left3 c = left2 (c .before .before .before) ∙ goes _ _ _ (c .before .before .row-pass .ensures ∙ over-rows (given3 c)) (c .if3 .left)
+
+-- after 2
+abbrev given4 : tie.Else4 → Given
+given4 c = given3 (c .before .before .before)
+
+left4 : (c : tie.Else4) → answer (given4 c) ≡ fromFlow (given4 c)
+left4 c = left3 (c .before .before .before) ∙ goes _ _ _ (c .before .before .read-pass .ensures ∙ over-reads (given4 c)) (c .if4 .left)
+
+-- after 3
+abbrev given5 : tie.Else5 → Given
+given5 c = given4 (c .before .before .before)
+
+left5 : (c : tie.Else5) → answer (given5 c) ≡ fromEntry (given5 c)
+left5 c = left4 (c .before .before .before) ∙ goes _ _ _ (c .before .before .flow-pass .ensures ∙ over-flow (given5 c)) (c .if5 .left)
+
+-- after 15
+abbrev given6 : tie.Else6 → Given
+given6 c = given5 (c .before .before .before)
+
+left6 : (c : tie.Else6) → answer (given6 c) ≡ fromWords (given6 c)
+left6 c = left5 (c .before .before .before) ∙ goes _ _ _ (c .before .before .entry-pass .ensures ∙ of-entry (given6 c)) (c .if6 .left)
+
 well-formed-requires : tie.Need-well-formed-requires
-well-formed-requires c κs = ?
+well-formed-requires c κs = search needs
 
--- src/checking.rt:58:9
 refuse-requires : tie.Need-refuse-requires
-refuse-requires c κs = ?
+refuse-requires c κs = search needs
 
--- src/checking.rt:58:9
 returns : tie.Need-returns
-returns c = ?
+returns c =
+    let g = given (c .before .before .before .before .before .before .before) in
+    c .refuse .ensures ∙ sym (bad-policy g (sym (c .before .before .well-formed .ensures) ∙ not-true _ (c .before .if1 .taken)))
 
--- src/checking.rt:60:9
 shape-ok-requires : tie.Need-shape-ok-requires
-shape-ok-requires c κs = ?
+shape-ok-requires c κs = search needs
 
--- src/checking.rt:61:9
 refuse-requires-2 : tie.Need-refuse-requires-2
-refuse-requires-2 c κs = ?
+refuse-requires-2 c κs = search needs
 
--- src/checking.rt:61:9
 returns-2 : tie.Need-returns-2
-returns-2 c = ?
+returns-2 c =
+    let d = c .before .before in
+    c .refuse2 .ensures
+    ∙ sym (bad-shape (given1 (d .before)) (right-policy (d .before)) (sym (d .shape-ok .ensures) ∙ not-true _ (c .before .if2 .taken)))
 
--- src/checking.rt:63:17
 cast-count : tie.Need-cast-count
-cast-count c = ?
+cast-count c = record { fits = omega (arith, lengths c .most) }
 
--- src/checking.rt:64:9
 row-pass-requires : tie.Need-row-pass-requires
-row-pass-requires c κs = ?
+row-pass-requires c κs = (lengths c .most, sym (lengths c .rows))
 
--- src/checking.rt:66:9
 returns-3 : tie.Need-returns-3
-returns-3 c = ?
+returns-3 c =
+    let d = c .before .before in
+    sym (left2 (d .before) ∙ stops _ _ _ (d .row-pass .ensures ∙ over-rows (given2 (d .before))) (c .if3 .taken))
 
--- src/checking.rt:68:9
 read-pass-requires : tie.Need-read-pass-requires
-read-pass-requires c κs = ?
+read-pass-requires c κs = search needs
 
--- src/checking.rt:70:9
 returns-4 : tie.Need-returns-4
-returns-4 c = ?
+returns-4 c =
+    let d = c .before .before in
+    sym (left3 (d .before) ∙ stops _ _ _ (d .read-pass .ensures ∙ over-reads (given3 (d .before))) (c .if4 .taken))
 
--- src/checking.rt:72:9
 flow-pass-requires : tie.Need-flow-pass-requires
-flow-pass-requires c κs = ?
+flow-pass-requires c κs = lengths (c .before .before .before .before .before .before) .most
 
--- src/checking.rt:74:9
 returns-5 : tie.Need-returns-5
-returns-5 c = ?
+returns-5 c =
+    let d = c .before .before in
+    sym (left4 (d .before) ∙ stops _ _ _ (d .flow-pass .ensures ∙ over-flow (given4 (d .before))) (c .if5 .taken))
 
--- src/checking.rt:76:9
 entry-pass-requires : tie.Need-entry-pass-requires
-entry-pass-requires c κs = ?
+entry-pass-requires c κs =
+    let l = lengths (c .before .before .before .before .before .before .before .before .before) in
+    (omega (arith, l .rows, l .some), omega (arith, l .entry))
 
--- src/checking.rt:78:9
 returns-6 : tie.Need-returns-6
-returns-6 c = ?
+returns-6 c =
+    let d = c .before .before in
+    sym (left5 (d .before) ∙ stops _ _ _ (d .entry-pass .ensures ∙ of-entry (given5 (d .before))) (c .if6 .taken))
 
--- src/checking.rt:80:5
 word-pass-requires : tie.Need-word-pass-requires
-word-pass-requires c κs = ?
+word-pass-requires c κs =
+    let e = c .before .before .before in
+    let l = lengths (e .before .before .before .before .before .before .before .before .before) in
+    let flows = ap passes (sym (e .before .before .flow-pass .ensures)) ∙ eq-eqb _ 0 (e .if5 .left) in
+    (l .most, sym (l .rows), omega (arith, l .result), refl, flows)
 
--- src/checking.rt:54:1
 returns-7 : tie.Need-returns-7
-returns-7 c = ?
+returns-7 c = c .word-pass .ensures ∙ over-words (given6 (c .before)) ∙ sym (left6 (c .before))
 
 pub check-spec : {M : Type 1} → statement M
 check-spec =
