@@ -1,17 +1,16 @@
 -- A word whose flow is right goes to words of the code.
 use Prim.Native.Nat.{ℕ, _+_, _<_}
 use mathlib.Core.Path.{_≡_, refl}
-use mathlib.Core.Bool.{Bool, true, false, not, _&&_, _||_, and-false}
+use mathlib.Core.Bool.{true, and-false}
 use mathlib.Core.List.{List}
 use native.Mathlib.Omega.{arith}
-use lib.Dec.{ltb}
 use lib.ListN.{length, length-map}
 use Rattle.v8.specs.Read.{readingOf}
 use Rattle.v8.specs.Search.{needed-lt}
 use Rattle.step.specs.Transfer.{targetOf}
 use Rattle.checker.specs.Answer.{passes}
 use Rattle.checker.specs.Routine.{Routine, wordAt, count, examined, hasTaken, hasOther}
-use Rattle.checker.specs.Passes.{landsAt, plainFlow, transferFlow, branchFlow, flowOf, flowPass, badFlow}
+use Rattle.checker.specs.Passes.{plainFlow, branchFlow, flowOf, flowPass, badFlow}
 use Rattle.checker.specs.Lent.{codeOf}
 use Rattle.checker.proofs.Accepted.{need-holds}
 

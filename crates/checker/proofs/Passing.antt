@@ -1,9 +1,8 @@
 -- A pass over the words, from a word on: what a loop cites.
 use Prim.Native.Nat.{ℕ, _+_, _*_, _≤_, _<_}
 use mathlib.Core.Path.{_≡_, refl, sym, ap, _∙_}
-use mathlib.Core.Bool.{Bool, true, false, cond, not}
-use native.Mathlib.Omega.{arith}
-use lib.Dec.{ltb, eqb}
+use mathlib.Core.Bool.{cond, not}
+use lib.Dec.{ltb}
 use borrow.Author.Tests.{lt-ltb, le-ltb, eq-eqb, ne-eqb}
 use Rattle.v8.specs.Search.{first, first-here, first-next, first-end}
 use Rattle.rows.specs.Row.{formFault, places}

@@ -8,3 +8,4 @@ pub mod Accessed
 pub mod Stepping
 pub mod Running
 pub mod Whole
+pub mod Accepted

@@ -1,2 +1,49 @@
 // The running guarantee: what a run of an accepted routine does, and the call that checks and then
 // runs. (Document 01, "Demand 3, the running guarantee".)
+ghost use mathlib.Core.Path.{_≡_};
+ghost use Rattle.guarantee.specs.Checked.{checkedLeft, checkedRunOf, HoldsTo};
+use checker::Answer;
+use checker::check;
+use machine::End;
+use machine::Outcome;
+use machine::run;
+use policy::Policy;
+use step::Registers;
+
+// What the check answers, and what the run gives; where the check refuses, nothing is run.
+pub struct CheckedRun {
+    pub answer: Answer,
+    pub outcome: Outcome,
+}
+
+// Checks a routine and, where the check accepts, runs it. Refused, it changes nothing.
+pub fn checked_run(
+    policy: Policy,
+    words: &[u32],
+    rows: &[u8],
+    entry: &[u8],
+    result: &[u8],
+    bases: &[u32],
+    returns: u32,
+    registers: Registers,
+    allowance: u64,
+    memory: &mut [u8],
+) -> CheckedRun
+    ensures ran { λ r. ⌜ checkedLeft r (now (memory .exit)) ≡ checkedRunOf policy (now (words .entry)) (now (rows .entry)) (now (entry .entry)) (now (result .entry)) (now (bases .entry)) returns registers allowance (now (memory .entry)) ⌝ }
+    ensures guaranteed { λ r. ⌜ HoldsTo policy (now (words .entry)) (now (entry .entry)) (now (result .entry)) (now (bases .entry)) returns registers allowance (now (memory .entry)) (checkedLeft r (now (memory .exit))) ⌝ }
+{
+    let answer = check(policy, words, rows, entry, result);
+    if answer.number != 0 {
+        let number = answer.number;
+        return CheckedRun {
+            answer,
+            outcome: Outcome {
+                end: End::Refused(number),
+                steps: 0,
+                registers,
+            },
+        };
+    }
+    let outcome = run(policy, words, bases, returns, registers, allowance, memory);
+    CheckedRun { answer, outcome }
+}

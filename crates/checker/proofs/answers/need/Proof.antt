@@ -1,11 +1,6 @@
-use Rattle.v8.specs.Choice.{tests}
 use borrow.Author.Needs.{needs}
 use Rattle.checker.proofs.answers.need.Statement.{statement}
 use Rattle.checker.proofs.answers.need.Tie as tie
-use Rattle.checker.proofs.answers.need.Reads as reads
-use Rattle.checker.proofs.answers.need.Lts as lts
-use Rattle.checker.proofs.answers.accept.Reads as accept-reads
-use Rattle.checker.proofs.answers.refuse.Reads as refuse-reads
 
 -- src/answers.rt:55:9
 accept-requires : tie.Need-accept-requires

@@ -2,10 +2,6 @@ use Rattle.v8.specs.Choice.{tests}
 use borrow.Author.Needs.{needs}
 use Rattle.checker.proofs.answers.unless_fault.Statement.{statement}
 use Rattle.checker.proofs.answers.unless_fault.Tie as tie
-use Rattle.checker.proofs.answers.unless_fault.Reads as reads
-use Rattle.checker.proofs.answers.unless_fault.Lts as lts
-use Rattle.checker.proofs.answers.accept.Reads as accept-reads
-use Rattle.checker.proofs.answers.refuse.Reads as refuse-reads
 
 -- src/answers.rt:65:9
 refuse-requires : tie.Need-refuse-requires

@@ -1,10 +1,6 @@
 use borrow.Author.Needs.{needs}
 use Rattle.checker.proofs.arrival.arrive_at.Statement.{statement}
 use Rattle.checker.proofs.arrival.arrive_at.Tie as tie
-use Rattle.checker.proofs.arrival.arrive_at.Reads as reads
-use Rattle.checker.proofs.arrival.arrive_at.Lts as lts
-use Rattle.checker.proofs.answers.unless_fault.Reads as unless-fault-reads
-use Rattle.rows.proofs.misfit.Reads as misfit-reads
 
 -- src/arrival.rt:40:47
 cast-misfit : tie.Need-cast-misfit

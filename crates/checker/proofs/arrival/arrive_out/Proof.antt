@@ -1,13 +1,6 @@
 use borrow.Author.Needs.{needs}
 use Rattle.checker.proofs.arrival.arrive_out.Statement.{statement}
 use Rattle.checker.proofs.arrival.arrive_out.Tie as tie
-use Rattle.checker.proofs.arrival.arrive_out.Reads as reads
-use Rattle.checker.proofs.arrival.arrive_out.Lts as lts
-use Rattle.checker.proofs.answers.accept.Reads as accept-reads
-use Rattle.checker.proofs.answers.refuse.Reads as refuse-reads
-use Rattle.rows.proofs.fits.Reads as fits-reads
-use Rattle.rows.proofs.read_entry.Reads as read-entry-reads
-use Rattle.rows.proofs.entry_at.Reads as entry-at-reads
 
 -- src/arrival.rt:49:9
 read-entry-requires : tie.Need-read-entry-requires

@@ -6,7 +6,6 @@ use denote.Ref.{now}
 use borrow.Author.Needs.{needs}
 use borrow.Author.Tests.{not-true, not-false, eq-eqb}
 use Rattle.policy.specs.Policy.{policyOk}
-use Rattle.checker.specs.declared.Answer.{Answer}
 use Rattle.checker.specs.Answer.{passes}
 use Rattle.checker.specs.Passes.{shapeOk}
 use Rattle.checker.proofs.Parts.{Given, whole, over-rows, over-reads, over-flow, over-words, of-entry}

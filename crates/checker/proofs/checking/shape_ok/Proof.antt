@@ -7,10 +7,6 @@ use lib.ListN.{length-map}
 use borrow.Author.Needs.{needs}
 use Rattle.checker.proofs.checking.shape_ok.Statement.{statement}
 use Rattle.checker.proofs.checking.shape_ok.Tie as tie
-use Rattle.checker.proofs.checking.shape_ok.Reads as reads
-use Rattle.checker.proofs.checking.shape_ok.Lts as lts
-use Rattle.rows.proofs.form_fault.Reads as form-fault-reads
-use Rattle.rows.proofs.entry_formed.Reads as entry-formed-reads
 
 -- src/checking.rt:33:9
 returns : tie.Need-returns

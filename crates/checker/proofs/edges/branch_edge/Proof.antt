@@ -4,12 +4,6 @@ use Rattle.checker.specs.Passes.{branchEdge}
 use borrow.Author.Needs.{needs}
 use Rattle.checker.proofs.edges.branch_edge.Statement.{statement}
 use Rattle.checker.proofs.edges.branch_edge.Tie as tie
-use Rattle.checker.proofs.edges.branch_edge.Reads as reads
-use Rattle.checker.proofs.edges.branch_edge.Lts as lts
-use Rattle.checker.proofs.edges.class_of.Reads as class-of-reads
-use Rattle.checker.proofs.edges.narrowed_edge.Reads as narrowed-edge-reads
-use Rattle.step.proofs.flow.landing_of.Reads as landing-of-reads
-use Rattle.step.proofs.flow.slot_runs.Reads as slot-runs-reads
 
 -- src/edges.rt:149:9
 slot-runs-requires : tie.Need-slot-runs-requires

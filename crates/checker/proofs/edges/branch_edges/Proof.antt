@@ -3,10 +3,6 @@ use borrow.Author.Tests.{ne-eqb, eq-eqb}
 use borrow.Author.Needs.{needs}
 use Rattle.checker.proofs.edges.branch_edges.Statement.{statement}
 use Rattle.checker.proofs.edges.branch_edges.Tie as tie
-use Rattle.checker.proofs.edges.branch_edges.Reads as reads
-use Rattle.checker.proofs.edges.branch_edges.Lts as lts
-use Rattle.checker.proofs.edges.other_edge.Reads as other-edge-reads
-use Rattle.checker.proofs.edges.taken_edge.Reads as taken-edge-reads
 
 -- src/edges.rt:209:9
 taken-edge-requires : tie.Need-taken-edge-requires

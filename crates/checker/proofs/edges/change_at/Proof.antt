@@ -1,10 +1,6 @@
 use borrow.Author.Needs.{needs}
 use Rattle.checker.proofs.edges.change_at.Statement.{statement}
 use Rattle.checker.proofs.edges.change_at.Tie as tie
-use Rattle.checker.proofs.edges.change_at.Reads as reads
-use Rattle.checker.proofs.edges.change_at.Lts as lts
-use Rattle.checker.proofs.words.word_at.Reads as word-at-reads
-use Rattle.rules.proofs.change_of.Reads as change-of-reads
 
 -- src/edges.rt:46:11
 word-at-requires : tie.Need-word-at-requires

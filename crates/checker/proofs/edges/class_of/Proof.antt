@@ -1,10 +1,6 @@
 use borrow.Author.Needs.{needs}
 use Rattle.checker.proofs.edges.class_of.Statement.{statement}
 use Rattle.checker.proofs.edges.class_of.Tie as tie
-use Rattle.checker.proofs.edges.class_of.Reads as reads
-use Rattle.checker.proofs.edges.class_of.Lts as lts
-use Rattle.alu.proofs.condition_of.Reads as condition-of-reads
-use Rattle.alu.proofs.opposite.Reads as opposite-reads
 
 -- src/edges.rt:94:13
 condition-of-requires : tie.Need-condition-of-requires

@@ -2,12 +2,6 @@ use Rattle.checker.specs.Passes.{edgeOf}
 use borrow.Author.Needs.{needs}
 use Rattle.checker.proofs.edges.edge_out.Statement.{statement}
 use Rattle.checker.proofs.edges.edge_out.Tie as tie
-use Rattle.checker.proofs.edges.edge_out.Reads as reads
-use Rattle.checker.proofs.edges.edge_out.Lts as lts
-use Rattle.checker.proofs.answers.refuse.Reads as refuse-reads
-use Rattle.checker.proofs.arrival.arrive_out.Reads as arrive-out-reads
-use Rattle.checker.proofs.edges.change_at.Reads as change-at-reads
-use Rattle.rows.proofs.row_with.Reads as row-with-reads
 
 -- src/edges.rt:81:26
 add-t12 : tie.Need-add-t12

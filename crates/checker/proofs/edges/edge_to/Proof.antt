@@ -3,12 +3,6 @@ use Rattle.checker.specs.Passes.{edgeOf}
 use borrow.Author.Needs.{needs}
 use Rattle.checker.proofs.edges.edge_to.Statement.{statement}
 use Rattle.checker.proofs.edges.edge_to.Tie as tie
-use Rattle.checker.proofs.edges.edge_to.Reads as reads
-use Rattle.checker.proofs.edges.edge_to.Lts as lts
-use Rattle.checker.proofs.answers.refuse.Reads as refuse-reads
-use Rattle.checker.proofs.arrival.arrive_at.Reads as arrive-at-reads
-use Rattle.checker.proofs.edges.change_at.Reads as change-at-reads
-use Rattle.rows.proofs.row_with.Reads as row-with-reads
 
 -- src/edges.rt:66:9
 arrive-at-requires : tie.Need-arrive-at-requires

@@ -5,11 +5,6 @@ use native.Mathlib.Omega.{arith}
 use borrow.Author.Needs.{needs}
 use Rattle.checker.proofs.edges.edges_of.Statement.{statement}
 use Rattle.checker.proofs.edges.edges_of.Tie as tie
-use Rattle.checker.proofs.edges.edges_of.Reads as reads
-use Rattle.checker.proofs.edges.edges_of.Lts as lts
-use Rattle.checker.proofs.arrival.arrive_at.Reads as arrive-at-reads
-use Rattle.checker.proofs.edges.branch_edges.Reads as branch-edges-reads
-use Rattle.checker.proofs.edges.edge_out.Reads as edge-out-reads
 
 -- src/edges.rt:229:26
 add-t12 : tie.Need-add-t12

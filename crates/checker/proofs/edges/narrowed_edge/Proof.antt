@@ -3,13 +3,6 @@ use Rattle.rules.specs.Narrow.{narrowRow}
 use borrow.Author.Needs.{needs}
 use Rattle.checker.proofs.edges.narrowed_edge.Statement.{statement}
 use Rattle.checker.proofs.edges.narrowed_edge.Tie as tie
-use Rattle.checker.proofs.edges.narrowed_edge.Reads as reads
-use Rattle.checker.proofs.edges.narrowed_edge.Lts as lts
-use Rattle.checker.proofs.answers.accept.Reads as accept-reads
-use Rattle.checker.proofs.edges.edge_to.Reads as edge-to-reads
-use Rattle.rows.proofs.entry_at.Reads as entry-at-reads
-use Rattle.rows.proofs.row_with.Reads as row-with-reads
-use Rattle.rules.proofs.narrow_entry.Reads as narrow-entry-reads
 
 -- src/edges.rt:117:9
 edge-to-requires : tie.Need-edge-to-requires

@@ -6,11 +6,6 @@ use borrow.Author.Tests.{not-true, not-false}
 use borrow.Author.Needs.{needs}
 use Rattle.checker.proofs.edges.other_edge.Statement.{statement}
 use Rattle.checker.proofs.edges.other_edge.Tie as tie
-use Rattle.checker.proofs.edges.other_edge.Reads as reads
-use Rattle.checker.proofs.edges.other_edge.Lts as lts
-use Rattle.checker.proofs.answers.accept.Reads as accept-reads
-use Rattle.checker.proofs.edges.branch_edge.Reads as branch-edge-reads
-use Rattle.checker.proofs.flow.has_other.Reads as has-other-reads
 
 -- src/edges.rt:189:9
 has-other-requires : tie.Need-has-other-requires

@@ -6,11 +6,6 @@ use borrow.Author.Tests.{not-true, not-false}
 use borrow.Author.Needs.{needs}
 use Rattle.checker.proofs.edges.taken_edge.Statement.{statement}
 use Rattle.checker.proofs.edges.taken_edge.Tie as tie
-use Rattle.checker.proofs.edges.taken_edge.Reads as reads
-use Rattle.checker.proofs.edges.taken_edge.Lts as lts
-use Rattle.checker.proofs.answers.accept.Reads as accept-reads
-use Rattle.checker.proofs.edges.branch_edge.Reads as branch-edge-reads
-use Rattle.checker.proofs.flow.has_taken.Reads as has-taken-reads
 
 -- src/edges.rt:169:9
 has-taken-requires : tie.Need-has-taken-requires

@@ -1,14 +1,6 @@
 use borrow.Author.Needs.{needs}
 use Rattle.checker.proofs.flow.branch_flow.Statement.{statement}
 use Rattle.checker.proofs.flow.branch_flow.Tie as tie
-use Rattle.checker.proofs.flow.branch_flow.Reads as reads
-use Rattle.checker.proofs.flow.branch_flow.Lts as lts
-use Rattle.checker.proofs.flow.has_other.Reads as has-other-reads
-use Rattle.checker.proofs.flow.has_taken.Reads as has-taken-reads
-use Rattle.checker.proofs.flow.lands_at.Reads as lands-at-reads
-use Rattle.checker.proofs.flow.transfer_flow.Reads as transfer-flow-reads
-use Rattle.checker.proofs.words.inside.Reads as inside-reads
-use Rattle.step.proofs.flow.target.Reads as target-reads
 
 -- src/flow.rt:65:9
 transfer-flow-requires : tie.Need-transfer-flow-requires

@@ -2,12 +2,6 @@ use Rattle.checker.specs.Passes.{flowPass}
 use borrow.Author.Needs.{needs}
 use Rattle.checker.proofs.flow.flow_at.Statement.{statement}
 use Rattle.checker.proofs.flow.flow_at.Tie as tie
-use Rattle.checker.proofs.flow.flow_at.Reads as reads
-use Rattle.checker.proofs.flow.flow_at.Lts as lts
-use Rattle.checker.proofs.answers.accept.Reads as accept-reads
-use Rattle.checker.proofs.answers.need.Reads as need-reads
-use Rattle.checker.proofs.flow.instruction_flow.Reads as instruction-flow-reads
-use Rattle.checker.proofs.words.word_at.Reads as word-at-reads
 
 -- src/flow.rt:117:11
 word-at-requires : tie.Need-word-at-requires

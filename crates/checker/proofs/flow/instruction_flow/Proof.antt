@@ -1,11 +1,6 @@
 use borrow.Author.Needs.{needs}
 use Rattle.checker.proofs.flow.instruction_flow.Statement.{statement}
 use Rattle.checker.proofs.flow.instruction_flow.Tie as tie
-use Rattle.checker.proofs.flow.instruction_flow.Reads as reads
-use Rattle.checker.proofs.flow.instruction_flow.Lts as lts
-use Rattle.checker.proofs.flow.branch_flow.Reads as branch-flow-reads
-use Rattle.checker.proofs.flow.plain_flow.Reads as plain-flow-reads
-use Rattle.checker.proofs.flow.transfer_flow.Reads as transfer-flow-reads
 
 -- src/flow.rt:77:51
 enum-told : tie.Need-enum-told

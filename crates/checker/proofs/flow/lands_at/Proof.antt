@@ -1,10 +1,6 @@
 use borrow.Author.Needs.{needs}
 use Rattle.checker.proofs.flow.lands_at.Statement.{statement}
 use Rattle.checker.proofs.flow.lands_at.Tie as tie
-use Rattle.checker.proofs.flow.lands_at.Reads as reads
-use Rattle.checker.proofs.flow.lands_at.Lts as lts
-use Rattle.checker.proofs.words.examined.Reads as examined-reads
-use Rattle.checker.proofs.words.inside.Reads as inside-reads
 
 -- src/flow.rt:38:9
 inside-requires : tie.Need-inside-requires

@@ -1,10 +1,6 @@
 use borrow.Author.Needs.{needs}
 use Rattle.checker.proofs.flow.plain_flow.Statement.{statement}
 use Rattle.checker.proofs.flow.plain_flow.Tie as tie
-use Rattle.checker.proofs.flow.plain_flow.Reads as reads
-use Rattle.checker.proofs.flow.plain_flow.Lts as lts
-use Rattle.checker.proofs.words.examined.Reads as examined-reads
-use Rattle.checker.proofs.words.inside.Reads as inside-reads
 
 -- src/flow.rt:47:9
 examined-requires : tie.Need-examined-requires

@@ -1,10 +1,6 @@
 use borrow.Author.Needs.{needs}
 use Rattle.checker.proofs.flow.transfer_flow.Statement.{statement}
 use Rattle.checker.proofs.flow.transfer_flow.Tie as tie
-use Rattle.checker.proofs.flow.transfer_flow.Reads as reads
-use Rattle.checker.proofs.flow.transfer_flow.Lts as lts
-use Rattle.checker.proofs.words.examined.Reads as examined-reads
-use Rattle.checker.proofs.words.inside.Reads as inside-reads
 
 -- src/flow.rt:56:40
 add-t4 : tie.Need-add-t4

@@ -2,11 +2,6 @@ use Rattle.checker.specs.Passes.{entryPass}
 use borrow.Author.Needs.{needs}
 use Rattle.checker.proofs.passes.entry_pass.Statement.{statement}
 use Rattle.checker.proofs.passes.entry_pass.Tie as tie
-use Rattle.checker.proofs.passes.entry_pass.Reads as reads
-use Rattle.checker.proofs.passes.entry_pass.Lts as lts
-use Rattle.checker.proofs.answers.unless_fault.Reads as unless-fault-reads
-use Rattle.rows.proofs.misfit.Reads as misfit-reads
-use Rattle.rows.proofs.read_row.Reads as read-row-reads
 
 -- src/passes.rt:107:24
 read-row-requires : tie.Need-read-row-requires

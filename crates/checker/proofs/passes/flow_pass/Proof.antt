@@ -8,10 +8,6 @@ use Prim.Native.Nat.{_≤_, _-_}
 use borrow.Author.Needs.{needs}
 use Rattle.checker.proofs.passes.flow_pass.Statement.{statement}
 use Rattle.checker.proofs.passes.flow_pass.Tie as tie
-use Rattle.checker.proofs.passes.flow_pass.Reads as reads
-use Rattle.checker.proofs.passes.flow_pass.Lts as lts
-use Rattle.checker.proofs.answers.accept.Reads as accept-reads
-use Rattle.checker.proofs.flow.flow_at.Reads as flow-at-reads
 
 abbrev Inv-loop : tie.InvT-loop
 Inv-loop words count w₀ w = (w ≤ count) × (passOf (flowPass (codeOf words)) count ≡ passFrom (flowPass (codeOf words)) w count)

@@ -1,12 +1,6 @@
 use borrow.Author.Needs.{needs}
 use Rattle.checker.proofs.passes.instruction_in.Statement.{statement}
 use Rattle.checker.proofs.passes.instruction_in.Tie as tie
-use Rattle.checker.proofs.passes.instruction_in.Reads as reads
-use Rattle.checker.proofs.passes.instruction_in.Lts as lts
-use Rattle.checker.proofs.answers.refuse.Reads as refuse-reads
-use Rattle.checker.proofs.edges.edges_of.Reads as edges-of-reads
-use Rattle.rows.proofs.row_with.Reads as row-with-reads
-use Rattle.rules.proofs.change_of.Reads as change-of-reads
 
 -- src/passes.rt:124:11
 change-of-requires : tie.Need-change-of-requires

@@ -2,11 +2,6 @@ use Rattle.checker.specs.Passes.{readPass}
 use borrow.Author.Needs.{needs}
 use Rattle.checker.proofs.passes.read_at.Statement.{statement}
 use Rattle.checker.proofs.passes.read_at.Tie as tie
-use Rattle.checker.proofs.passes.read_at.Reads as reads
-use Rattle.checker.proofs.passes.read_at.Lts as lts
-use Rattle.checker.proofs.answers.accept.Reads as accept-reads
-use Rattle.checker.proofs.answers.refuse.Reads as refuse-reads
-use Rattle.checker.proofs.words.word_at.Reads as word-at-reads
 
 -- src/passes.rt:65:11
 word-at-requires : tie.Need-word-at-requires

@@ -9,15 +9,10 @@ use native.Mathlib.Omega.{arith}
 use mathlib.Core.Path.{_≡_, refl, sym, ap, _∙_}
 use mathlib.Core.Logic.{⊎-elim}
 use mathlib.Core.Bool.{not}
-use Prim.Native.Nat.{ℕ, _*_, _≤_, _-_}
+use Prim.Native.Nat.{_*_, _≤_, _-_}
 use borrow.Author.Needs.{needs}
 use Rattle.checker.proofs.passes.row_pass.Statement.{statement}
 use Rattle.checker.proofs.passes.row_pass.Tie as tie
-use Rattle.checker.proofs.passes.row_pass.Reads as reads
-use Rattle.checker.proofs.passes.row_pass.Lts as lts
-use Rattle.checker.proofs.answers.accept.Reads as accept-reads
-use Rattle.checker.proofs.answers.refuse.Reads as refuse-reads
-use Rattle.rows.proofs.formed_at.Reads as formed-at-reads
 
 abbrev Inv-loop : tie.InvT-loop
 Inv-loop rows count policy w place₀ place = (place ≤ 33) × (formFault (policy .regions) (policy .sizes) rows (392 * w) ≡ first (brokenAt (policy .regions) (policy .sizes) rows (392 * w)) place places)

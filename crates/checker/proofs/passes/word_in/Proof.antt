@@ -10,14 +10,6 @@ use borrow.Author.Tests.{not-true, not-false}
 use borrow.Author.Needs.{needs}
 use Rattle.checker.proofs.passes.word_in.Statement.{statement}
 use Rattle.checker.proofs.passes.word_in.Tie as tie
-use Rattle.checker.proofs.passes.word_in.Reads as reads
-use Rattle.checker.proofs.passes.word_in.Lts as lts
-use Rattle.checker.proofs.answers.accept.Reads as accept-reads
-use Rattle.checker.proofs.answers.refuse.Reads as refuse-reads
-use Rattle.checker.proofs.arrival.row_at.Reads as row-at-reads
-use Rattle.checker.proofs.passes.instruction_in.Reads as instruction-in-reads
-use Rattle.checker.proofs.words.examined.Reads as examined-reads
-use Rattle.checker.proofs.words.word_at.Reads as word-at-reads
 
 -- src/passes.rt:144:9
 examined-requires : tie.Need-examined-requires

@@ -11,10 +11,6 @@ use Prim.Native.Nat.{_≤_, _-_}
 use borrow.Author.Needs.{needs}
 use Rattle.checker.proofs.passes.word_pass.Statement.{statement}
 use Rattle.checker.proofs.passes.word_pass.Tie as tie
-use Rattle.checker.proofs.passes.word_pass.Reads as reads
-use Rattle.checker.proofs.passes.word_pass.Lts as lts
-use Rattle.checker.proofs.answers.accept.Reads as accept-reads
-use Rattle.checker.proofs.passes.word_in.Reads as word-in-reads
 
 abbrev Inv-loop : tie.InvT-loop
 Inv-loop policy words rows result count w₀ w = (w ≤ count) × (passOf (wordPass (bodyOf policy words rows result)) count ≡ passFrom (wordPass (bodyOf policy words rows result)) w count)

@@ -1,9 +1,6 @@
 use borrow.Author.Needs.{needs}
 use Rattle.checker.proofs.words.examined.Statement.{statement}
 use Rattle.checker.proofs.words.examined.Tie as tie
-use Rattle.checker.proofs.words.examined.Reads as reads
-use Rattle.checker.proofs.words.examined.Lts as lts
-use Rattle.checker.proofs.words.is_slot.Reads as is-slot-reads
 
 -- src/words.rt:56:6
 is-slot-requires : tie.Need-is-slot-requires

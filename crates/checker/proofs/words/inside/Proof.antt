@@ -4,8 +4,6 @@ use lib.ListN.{length-map}
 use borrow.Author.Needs.{needs}
 use Rattle.checker.proofs.words.inside.Statement.{statement}
 use Rattle.checker.proofs.words.inside.Tie as tie
-use Rattle.checker.proofs.words.inside.Reads as reads
-use Rattle.checker.proofs.words.inside.Lts as lts
 
 -- src/words.rt:27:13
 cast-i : tie.Need-cast-i

@@ -3,10 +3,6 @@ use Rattle.v8.specs.Choice.{tests}
 use borrow.Author.Needs.{needs}
 use Rattle.checker.proofs.words.is_slot.Statement.{statement}
 use Rattle.checker.proofs.words.is_slot.Tie as tie
-use Rattle.checker.proofs.words.is_slot.Reads as reads
-use Rattle.checker.proofs.words.is_slot.Lts as lts
-use Rattle.checker.proofs.words.transfers.Reads as transfers-reads
-use Rattle.checker.proofs.words.word_at.Reads as word-at-reads
 
 -- src/words.rt:46:9
 returns : tie.Need-returns

@@ -4,9 +4,6 @@ use Rattle.step.proofs.Fetch.{fetched, outside}
 use borrow.Author.Needs.{needs}
 use Rattle.checker.proofs.words.word_at.Statement.{statement}
 use Rattle.checker.proofs.words.word_at.Tie as tie
-use Rattle.checker.proofs.words.word_at.Reads as reads
-use Rattle.checker.proofs.words.word_at.Lts as lts
-use Rattle.v8.proofs.read_word.Reads as read-word-reads
 
 -- src/words.rt:16:13
 cast-i : tie.Need-cast-i

@@ -1,0 +1,48 @@
+-- Where the check accepts, the checked run is the run, and the guarantee is that of the run.
+use Prim.Native.Nat.{ℕ}
+use mathlib.Core.Path.{_≡_, sym, ap, _∙_, subst}
+use mathlib.Core.List.{List}
+use borrow.Author.Tests.{eq-eqb, ne-eqb}
+use Rattle.policy.specs.declared.Policy.{Policy}
+use Rattle.step.specs.declared.Registers.{Registers}
+use Rattle.machine.specs.Run.{Run, settingOf, startState, runOf, traceFrom, refused}
+use Rattle.rows.specs.Row.{entryOf}
+use Rattle.checker.specs.declared.Answer.{Answer}
+use Rattle.checker.specs.Answer.{accepted}
+use Rattle.checker.specs.Passes.{checkOf}
+use Rattle.guarantee.specs.Guarantee.{hostOf, Guaranteed}
+use Rattle.guarantee.specs.Checked.{Checked, checkedWith, checkedRunOf, HoldsTo}
+use Rattle.guarantee.proofs.Whole.{running-guarantee}
+
+accepted-run : (a : Answer) (run : Run) (g : Registers) (memory : List ℕ) → a ≡ accepted → checkedWith a run g memory .run ≡ run
+unfolding checkedWith
+accepted-run a run g memory e = rw e
+
+-- what is left where the check refuses, and where it accepts
+pub refused-left : (a b : Answer) (run : Run) (g : Registers) (memory : List ℕ) → a ≡ b → (a .number ≡ 0 → ⊥)
+    → record { answer = a; run = refused (a .number) g memory } ≡ checkedWith b run g memory
+unfolding checkedWith
+refused-left a b run g memory e n = rw (← e, ne-eqb (a .number) 0 n)
+
+pub accepted-left : (a b : Answer) (run ran : Run) (g : Registers) (memory : List ℕ) → a ≡ b → run ≡ ran → a .number ≡ 0
+    → record { answer = a; run = run } ≡ checkedWith b ran g memory
+unfolding checkedWith
+accepted-left a b run ran g memory e q z = rw (← e, ← q, eq-eqb (a .number) 0 z)
+
+-- whatever gives the checked run holds to demand 3
+pub holds-to : (p : Policy) (words rows entry result bases : List ℕ) (returns : ℕ) (g : Registers) (allowance : ℕ) (memory : List ℕ) (c : Checked)
+    → c ≡ checkedRunOf p words rows entry result bases returns g allowance memory → HoldsTo p words entry result bases returns g allowance memory c
+unfolding checkedWith
+holds-to p words rows entry result bases returns g allowance memory c q a start =
+    let e : checkOf p words rows entry result ≡ accepted = sym (ap (λ (x : Checked). x .answer) q) ∙ a in
+    let r : c .run ≡ runOf p words bases returns g allowance memory =
+    ap (λ (x : Checked). x .run) q ∙ accepted-run (checkOf p words rows entry result) (runOf p words bases returns g allowance memory) g memory e in
+    subst (λ (x : Run). Guaranteed p (entryOf result 0) (settingOf p words bases returns) (hostOf bases returns) (startState g memory) x
+    (traceFrom (settingOf p words bases returns) allowance (startState g memory)))
+    (sym r) (running-guarantee p words rows entry result e bases returns g memory start allowance)
+
+pub given-checked : (p : Policy) (words rows entry result bases : List ℕ) (returns : ℕ) (g : Registers) (allowance : ℕ) (memory : List ℕ) (c : Checked)
+    → c ≡ checkedRunOf p words rows entry result bases returns g allowance memory
+    → (c ≡ checkedRunOf p words rows entry result bases returns g allowance memory) × HoldsTo p words entry result bases returns g allowance memory c
+given-checked p words rows entry result bases returns g allowance memory c q =
+    (q, holds-to p words rows entry result bases returns g allowance memory c q)

@@ -1,0 +1,39 @@
+-- The checked run: the check, and the run of what it accepts. What it gives is one equation, and what demand 3 claims holds of it.
+use Prim.Native.Nat.{ℕ}
+use mathlib.Core.Path.{_≡_}
+use mathlib.Core.Bool.{cond}
+use mathlib.Core.List.{List}
+use Rattle.policy.specs.declared.Policy.{Policy}
+use Rattle.step.specs.declared.Registers.{Registers}
+use Rattle.machine.specs.Run.{Run, settingOf, startState, runOf, traceFrom, refused}
+use Rattle.machine.specs.Ended.{leftBy}
+use Rattle.rows.specs.Row.{entryOf}
+use Rattle.checker.specs.declared.Answer.{Answer}
+use Rattle.checker.specs.Answer.{accepted, passes}
+use Rattle.checker.specs.Passes.{checkOf}
+use Rattle.guarantee.specs.declared.CheckedRun.{CheckedRun}
+use Rattle.guarantee.specs.Guarantee.{hostOf, Start, Guaranteed}
+
+-- the answer of the check, and what the run leaves
+pub record Checked : Type 0 where
+  pub answer : Answer
+  pub run : Run
+
+-- where the check refuses, nothing is run: 0 steps, registers, codes and memory as handed in
+unfoldable pub checkedWith : Answer → Run → Registers → List ℕ → Checked
+checkedWith answer run g memory = record { answer = answer; run = cond (passes answer) run (refused (answer .number) g memory) }
+
+abbrev pub checkedRunOf : Policy → List ℕ → List ℕ → List ℕ → List ℕ → List ℕ → ℕ → Registers → ℕ → List ℕ → Checked
+checkedRunOf p words rows entry result bases returns g allowance memory =
+    checkedWith (checkOf p words rows entry result) (runOf p words bases returns g allowance memory) g memory
+
+-- what the code answers, with the lent memory
+abbrev pub checkedLeft : CheckedRun → List ℕ → Checked
+checkedLeft r memory = record { answer = r .answer; run = leftBy (r .outcome) memory }
+
+-- demand 3 of a checked run: where it accepts, for every matching start
+abbrev pub HoldsTo : Policy → List ℕ → List ℕ → List ℕ → List ℕ → ℕ → Registers → ℕ → List ℕ → Checked → Type 0
+HoldsTo p words entry result bases returns g allowance memory c =
+    c .answer ≡ accepted → Start p entry bases returns g memory
+    → Guaranteed p (entryOf result 0) (settingOf p words bases returns) (hostOf bases returns) (startState g memory) (c .run)
+    (traceFrom (settingOf p words bases returns) allowance (startState g memory))
