@@ -60,7 +60,8 @@ pub fn check(policy: Policy, words: &[u32], rows: &[u8], entry: &[u8], result: &
     if !shape_ok(policy, words, rows, entry, result) {
         return refuse(BAD_SHAPE, WordIndex(0), 0);
     }
-    let count = words.len() as u32;
+    let length = words.len() as u32;
+    let count = WordIndex(length);
     let formed = row_pass(policy, rows, count);
     if formed.number != 0 {
         return formed;

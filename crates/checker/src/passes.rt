@@ -36,30 +36,30 @@ use v8::Reading;
 use v8::WordIndex;
 
 // Pass 1: the rows are well formed; the lowest badly formed place of the earliest such row is named.
-pub fn row_pass(policy: Policy, rows: &[u8], count: u32) -> Answer
-    requires { ⌜ (count ≤ 128) × (392 * count ≡ length (now rows)) ⌝ }
-    ensures { λ r. ⌜ r ≡ passOf (rowPass (formOf policy (now (rows .entry)))) count ⌝ }
+pub fn row_pass(policy: Policy, rows: &[u8], count: WordIndex) -> Answer
+    requires { ⌜ (count .0 ≤ 128) × (392 * count .0 ≡ length (now rows)) ⌝ }
+    ensures { λ r. ⌜ r ≡ passOf (rowPass (formOf policy (now (rows .entry)))) (count .0) ⌝ }
 {
-    let mut w: u32 = 0;
+    let mut at = WordIndex(0);
     let mut place: u8 = 0;
-    'rows: while w < count {
+    'rows: while at.0 < count.0 {
         place = 0;
         while place < PLACES {
             if !formed_at(
                 policy.regions,
                 &policy.sizes,
                 rows,
-                ROW_BYTES * w as usize,
+                ROW_BYTES * at.0 as usize,
                 place,
             ) {
                 break 'rows;
             }
             place += 1;
         }
-        w += 1;
+        at = WordIndex(at.0 + 1);
     }
-    if w < count {
-        return refuse(BAD_ROW, WordIndex(w), place);
+    if at.0 < count.0 {
+        return refuse(BAD_ROW, at, place);
     }
     accept()
 }
@@ -75,32 +75,32 @@ fn read_at(words: &[u32], at: WordIndex) -> Answer
 }
 
 // Pass 2: the words are read.
-pub fn read_pass(words: &[u32], count: u32) -> Answer
-    ensures { λ r. ⌜ r ≡ passOf (readPass (codeOf (now (words .entry)))) count ⌝ }
+pub fn read_pass(words: &[u32], count: WordIndex) -> Answer
+    ensures { λ r. ⌜ r ≡ passOf (readPass (codeOf (now (words .entry)))) (count .0) ⌝ }
 {
-    let mut w: u32 = 0;
-    while w < count {
-        let found = read_at(words, WordIndex(w));
+    let mut at = WordIndex(0);
+    while at.0 < count.0 {
+        let found = read_at(words, at);
         if found.number != 0 {
             return found;
         }
-        w += 1;
+        at = WordIndex(at.0 + 1);
     }
     accept()
 }
 
 // Pass 3: the words' flow.
-pub fn flow_pass(words: &[u32], count: u32) -> Answer
-    requires { ⌜ count ≤ 128 ⌝ }
-    ensures { λ r. ⌜ r ≡ passOf (flowPass (codeOf (now (words .entry)))) count ⌝ }
+pub fn flow_pass(words: &[u32], count: WordIndex) -> Answer
+    requires { ⌜ count .0 ≤ 128 ⌝ }
+    ensures { λ r. ⌜ r ≡ passOf (flowPass (codeOf (now (words .entry)))) (count .0) ⌝ }
 {
-    let mut w: u32 = 0;
-    while w < count {
-        let found = flow_at(words, WordIndex(w));
+    let mut at = WordIndex(0);
+    while at.0 < count.0 {
+        let found = flow_at(words, at);
         if found.number != 0 {
             return found;
         }
-        w += 1;
+        at = WordIndex(at.0 + 1);
     }
     accept()
 }
@@ -158,17 +158,23 @@ fn word_in(policy: Policy, words: &[u32], rows: &[u8], result: &[u8], at: WordIn
 }
 
 // The words' pass: each word outside slots, where the flow is right.
-pub fn word_pass(policy: Policy, words: &[u32], rows: &[u8], result: &[u8], count: u32) -> Answer
-    requires { ⌜ (length (now words) ≤ 128) × (392 * length (now words) ≡ length (now rows)) × (12 ≤ length (now result)) × (count ≡ length (now words)) × (passes (passOf (flowPass (codeOf (now words))) count) ≡ true) ⌝ }
-    ensures { λ r. ⌜ r ≡ passOf (wordPass (bodyOf policy (now (words .entry)) (now (rows .entry)) (now (result .entry)))) count ⌝ }
+pub fn word_pass(
+    policy: Policy,
+    words: &[u32],
+    rows: &[u8],
+    result: &[u8],
+    count: WordIndex,
+) -> Answer
+    requires { ⌜ (length (now words) ≤ 128) × (392 * length (now words) ≡ length (now rows)) × (12 ≤ length (now result)) × (count .0 ≡ length (now words)) × (passes (passOf (flowPass (codeOf (now words))) (count .0)) ≡ true) ⌝ }
+    ensures { λ r. ⌜ r ≡ passOf (wordPass (bodyOf policy (now (words .entry)) (now (rows .entry)) (now (result .entry)))) (count .0) ⌝ }
 {
-    let mut w: u32 = 0;
-    while w < count {
-        let found = word_in(policy, words, rows, result, WordIndex(w));
+    let mut at = WordIndex(0);
+    while at.0 < count.0 {
+        let found = word_in(policy, words, rows, result, at);
         if found.number != 0 {
             return found;
         }
-        w += 1;
+        at = WordIndex(at.0 + 1);
     }
     accept()
 }

@@ -2,19 +2,15 @@ use borrow.Author.Needs.{needs}
 use Rattle.checker.proofs.answers.need.Statement.{statement}
 use Rattle.checker.proofs.answers.need.Tie as tie
 
--- src/answers.rt:55:9
 accept-requires : tie.Need-accept-requires
 accept-requires c κs = search needs
 
--- src/answers.rt:55:9
 returns : tie.Need-returns
 returns c = search needs
 
--- src/answers.rt:57:5
 refuse-requires : tie.Need-refuse-requires
 refuse-requires c κs = search needs
 
--- src/answers.rt:51:1
 returns-2 : tie.Need-returns-2
 returns-2 c = rw (c .before .if1 .left) (c .refuse .ensures)
 

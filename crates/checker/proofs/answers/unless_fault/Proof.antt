@@ -3,19 +3,15 @@ use borrow.Author.Needs.{needs}
 use Rattle.checker.proofs.answers.unless_fault.Statement.{statement}
 use Rattle.checker.proofs.answers.unless_fault.Tie as tie
 
--- src/answers.rt:65:9
 refuse-requires : tie.Need-refuse-requires
 refuse-requires c κs = search needs
 
--- src/answers.rt:65:9
 returns : tie.Need-returns
 returns c = search (tests, c .refuse .ensures)
 
--- src/answers.rt:67:5
 accept-requires : tie.Need-accept-requires
 accept-requires c κs = search needs
 
--- src/answers.rt:61:1
 returns-2 : tie.Need-returns-2
 returns-2 c = search (tests, c .accept .ensures)
 

@@ -2,31 +2,24 @@ use borrow.Author.Needs.{needs}
 use Rattle.checker.proofs.arrival.arrive_out.Statement.{statement}
 use Rattle.checker.proofs.arrival.arrive_out.Tie as tie
 
--- src/arrival.rt:49:9
 read-entry-requires : tie.Need-read-entry-requires
 read-entry-requires c κs = search needs
 
--- src/arrival.rt:50:13
 entry-at-requires : tie.Need-entry-at-requires
 entry-at-requires c κs = search needs
 
--- src/arrival.rt:50:8
 fits-requires : tie.Need-fits-requires
 fits-requires c κs = search needs
 
--- src/arrival.rt:51:9
 accept-requires : tie.Need-accept-requires
 accept-requires c κs = search needs
 
--- src/arrival.rt:51:9
 returns : tie.Need-returns
 returns c = let f = c .before .before in rw (← f .before .before .read-entry .ensures, ← f .before .entry-at .ensures, ← f .fits2 .ensures, c .before .if1 .taken) (c .accept .ensures)
 
--- src/arrival.rt:53:5
 refuse-requires : tie.Need-refuse-requires
 refuse-requires c κs = search needs
 
--- src/arrival.rt:45:1
 returns-2 : tie.Need-returns-2
 returns-2 c = let f = c .before .before in rw (← f .before .before .read-entry .ensures, ← f .before .entry-at .ensures, ← f .fits2 .ensures, c .before .if1 .left) (c .refuse .ensures)
 

@@ -94,8 +94,8 @@ returns-2 c =
     c .refuse2 .ensures
     ∙ sym (bad-shape (given1 (d .before)) (right-policy (d .before)) (sym (d .shape-ok .ensures) ∙ not-true _ (c .before .if2 .taken)))
 
-cast-count : tie.Need-cast-count
-cast-count c = record { fits = omega (arith, lengths c .most) }
+cast-length : tie.Need-cast-length
+cast-length c = record { fits = omega (arith, lengths c .most) }
 
 row-pass-requires : tie.Need-row-pass-requires
 row-pass-requires c κs = (lengths c .most, sym (lengths c .rows))
@@ -151,7 +151,7 @@ check-spec =
     shape-ok-requires
     refuse-requires-2
     returns-2
-    cast-count
+    cast-length
     row-pass-requires
     returns-3
     read-pass-requires

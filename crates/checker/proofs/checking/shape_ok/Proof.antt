@@ -8,44 +8,35 @@ use borrow.Author.Needs.{needs}
 use Rattle.checker.proofs.checking.shape_ok.Statement.{statement}
 use Rattle.checker.proofs.checking.shape_ok.Tie as tie
 
--- src/checking.rt:33:9
 returns : tie.Need-returns
 unfolding shapeOk
 returns c = let n = length-map (now (c .before .before .before .before .before .args .words)) readingOf in rw (n, lt-leb 1 _ (c .if1 .taken))
 
--- src/checking.rt:36:9
 returns-2 : tie.Need-returns-2
 unfolding shapeOk
 returns-2 c = let n = length-map (now (c .before .before .before .before .before .before .args .words)) readingOf in rw (n, lt-leb _ 128 (c .if2 .taken), and-false)
 
--- src/checking.rt:38:22
 mul-if3 : tie.Need-mul-if3
 mul-if3 c = search needs
 
--- src/checking.rt:39:9
 returns-3 : tie.Need-returns-3
 unfolding shapeOk
 returns-3 c = let n = length-map (now (c .before .before .before .before .before .before .before .args .words)) readingOf in rw (n, ne-eqb _ _ (c .if3 .taken), and-false)
 
--- src/checking.rt:42:9
 returns-4 : tie.Need-returns-4
 unfolding shapeOk
 returns-4 c = rw (ne-eqb _ 392 (c .if4 .taken), and-false)
 
--- src/checking.rt:45:9
 returns-5 : tie.Need-returns-5
 unfolding shapeOk
 returns-5 c = rw (ne-eqb _ 12 (c .if5 .taken), and-false)
 
--- src/checking.rt:47:9
 form-fault-requires : tie.Need-form-fault-requires
 form-fault-requires c κs = search needs
 
--- src/checking.rt:48:9
 entry-formed-requires : tie.Need-entry-formed-requires
 entry-formed-requires c κs = search needs
 
--- src/checking.rt:28:1
 returns-6 : tie.Need-returns-6
 unfolding shapeOk
 returns-6 c = let n = length-map (now (c .before .before .before .before .before .before .before .before .before .before .before .before .before .before .before .args .words)) readingOf in let i = c .before .before .before .before .before .before in rw (n, le-leb 1 _ (i .before .before .before .before .if1 .left), le-leb _ 128 (i .before .before .before .if2 .left), eq-eqb _ _ (i .before .before .if3 .left), eq-eqb _ 392 (i .before .if4 .left), eq-eqb _ 12 (i .if5 .left), ← c .before .before .before .form-fault .ensures, ← c .entry-formed .ensures)

@@ -5,23 +5,18 @@ use borrow.Author.Needs.{needs}
 use Rattle.checker.proofs.edges.branch_edge.Statement.{statement}
 use Rattle.checker.proofs.edges.branch_edge.Tie as tie
 
--- src/edges.rt:149:9
 slot-runs-requires : tie.Need-slot-runs-requires
 slot-runs-requires c κs = search needs
 
--- src/edges.rt:150:9
 landing-of-requires : tie.Need-landing-of-requires
 landing-of-requires c κs = search needs
 
--- src/edges.rt:151:9
 class-of-requires : tie.Need-class-of-requires
 class-of-requires c κs = search needs
 
--- src/edges.rt:152:5
 narrowed-edge-requires : tie.Need-narrowed-edge-requires
 narrowed-edge-requires c κs = let pre = c .before .before .before .before .before .pre in (pre .0, rw (c .before .landing-of .ensures) (pre .1))
 
--- src/edges.rt:135:1
 returns : tie.Need-returns
 unfolding branchEdge
 returns c = let l = c .before .before in rw (← c .before .class-of .ensures, ← l .before .slot-runs .ensures, ← ap (λ (n : WordIndex). n .0) (l .landing-of .ensures)) (c .narrowed-edge .ensures)

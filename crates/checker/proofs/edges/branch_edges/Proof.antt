@@ -4,20 +4,16 @@ use borrow.Author.Needs.{needs}
 use Rattle.checker.proofs.edges.branch_edges.Statement.{statement}
 use Rattle.checker.proofs.edges.branch_edges.Tie as tie
 
--- src/edges.rt:209:9
 taken-edge-requires : tie.Need-taken-edge-requires
 taken-edge-requires c κs = search needs
 
--- src/edges.rt:211:9
 returns : tie.Need-returns
 unfolding branchEdges
 returns c = rw (← c .before .before .taken-edge .ensures, ne-eqb _ 0 (c .if1 .taken))
 
--- src/edges.rt:213:5
 other-edge-requires : tie.Need-other-edge-requires
 other-edge-requires c κs = search needs
 
--- src/edges.rt:196:1
 returns-2 : tie.Need-returns-2
 unfolding branchEdges
 returns-2 c = rw (← c .before .before .before .taken-edge .ensures, eq-eqb _ 0 (c .before .if1 .left)) (c .other-edge .ensures)

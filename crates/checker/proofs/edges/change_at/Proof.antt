@@ -2,27 +2,21 @@ use borrow.Author.Needs.{needs}
 use Rattle.checker.proofs.edges.change_at.Statement.{statement}
 use Rattle.checker.proofs.edges.change_at.Tie as tie
 
--- src/edges.rt:46:11
 word-at-requires : tie.Need-word-at-requires
 word-at-requires c κs = search needs
 
--- src/edges.rt:47:23
 enum-known-x : tie.Need-enum-known-x
 enum-known-x c = search needs
 
--- src/edges.rt:47:29
 change-of-requires : tie.Need-change-of-requires
 change-of-requires c κs = search needs
 
--- src/edges.rt:48:28
 enum-told : tie.Need-enum-told
 enum-told c = search needs
 
--- src/edges.rt:43:1
 returns : tie.Need-returns
 returns c = let x = c .before .before in rw (← x .before .before .word-at .ensures, x .x .given .1) (c .change-of .ensures)
 
--- src/edges.rt:43:1
 returns-2 : tie.Need-returns-2
 returns-2 c = rw (← c .before .before .word-at .ensures, c .enum-told .given .1)
 

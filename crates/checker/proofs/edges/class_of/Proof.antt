@@ -2,23 +2,18 @@ use borrow.Author.Needs.{needs}
 use Rattle.checker.proofs.edges.class_of.Statement.{statement}
 use Rattle.checker.proofs.edges.class_of.Tie as tie
 
--- src/edges.rt:94:13
 condition-of-requires : tie.Need-condition-of-requires
 condition-of-requires c κs = search needs
 
--- src/edges.rt:95:9
 returns : tie.Need-returns
 returns c = rw (c .before .if1 .taken, c .condition-of .ensures)
 
--- src/edges.rt:97:30
 opposite-requires : tie.Need-opposite-requires
 opposite-requires c κs = search needs
 
--- src/edges.rt:97:9
 condition-of-requires-2 : tie.Need-condition-of-requires-2
 condition-of-requires-2 c κs = search needs
 
--- src/edges.rt:90:1
 returns-2 : tie.Need-returns-2
 returns-2 c = rw (c .before .before .if1 .left, c .condition-of2 .ensures, c .before .opposite .ensures)
 

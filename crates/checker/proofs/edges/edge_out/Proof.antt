@@ -3,53 +3,41 @@ use borrow.Author.Needs.{needs}
 use Rattle.checker.proofs.edges.edge_out.Statement.{statement}
 use Rattle.checker.proofs.edges.edge_out.Tie as tie
 
--- src/edges.rt:81:26
 add-t12 : tie.Need-add-t12
 add-t12 c = search needs
 
--- src/edges.rt:82:11
 change-at-requires : tie.Need-change-at-requires
 change-at-requires c κs = search needs
 
--- src/edges.rt:83:24
 enum-known-register : tie.Need-enum-known-register
 enum-known-register c = search needs
 
--- src/edges.rt:83:66
 row-with-requires : tie.Need-row-with-requires
 row-with-requires c κs = search needs
 
--- src/edges.rt:83:43
 arrive-out-requires : tie.Need-arrive-out-requires
 arrive-out-requires c κs = search needs
 
--- src/edges.rt:84:26
 enum-told : tie.Need-enum-told
 enum-told c = search needs
 
--- src/edges.rt:84:26
 arrive-out-requires-2 : tie.Need-arrive-out-requires-2
 arrive-out-requires-2 c κs = search needs
 
--- src/edges.rt:85:24
 enum-known-number : tie.Need-enum-known-number
 enum-known-number c = search needs
 
--- src/edges.rt:85:45
 refuse-requires : tie.Need-refuse-requires
 refuse-requires c κs = search needs
 
--- src/edges.rt:77:1
 returns : tie.Need-returns
 unfolding edgeOf
 returns c = let x = c .before .before .before in rw (← x .before .before .change-at .ensures, x .register .given .1, ← c .before .row-with .ensures) (c .arrive-out .ensures)
 
--- src/edges.rt:77:1
 returns-2 : tie.Need-returns-2
 unfolding edgeOf
 returns-2 c = rw (← c .before .before .before .change-at .ensures, c .before .enum-told .given .1) (c .arrive-out2 .ensures)
 
--- src/edges.rt:77:1
 returns-3 : tie.Need-returns-3
 unfolding edgeOf
 returns-3 c = let x = c .before .before in rw (← x .before .before .change-at .ensures, x .number .given .1) (c .refuse .ensures)

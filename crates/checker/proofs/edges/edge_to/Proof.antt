@@ -4,62 +4,48 @@ use borrow.Author.Needs.{needs}
 use Rattle.checker.proofs.edges.edge_to.Statement.{statement}
 use Rattle.checker.proofs.edges.edge_to.Tie as tie
 
--- src/edges.rt:66:9
 arrive-at-requires : tie.Need-arrive-at-requires
 arrive-at-requires c κs = search needs
 
--- src/edges.rt:66:9
 returns : tie.Need-returns
 unfolding edgeOf
 returns c = let a = c .before .before .before .before .args in rw (not-true (a .runs) (c .before .if1 .taken)) (c .arrive-at .ensures)
 
--- src/edges.rt:68:26
 add-t15 : tie.Need-add-t15
 add-t15 c = search needs
 
--- src/edges.rt:69:11
 change-at-requires : tie.Need-change-at-requires
 change-at-requires c κs = search needs
 
--- src/edges.rt:70:24
 enum-known-register : tie.Need-enum-known-register
 enum-known-register c = search needs
 
--- src/edges.rt:70:69
 row-with-requires : tie.Need-row-with-requires
 row-with-requires c κs = search needs
 
--- src/edges.rt:70:43
 arrive-at-requires-2 : tie.Need-arrive-at-requires-2
 arrive-at-requires-2 c κs = search needs
 
--- src/edges.rt:71:26
 enum-told : tie.Need-enum-told
 enum-told c = search needs
 
--- src/edges.rt:71:26
 arrive-at-requires-3 : tie.Need-arrive-at-requires-3
 arrive-at-requires-3 c κs = search needs
 
--- src/edges.rt:72:24
 enum-known-number : tie.Need-enum-known-number
 enum-known-number c = search needs
 
--- src/edges.rt:72:45
 refuse-requires : tie.Need-refuse-requires
 refuse-requires c κs = search needs
 
--- src/edges.rt:53:1
 returns-2 : tie.Need-returns-2
 unfolding edgeOf
 returns-2 c = let x = c .before .before .before in let d = x .before .before in let i = d .before .before in rw (not-false (i .before .before .before .args .runs) (i .if1 .left), ← d .change-at .ensures, x .register .given .1, ← c .before .row-with .ensures) (c .arrive-at2 .ensures)
 
--- src/edges.rt:53:1
 returns-3 : tie.Need-returns-3
 unfolding edgeOf
 returns-3 c = let d = c .before .before .before in let i = d .before .before in rw (not-false (i .before .before .before .args .runs) (i .if1 .left), ← d .change-at .ensures, c .before .enum-told .given .1) (c .arrive-at3 .ensures)
 
--- src/edges.rt:53:1
 returns-4 : tie.Need-returns-4
 unfolding edgeOf
 returns-4 c = let x = c .before .before in let d = x .before .before in let i = d .before .before in rw (not-false (i .before .before .before .args .runs) (i .if1 .left), ← d .change-at .ensures, x .number .given .1) (c .refuse .ensures)

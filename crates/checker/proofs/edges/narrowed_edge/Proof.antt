@@ -4,49 +4,38 @@ use borrow.Author.Needs.{needs}
 use Rattle.checker.proofs.edges.narrowed_edge.Statement.{statement}
 use Rattle.checker.proofs.edges.narrowed_edge.Tie as tie
 
--- src/edges.rt:117:9
 edge-to-requires : tie.Need-edge-to-requires
 edge-to-requires c κs = search needs
 
--- src/edges.rt:117:9
 returns : tie.Need-returns
 unfolding narrowRow
 returns c = rw (ne-eqb _ 2 (c .before .if1 .taken)) (c .edge-to .ensures)
 
--- src/edges.rt:120:31
 entry-at-requires : tie.Need-entry-at-requires
 entry-at-requires c κs = search needs
 
--- src/edges.rt:120:11
 narrow-entry-requires : tie.Need-narrow-entry-requires
 narrow-entry-requires c κs = search needs
 
--- src/edges.rt:121:25
 enum-known-e : tie.Need-enum-known-e
 enum-known-e c = search needs
 
--- src/edges.rt:128:13
 row-with-requires : tie.Need-row-with-requires
 row-with-requires c κs = search needs
 
--- src/edges.rt:121:31
 edge-to-requires-2 : tie.Need-edge-to-requires-2
 edge-to-requires-2 c κs = search needs
 
--- src/edges.rt:130:31
 enum-told : tie.Need-enum-told
 enum-told c = search needs
 
--- src/edges.rt:130:31
 accept-requires : tie.Need-accept-requires
 accept-requires c κs = search needs
 
--- src/edges.rt:102:1
 returns-2 : tie.Need-returns-2
 unfolding narrowRow
 returns-2 c = let x = c .before .before .before in let n = x .before .before in rw (eq-eqb _ 2 (n .before .before .if1 .left), ← n .before .entry-at .ensures, ← n .narrow-entry .ensures, x .e .given .1, ← c .before .row-with .ensures) (c .edge-to2 .ensures)
 
--- src/edges.rt:102:1
 returns-3 : tie.Need-returns-3
 unfolding narrowRow
 returns-3 c = let n = c .before .before .before in rw (eq-eqb _ 2 (n .before .before .if1 .left), ← n .before .entry-at .ensures, ← n .narrow-entry .ensures, c .before .enum-told .given .1) (c .accept .ensures)

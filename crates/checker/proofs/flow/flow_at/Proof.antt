@@ -3,36 +3,28 @@ use borrow.Author.Needs.{needs}
 use Rattle.checker.proofs.flow.flow_at.Statement.{statement}
 use Rattle.checker.proofs.flow.flow_at.Tie as tie
 
--- src/flow.rt:117:11
 word-at-requires : tie.Need-word-at-requires
 word-at-requires c κs = search needs
 
--- src/flow.rt:118:23
 enum-known-x : tie.Need-enum-known-x
 enum-known-x c = search needs
 
--- src/flow.rt:118:34
 instruction-flow-requires : tie.Need-instruction-flow-requires
 instruction-flow-requires c κs = search needs
 
--- src/flow.rt:118:29
 need-requires : tie.Need-need-requires
 need-requires c κs = search needs
 
--- src/flow.rt:119:28
 enum-told : tie.Need-enum-told
 enum-told c = search needs
 
--- src/flow.rt:119:28
 accept-requires : tie.Need-accept-requires
 accept-requires c κs = search needs
 
--- src/flow.rt:113:1
 returns : tie.Need-returns
 unfolding flowPass
 returns c = let x = c .before .before .before in rw (← x .before .before .word-at .ensures, x .x .given .1, ← c .before .instruction-flow .ensures) (c .need .ensures)
 
--- src/flow.rt:113:1
 returns-2 : tie.Need-returns-2
 unfolding flowPass
 returns-2 c = rw (← c .before .before .before .word-at .ensures, c .before .enum-told .given .1) (c .accept .ensures)

@@ -2,15 +2,12 @@ use borrow.Author.Needs.{needs}
 use Rattle.checker.proofs.flow.lands_at.Statement.{statement}
 use Rattle.checker.proofs.flow.lands_at.Tie as tie
 
--- src/flow.rt:38:9
 inside-requires : tie.Need-inside-requires
 inside-requires c κs = search needs
 
--- src/flow.rt:39:14
 examined-requires : tie.Need-examined-requires
 examined-requires c κs = search needs
 
--- src/flow.rt:35:1
 returns : tie.Need-returns
 returns c = rw (c .before .inside .ensures, c .examined .ensures)
 

@@ -2,19 +2,15 @@ use borrow.Author.Needs.{needs}
 use Rattle.checker.proofs.flow.plain_flow.Statement.{statement}
 use Rattle.checker.proofs.flow.plain_flow.Tie as tie
 
--- src/flow.rt:47:9
 examined-requires : tie.Need-examined-requires
 examined-requires c κs = search needs
 
--- src/flow.rt:48:41
 add-t6 : tie.Need-add-t6
 add-t6 c = search needs
 
--- src/flow.rt:48:17
 inside-requires : tie.Need-inside-requires
 inside-requires c κs = search needs
 
--- src/flow.rt:43:1
 returns : tie.Need-returns
 returns c = rw (c .before .before .examined .ensures, c .inside .ensures)
 

@@ -2,19 +2,15 @@ use borrow.Author.Needs.{needs}
 use Rattle.checker.proofs.flow.transfer_flow.Statement.{statement}
 use Rattle.checker.proofs.flow.transfer_flow.Tie as tie
 
--- src/flow.rt:56:40
 add-t4 : tie.Need-add-t4
 add-t4 c = search needs
 
--- src/flow.rt:56:9
 inside-requires : tie.Need-inside-requires
 inside-requires c κs = search needs
 
--- src/flow.rt:57:12
 examined-requires : tie.Need-examined-requires
 examined-requires c κs = search needs
 
--- src/flow.rt:52:1
 returns : tie.Need-returns
 returns c = rw (c .before .inside .ensures, c .examined .ensures)
 

@@ -3,19 +3,15 @@ use borrow.Author.Needs.{needs}
 use Rattle.checker.proofs.passes.entry_pass.Statement.{statement}
 use Rattle.checker.proofs.passes.entry_pass.Tie as tie
 
--- src/passes.rt:107:24
 read-row-requires : tie.Need-read-row-requires
 read-row-requires c κs = search needs
 
--- src/passes.rt:107:9
 misfit-requires : tie.Need-misfit-requires
 misfit-requires c κs = search needs
 
--- src/passes.rt:108:5
 unless-fault-requires : tie.Need-unless-fault-requires
 unless-fault-requires c κs = search needs
 
--- src/passes.rt:103:1
 returns : tie.Need-returns
 unfolding entryPass
 returns c = rw (← c .before .before .read-row .ensures, ← c .before .misfit .ensures) (c .unless-fault .ensures)

@@ -2,47 +2,36 @@ use borrow.Author.Needs.{needs}
 use Rattle.checker.proofs.passes.instruction_in.Statement.{statement}
 use Rattle.checker.proofs.passes.instruction_in.Tie as tie
 
--- src/passes.rt:124:11
 change-of-requires : tie.Need-change-of-requires
 change-of-requires c κs = search needs
 
--- src/passes.rt:125:24
 enum-known-register : tie.Need-enum-known-register
 enum-known-register c = search needs
 
--- src/passes.rt:132:13
 row-with-requires : tie.Need-row-with-requires
 row-with-requires c κs = search needs
 
--- src/passes.rt:125:43
 edges-of-requires : tie.Need-edges-of-requires
 edges-of-requires c κs = search needs
 
--- src/passes.rt:134:26
 enum-told : tie.Need-enum-told
 enum-told c = search needs
 
--- src/passes.rt:134:26
 edges-of-requires-2 : tie.Need-edges-of-requires-2
 edges-of-requires-2 c κs = search needs
 
--- src/passes.rt:135:24
 enum-known-number : tie.Need-enum-known-number
 enum-known-number c = search needs
 
--- src/passes.rt:135:45
 refuse-requires : tie.Need-refuse-requires
 refuse-requires c κs = search needs
 
--- src/passes.rt:112:1
 returns : tie.Need-returns
 returns c = let x = c .before .before .before in rw (← x .before .before .change-of .ensures, x .register .given .1, ← c .before .row-with .ensures) (c .edges-of .ensures)
 
--- src/passes.rt:112:1
 returns-2 : tie.Need-returns-2
 returns-2 c = rw (← c .before .before .before .change-of .ensures, c .before .enum-told .given .1) (c .edges-of2 .ensures)
 
--- src/passes.rt:112:1
 returns-3 : tie.Need-returns-3
 returns-3 c = let x = c .before .before in rw (← x .before .before .change-of .ensures, x .number .given .1) (c .refuse .ensures)
 

@@ -3,32 +3,25 @@ use borrow.Author.Needs.{needs}
 use Rattle.checker.proofs.passes.read_at.Statement.{statement}
 use Rattle.checker.proofs.passes.read_at.Tie as tie
 
--- src/passes.rt:65:11
 word-at-requires : tie.Need-word-at-requires
 word-at-requires c κs = search needs
 
--- src/passes.rt:66:29
 enum-told : tie.Need-enum-told
 enum-told c = search needs
 
--- src/passes.rt:66:29
 accept-requires : tie.Need-accept-requires
 accept-requires c κs = search needs
 
--- src/passes.rt:67:28
 enum-told-2 : tie.Need-enum-told-2
 enum-told-2 c = search needs
 
--- src/passes.rt:67:28
 refuse-requires : tie.Need-refuse-requires
 refuse-requires c κs = search needs
 
--- src/passes.rt:62:1
 returns : tie.Need-returns
 unfolding readPass
 returns c = rw (← c .before .before .before .word-at .ensures, c .before .enum-told .given .1) (c .accept .ensures)
 
--- src/passes.rt:62:1
 returns-2 : tie.Need-returns-2
 unfolding readPass
 returns-2 c = rw (← c .before .before .before .word-at .ensures, c .before .enum-told2 .given .1) (c .refuse .ensures)

@@ -11,49 +11,38 @@ use borrow.Author.Needs.{needs}
 use Rattle.checker.proofs.passes.word_in.Statement.{statement}
 use Rattle.checker.proofs.passes.word_in.Tie as tie
 
--- src/passes.rt:144:9
 examined-requires : tie.Need-examined-requires
 examined-requires c κs = search needs
 
--- src/passes.rt:145:9
 accept-requires : tie.Need-accept-requires
 accept-requires c κs = search needs
 
--- src/passes.rt:145:9
 returns : tie.Need-returns
 unfolding wordPass
 returns c = rw (sym (c .before .before .examined .ensures) ∙ not-true _ (c .before .if1 .taken)) (c .accept .ensures)
 
--- src/passes.rt:147:9
 row-at-requires : tie.Need-row-at-requires
 row-at-requires c κs = search needs
 
--- src/passes.rt:148:11
 word-at-requires : tie.Need-word-at-requires
 word-at-requires c κs = search needs
 
--- src/passes.rt:149:23
 enum-known-x : tie.Need-enum-known-x
 enum-known-x c = search needs
 
--- src/passes.rt:149:29
 instruction-in-requires : tie.Need-instruction-in-requires
 instruction-in-requires c κs = let d = c .before .before .before in let i = d .before .before in let s = i .before .before .before .before .before in (omega (arith, s .pre .0, s .pre .3), s .pre .1, s .pre .2, sym (i .before .examined .ensures) ∙ not-false _ (i .if1 .left), ap (λ (x : Reading). flowOf (codeOf (now (s .args .words))) (s .args .at .0) x) (sym (c .before .x .given .1) ∙ d .word-at .ensures) ∙ s .pre .4)
 
--- src/passes.rt:150:28
 enum-told : tie.Need-enum-told
 enum-told c = search needs
 
--- src/passes.rt:150:28
 refuse-requires : tie.Need-refuse-requires
 refuse-requires c κs = search needs
 
--- src/passes.rt:140:1
 returns-2 : tie.Need-returns-2
 unfolding wordPass
 returns-2 c = let x = c .before .before in let d = x .before .before in let i = d .before .before in rw (sym (i .before .examined .ensures) ∙ not-false _ (i .if1 .left), ← d .word-at .ensures, x .x .given .1, ← d .before .row-at .ensures) (c .instruction-in .ensures)
 
--- src/passes.rt:140:1
 returns-3 : tie.Need-returns-3
 unfolding wordPass
 returns-3 c = let d = c .before .before .before in let i = d .before .before in rw (sym (i .before .examined .ensures) ∙ not-false _ (i .if1 .left), ← d .word-at .ensures, c .before .enum-told .given .1) (c .refuse .ensures)

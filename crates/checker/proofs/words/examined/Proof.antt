@@ -2,11 +2,9 @@ use borrow.Author.Needs.{needs}
 use Rattle.checker.proofs.words.examined.Statement.{statement}
 use Rattle.checker.proofs.words.examined.Tie as tie
 
--- src/words.rt:56:6
 is-slot-requires : tie.Need-is-slot-requires
 is-slot-requires c κs = search needs
 
--- src/words.rt:53:1
 returns : tie.Need-returns
 returns c = rw (c .is-slot .ensures)
 

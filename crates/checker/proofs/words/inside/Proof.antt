@@ -5,11 +5,9 @@ use borrow.Author.Needs.{needs}
 use Rattle.checker.proofs.words.inside.Statement.{statement}
 use Rattle.checker.proofs.words.inside.Tie as tie
 
--- src/words.rt:27:13
 cast-i : tie.Need-cast-i
 cast-i c = search needs
 
--- src/words.rt:24:1
 returns : tie.Need-returns
 returns c = rw (length-map (now (c .before .args .words)) readingOf)
 

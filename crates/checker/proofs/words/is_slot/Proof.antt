@@ -4,24 +4,19 @@ use borrow.Author.Needs.{needs}
 use Rattle.checker.proofs.words.is_slot.Statement.{statement}
 use Rattle.checker.proofs.words.is_slot.Tie as tie
 
--- src/words.rt:46:9
 returns : tie.Need-returns
 unfolding isSlot
 returns c = search tests
 
--- src/words.rt:48:28
 sub-t5 : tie.Need-sub-t5
 sub-t5 c = search needs
 
--- src/words.rt:49:15
 word-at-requires : tie.Need-word-at-requires
 word-at-requires c κs = search needs
 
--- src/words.rt:49:5
 transfers-requires : tie.Need-transfers-requires
 transfers-requires c κs = search needs
 
--- src/words.rt:42:1
 returns-2 : tie.Need-returns-2
 unfolding isSlot
 returns-2 c = search (tests, c .before .word-at .ensures, c .transfers .ensures)

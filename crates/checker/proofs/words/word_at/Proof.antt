@@ -5,27 +5,21 @@ use borrow.Author.Needs.{needs}
 use Rattle.checker.proofs.words.word_at.Statement.{statement}
 use Rattle.checker.proofs.words.word_at.Tie as tie
 
--- src/words.rt:16:13
 cast-i : tie.Need-cast-i
 cast-i c = search needs
 
--- src/words.rt:18:9
 returns : tie.Need-returns
 returns c = let a = c .before .before .before .args in sym (outside (now (a .words)) (a .at .0) (c .if1 .taken))
 
--- src/words.rt:20:15
 mul-read-word : tie.Need-mul-read-word
 mul-read-word c = search needs
 
--- src/words.rt:20:15
 shared-slice-read-read-word : tie.Need-shared-slice-read-read-word
 shared-slice-read-read-word c = search needs
 
--- src/words.rt:20:5
 read-word-requires : tie.Need-read-word-requires
 read-word-requires c κs = search needs
 
--- src/words.rt:13:1
 returns-2 : tie.Need-returns-2
 returns-2 c = let a = c .before .before .before .before .before .args in c .read-word .ensures ∙ sym (fetched (now (a .words)) (a .at .0))
 
