@@ -1,3 +1,4 @@
+-- By the condition.
 use borrow.Author.Needs.{needs}
 use Rattle.checker.proofs.answers.need.Statement.{statement}
 use Rattle.checker.proofs.answers.need.Tie as tie

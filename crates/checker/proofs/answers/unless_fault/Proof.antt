@@ -1,5 +1,6 @@
-use Rattle.v8.specs.Choice.{tests}
+-- By whether a place was found.
 use borrow.Author.Needs.{needs}
+use Rattle.v8.specs.Choice.{tests}
 use Rattle.checker.proofs.answers.unless_fault.Statement.{statement}
 use Rattle.checker.proofs.answers.unless_fault.Tie as tie
 

@@ -1,3 +1,4 @@
+-- The lowest misfit of the row and that of the next word.
 use borrow.Author.Needs.{needs}
 use Rattle.checker.proofs.arrival.arrive_at.Statement.{statement}
 use Rattle.checker.proofs.arrival.arrive_at.Tie as tie

@@ -1,27 +1,34 @@
-use Rattle.checker.specs.Passes.{shapeOk}
-use borrow.Author.Tests.{le-leb, lt-leb, eq-eqb, ne-eqb}
+-- By the tests of the definition.
 use mathlib.Core.Bool.{and-false}
-use Rattle.v8.specs.Read.{readingOf}
-use denote.Ref.{now}
 use lib.ListN.{length-map}
+use denote.Ref.{now}
+use borrow.Author.Tests.{le-leb, lt-leb, eq-eqb, ne-eqb}
 use borrow.Author.Needs.{needs}
+use Rattle.v8.specs.Read.{readingOf}
+use Rattle.checker.specs.Passes.{shapeOk}
 use Rattle.checker.proofs.checking.shape_ok.Statement.{statement}
 use Rattle.checker.proofs.checking.shape_ok.Tie as tie
 
 returns : tie.Need-returns
 unfolding shapeOk
-returns c = let n = length-map (now (c .before .before .before .before .before .args .words)) readingOf in rw (n, lt-leb 1 _ (c .if1 .taken))
+returns c =
+    let n = length-map (now (c .before .before .before .before .before .args .words)) readingOf in
+    rw (n, lt-leb 1 _ (c .if1 .taken))
 
 returns-2 : tie.Need-returns-2
 unfolding shapeOk
-returns-2 c = let n = length-map (now (c .before .before .before .before .before .before .args .words)) readingOf in rw (n, lt-leb _ 128 (c .if2 .taken), and-false)
+returns-2 c =
+    let n = length-map (now (c .before .before .before .before .before .before .args .words)) readingOf in
+    rw (n, lt-leb _ 128 (c .if2 .taken), and-false)
 
 mul-if3 : tie.Need-mul-if3
 mul-if3 c = search needs
 
 returns-3 : tie.Need-returns-3
 unfolding shapeOk
-returns-3 c = let n = length-map (now (c .before .before .before .before .before .before .before .args .words)) readingOf in rw (n, ne-eqb _ _ (c .if3 .taken), and-false)
+returns-3 c =
+    let n = length-map (now (c .before .before .before .before .before .before .before .args .words)) readingOf in
+    rw (n, ne-eqb _ _ (c .if3 .taken), and-false)
 
 returns-4 : tie.Need-returns-4
 unfolding shapeOk
@@ -39,7 +46,19 @@ entry-formed-requires c κs = search needs
 
 returns-6 : tie.Need-returns-6
 unfolding shapeOk
-returns-6 c = let n = length-map (now (c .before .before .before .before .before .before .before .before .before .before .before .before .before .before .before .args .words)) readingOf in let i = c .before .before .before .before .before .before in rw (n, le-leb 1 _ (i .before .before .before .before .if1 .left), le-leb _ 128 (i .before .before .before .if2 .left), eq-eqb _ _ (i .before .before .if3 .left), eq-eqb _ 392 (i .before .if4 .left), eq-eqb _ 12 (i .if5 .left), ← c .before .before .before .form-fault .ensures, ← c .entry-formed .ensures)
+returns-6 c =
+    let n = length-map (now (c .before .before .before .before .before .before .before .before .before .before .before .before .before .before .before .args .words)) readingOf in
+    let i = c .before .before .before .before .before .before in
+    rw (
+      n,
+      le-leb 1 _ (i .before .before .before .before .if1 .left),
+      le-leb _ 128 (i .before .before .before .if2 .left),
+      eq-eqb _ _ (i .before .before .if3 .left),
+      eq-eqb _ 392 (i .before .if4 .left),
+      eq-eqb _ 12 (i .if5 .left),
+      ← c .before .before .before .form-fault .ensures,
+      ← c .entry-formed .ensures,
+    )
 
 pub shape-ok-spec : {M : Type 1} → statement M
 shape-ok-spec =

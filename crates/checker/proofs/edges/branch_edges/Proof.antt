@@ -1,6 +1,7 @@
-use Rattle.checker.specs.Passes.{branchEdges}
+-- By whether the taken edge accepts.
 use borrow.Author.Tests.{ne-eqb, eq-eqb}
 use borrow.Author.Needs.{needs}
+use Rattle.checker.specs.Passes.{branchEdges}
 use Rattle.checker.proofs.edges.branch_edges.Statement.{statement}
 use Rattle.checker.proofs.edges.branch_edges.Tie as tie
 

@@ -1,3 +1,4 @@
+-- By what the word is read as.
 use borrow.Author.Needs.{needs}
 use Rattle.checker.proofs.edges.change_at.Statement.{statement}
 use Rattle.checker.proofs.edges.change_at.Tie as tie
@@ -15,7 +16,9 @@ enum-told : tie.Need-enum-told
 enum-told c = search needs
 
 returns : tie.Need-returns
-returns c = let x = c .before .before in rw (← x .before .before .word-at .ensures, x .x .given .1) (c .change-of .ensures)
+returns c =
+    let x = c .before .before in
+    rw (← x .before .before .word-at .ensures, x .x .given .1) (c .change-of .ensures)
 
 returns-2 : tie.Need-returns-2
 returns-2 c = rw (← c .before .before .word-at .ensures, c .enum-told .given .1)

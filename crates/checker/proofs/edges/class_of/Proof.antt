@@ -1,3 +1,4 @@
+-- By whether the edge is taken.
 use borrow.Author.Needs.{needs}
 use Rattle.checker.proofs.edges.class_of.Statement.{statement}
 use Rattle.checker.proofs.edges.class_of.Tie as tie

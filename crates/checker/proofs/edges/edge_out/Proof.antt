@@ -1,5 +1,6 @@
-use Rattle.checker.specs.Passes.{edgeOf}
+-- By what the slot does to the row.
 use borrow.Author.Needs.{needs}
+use Rattle.checker.specs.Passes.{edgeOf}
 use Rattle.checker.proofs.edges.edge_out.Statement.{statement}
 use Rattle.checker.proofs.edges.edge_out.Tie as tie
 
@@ -32,7 +33,9 @@ refuse-requires c κs = search needs
 
 returns : tie.Need-returns
 unfolding edgeOf
-returns c = let x = c .before .before .before in rw (← x .before .before .change-at .ensures, x .register .given .1, ← c .before .row-with .ensures) (c .arrive-out .ensures)
+returns c =
+    let x = c .before .before .before in
+    rw (← x .before .before .change-at .ensures, x .register .given .1, ← c .before .row-with .ensures) (c .arrive-out .ensures)
 
 returns-2 : tie.Need-returns-2
 unfolding edgeOf
@@ -40,7 +43,9 @@ returns-2 c = rw (← c .before .before .before .change-at .ensures, c .before .
 
 returns-3 : tie.Need-returns-3
 unfolding edgeOf
-returns-3 c = let x = c .before .before in rw (← x .before .before .change-at .ensures, x .number .given .1) (c .refuse .ensures)
+returns-3 c =
+    let x = c .before .before in
+    rw (← x .before .before .change-at .ensures, x .number .given .1) (c .refuse .ensures)
 
 pub edge-out-spec : {M : Type 1} → statement M
 edge-out-spec =

@@ -1,6 +1,7 @@
+-- By whether the slot runs, and what it does to the row.
 use borrow.Author.Tests.{not-true, not-false}
-use Rattle.checker.specs.Passes.{edgeOf}
 use borrow.Author.Needs.{needs}
+use Rattle.checker.specs.Passes.{edgeOf}
 use Rattle.checker.proofs.edges.edge_to.Statement.{statement}
 use Rattle.checker.proofs.edges.edge_to.Tie as tie
 
@@ -9,7 +10,9 @@ arrive-at-requires c κs = search needs
 
 returns : tie.Need-returns
 unfolding edgeOf
-returns c = let a = c .before .before .before .before .args in rw (not-true (a .runs) (c .before .if1 .taken)) (c .arrive-at .ensures)
+returns c =
+    let a = c .before .before .before .before .args in
+    rw (not-true (a .runs) (c .before .if1 .taken)) (c .arrive-at .ensures)
 
 add-t15 : tie.Need-add-t15
 add-t15 c = search needs
@@ -40,15 +43,35 @@ refuse-requires c κs = search needs
 
 returns-2 : tie.Need-returns-2
 unfolding edgeOf
-returns-2 c = let x = c .before .before .before in let d = x .before .before in let i = d .before .before in rw (not-false (i .before .before .before .args .runs) (i .if1 .left), ← d .change-at .ensures, x .register .given .1, ← c .before .row-with .ensures) (c .arrive-at2 .ensures)
+returns-2 c =
+    let x = c .before .before .before in
+    let d = x .before .before in
+    let i = d .before .before in
+    rw (
+      not-false (i .before .before .before .args .runs) (i .if1 .left),
+      ← d .change-at .ensures,
+      x .register .given .1,
+      ← c .before .row-with .ensures,
+    ) (c .arrive-at2 .ensures)
 
 returns-3 : tie.Need-returns-3
 unfolding edgeOf
-returns-3 c = let d = c .before .before .before in let i = d .before .before in rw (not-false (i .before .before .before .args .runs) (i .if1 .left), ← d .change-at .ensures, c .before .enum-told .given .1) (c .arrive-at3 .ensures)
+returns-3 c =
+    let d = c .before .before .before in
+    let i = d .before .before in
+    rw (
+      not-false (i .before .before .before .args .runs) (i .if1 .left),
+      ← d .change-at .ensures,
+      c .before .enum-told .given .1,
+    ) (c .arrive-at3 .ensures)
 
 returns-4 : tie.Need-returns-4
 unfolding edgeOf
-returns-4 c = let x = c .before .before in let d = x .before .before in let i = d .before .before in rw (not-false (i .before .before .before .args .runs) (i .if1 .left), ← d .change-at .ensures, x .number .given .1) (c .refuse .ensures)
+returns-4 c =
+    let x = c .before .before in
+    let d = x .before .before in
+    let i = d .before .before in
+    rw (not-false (i .before .before .before .args .runs) (i .if1 .left), ← d .change-at .ensures, x .number .given .1) (c .refuse .ensures)
 
 pub edge-to-spec : {M : Type 1} → statement M
 edge-to-spec =

@@ -1,14 +1,15 @@
+-- Each instruction has its own edges; they end at words of the code, since the flow is right.
 use Prim.Native.Nat.{_+_, _*_, _≤_}
 use mathlib.Core.Path.{_≡_}
 use mathlib.Core.Bool.{true}
+use native.Mathlib.Omega.{arith}
 use lib.ListN.{length}
+use denote.Ref.{now}
+use borrow.Author.Needs.{needs}
 use Rattle.checker.specs.Routine.{rowBytes}
 use Rattle.checker.specs.Passes.{plainFlow, edgeOf, branchEdge, branchEdges}
 use Rattle.checker.specs.Lent.{codeOf}
 use Rattle.checker.proofs.Landing.{next-inside}
-use denote.Ref.{now}
-use native.Mathlib.Omega.{arith}
-use borrow.Author.Needs.{needs}
 use Rattle.checker.proofs.edges.edges_of.Statement.{statement}
 use Rattle.checker.proofs.edges.edges_of.Tie as tie
 
@@ -24,37 +25,49 @@ enum-told : tie.Need-enum-told
 enum-told c = search needs
 
 arrive-at-requires : tie.Need-arrive-at-requires
-arrive-at-requires c κs = let s = c .before .before .before .before .before .before in next s (rw (c .enum-told .given .1) at (s .pre .4))
+arrive-at-requires c κs =
+    let s = c .before .before .before .before .before .before in
+    next s (rw (c .enum-told .given .1) at (s .pre .4))
 
 enum-known-x : tie.Need-enum-known-x
 enum-known-x c = search needs
 
 branch-edges-requires : tie.Need-branch-edges-requires
-branch-edges-requires c κs = let pre = c .before .before .before .before .before .before .before .pre in (pre .0, pre .1, rw (c .before .x .given .1) at (pre .4))
+branch-edges-requires c κs =
+    let pre = c .before .before .before .before .before .before .before .pre in
+    (pre .0, pre .1, rw (c .before .x .given .1) at (pre .4))
 
 enum-told-2 : tie.Need-enum-told-2
 enum-told-2 c = search needs
 
 arrive-at-requires-2 : tie.Need-arrive-at-requires-2
-arrive-at-requires-2 c κs = let s = c .before .before .before .before .before .before in next s (rw (c .enum-told2 .given .1) at (s .pre .4))
+arrive-at-requires-2 c κs =
+    let s = c .before .before .before .before .before .before in
+    next s (rw (c .enum-told2 .given .1) at (s .pre .4))
 
 enum-told-3 : tie.Need-enum-told-3
 enum-told-3 c = search needs
 
 arrive-at-requires-3 : tie.Need-arrive-at-requires-3
-arrive-at-requires-3 c κs = let s = c .before .before .before .before .before .before in next s (rw (c .enum-told3 .given .1) at (s .pre .4))
+arrive-at-requires-3 c κs =
+    let s = c .before .before .before .before .before .before in
+    next s (rw (c .enum-told3 .given .1) at (s .pre .4))
 
 enum-told-4 : tie.Need-enum-told-4
 enum-told-4 c = search needs
 
 arrive-at-requires-4 : tie.Need-arrive-at-requires-4
-arrive-at-requires-4 c κs = let s = c .before .before .before .before .before .before in next s (rw (c .enum-told4 .given .1) at (s .pre .4))
+arrive-at-requires-4 c κs =
+    let s = c .before .before .before .before .before .before in
+    next s (rw (c .enum-told4 .given .1) at (s .pre .4))
 
 enum-told-5 : tie.Need-enum-told-5
 enum-told-5 c = search needs
 
 arrive-at-requires-5 : tie.Need-arrive-at-requires-5
-arrive-at-requires-5 c κs = let s = c .before .before .before .before .before .before in next s (rw (c .enum-told5 .given .1) at (s .pre .4))
+arrive-at-requires-5 c κs =
+    let s = c .before .before .before .before .before .before in
+    next s (rw (c .enum-told5 .given .1) at (s .pre .4))
 
 enum-told-6 : tie.Need-enum-told-6
 enum-told-6 c = search needs

@@ -1,6 +1,7 @@
+-- By whether the note is a comparison, and what it leaves of the register's entry.
 use borrow.Author.Tests.{ne-eqb, eq-eqb}
-use Rattle.rules.specs.Narrow.{narrowRow}
 use borrow.Author.Needs.{needs}
+use Rattle.rules.specs.Narrow.{narrowRow}
 use Rattle.checker.proofs.edges.narrowed_edge.Statement.{statement}
 use Rattle.checker.proofs.edges.narrowed_edge.Tie as tie
 
@@ -34,11 +35,27 @@ accept-requires c κs = search needs
 
 returns-2 : tie.Need-returns-2
 unfolding narrowRow
-returns-2 c = let x = c .before .before .before in let n = x .before .before in rw (eq-eqb _ 2 (n .before .before .if1 .left), ← n .before .entry-at .ensures, ← n .narrow-entry .ensures, x .e .given .1, ← c .before .row-with .ensures) (c .edge-to2 .ensures)
+returns-2 c =
+    let x = c .before .before .before in
+    let n = x .before .before in
+    rw (
+      eq-eqb _ 2 (n .before .before .if1 .left),
+      ← n .before .entry-at .ensures,
+      ← n .narrow-entry .ensures,
+      x .e .given .1,
+      ← c .before .row-with .ensures,
+    ) (c .edge-to2 .ensures)
 
 returns-3 : tie.Need-returns-3
 unfolding narrowRow
-returns-3 c = let n = c .before .before .before in rw (eq-eqb _ 2 (n .before .before .if1 .left), ← n .before .entry-at .ensures, ← n .narrow-entry .ensures, c .before .enum-told .given .1) (c .accept .ensures)
+returns-3 c =
+    let n = c .before .before .before in
+    rw (
+      eq-eqb _ 2 (n .before .before .if1 .left),
+      ← n .before .entry-at .ensures,
+      ← n .narrow-entry .ensures,
+      c .before .enum-told .given .1,
+    ) (c .accept .ensures)
 
 pub narrowed-edge-spec : {M : Type 1} → statement M
 narrowed-edge-spec =

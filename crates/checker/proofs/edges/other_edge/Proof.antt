@@ -1,9 +1,10 @@
-use Rattle.checker.proofs.Landing.{other-inside}
-use denote.Ref.{now}
-use native.Mathlib.Omega.{arith}
+-- By whether there is such an edge; it ends at a word of the code, since the flow is right.
 use mathlib.Core.Path.{sym, _∙_}
+use native.Mathlib.Omega.{arith}
+use denote.Ref.{now}
 use borrow.Author.Tests.{not-true, not-false}
 use borrow.Author.Needs.{needs}
+use Rattle.checker.proofs.Landing.{other-inside}
 use Rattle.checker.proofs.edges.other_edge.Statement.{statement}
 use Rattle.checker.proofs.edges.other_edge.Tie as tie
 
@@ -17,7 +18,10 @@ returns : tie.Need-returns
 returns c = rw (sym (c .before .before .has-other .ensures) ∙ not-true _ (c .before .if1 .taken)) (c .accept .ensures)
 
 branch-edge-requires : tie.Need-branch-edge-requires
-branch-edge-requires c κs = let s = c .before .before .before .before in let there = other-inside (now (s .args .words)) (s .args .at .0) (s .args .condition) (s .args .distance .0) (s .pre .2) (sym (c .before .has-other .ensures) ∙ not-false _ (c .if1 .left)) in (s .pre .0, omega (arith, s .pre .1, there))
+branch-edge-requires c κs =
+    let s = c .before .before .before .before in
+    let there = other-inside (now (s .args .words)) (s .args .at .0) (s .args .condition) (s .args .distance .0) (s .pre .2) (sym (c .before .has-other .ensures) ∙ not-false _ (c .if1 .left)) in
+    (s .pre .0, omega (arith, s .pre .1, there))
 
 returns-2 : tie.Need-returns-2
 returns-2 c = rw (sym (c .before .before .has-other .ensures) ∙ not-false _ (c .before .if1 .left)) (c .branch-edge .ensures)

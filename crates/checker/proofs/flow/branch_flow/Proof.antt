@@ -1,3 +1,4 @@
+-- The tests of the definition.
 use borrow.Author.Needs.{needs}
 use Rattle.checker.proofs.flow.branch_flow.Statement.{statement}
 use Rattle.checker.proofs.flow.branch_flow.Tie as tie
@@ -24,7 +25,17 @@ has-taken-requires : tie.Need-has-taken-requires
 has-taken-requires c κs = search needs
 
 returns : tie.Need-returns
-returns c = let l = c .before .before in let i = l .before .before in rw (c .has-taken .ensures, c .before .has-other .ensures, l .lands-at .ensures, l .before .target .ensures, i .inside .ensures, i .before .before .transfer-flow .ensures)
+returns c =
+    let l = c .before .before in
+    let i = l .before .before in
+    rw (
+      c .has-taken .ensures,
+      c .before .has-other .ensures,
+      l .lands-at .ensures,
+      l .before .target .ensures,
+      i .inside .ensures,
+      i .before .before .transfer-flow .ensures,
+    )
 
 pub branch-flow-spec : {M : Type 1} → statement M
 branch-flow-spec =

@@ -1,5 +1,6 @@
-use Rattle.checker.specs.Passes.{flowPass}
+-- By what the word is read as.
 use borrow.Author.Needs.{needs}
+use Rattle.checker.specs.Passes.{flowPass}
 use Rattle.checker.proofs.flow.flow_at.Statement.{statement}
 use Rattle.checker.proofs.flow.flow_at.Tie as tie
 
@@ -23,7 +24,9 @@ accept-requires c κs = search needs
 
 returns : tie.Need-returns
 unfolding flowPass
-returns c = let x = c .before .before .before in rw (← x .before .before .word-at .ensures, x .x .given .1, ← c .before .instruction-flow .ensures) (c .need .ensures)
+returns c =
+    let x = c .before .before .before in
+    rw (← x .before .before .word-at .ensures, x .x .given .1, ← c .before .instruction-flow .ensures) (c .need .ensures)
 
 returns-2 : tie.Need-returns-2
 unfolding flowPass

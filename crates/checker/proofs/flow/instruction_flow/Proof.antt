@@ -1,3 +1,4 @@
+-- Each instruction has its own flow.
 use borrow.Author.Needs.{needs}
 use Rattle.checker.proofs.flow.instruction_flow.Statement.{statement}
 use Rattle.checker.proofs.flow.instruction_flow.Tie as tie

@@ -1,3 +1,4 @@
+-- The two tests of the definition.
 use borrow.Author.Needs.{needs}
 use Rattle.checker.proofs.flow.plain_flow.Statement.{statement}
 use Rattle.checker.proofs.flow.plain_flow.Tie as tie

@@ -1,5 +1,6 @@
-use Rattle.checker.specs.Passes.{entryPass}
+-- The lowest misfit of the entry row and row 0.
 use borrow.Author.Needs.{needs}
+use Rattle.checker.specs.Passes.{entryPass}
 use Rattle.checker.proofs.passes.entry_pass.Statement.{statement}
 use Rattle.checker.proofs.passes.entry_pass.Tie as tie
 

@@ -1,3 +1,4 @@
+-- By what the instruction does to the row.
 use borrow.Author.Needs.{needs}
 use Rattle.checker.proofs.passes.instruction_in.Statement.{statement}
 use Rattle.checker.proofs.passes.instruction_in.Tie as tie
@@ -27,13 +28,17 @@ refuse-requires : tie.Need-refuse-requires
 refuse-requires c κs = search needs
 
 returns : tie.Need-returns
-returns c = let x = c .before .before .before in rw (← x .before .before .change-of .ensures, x .register .given .1, ← c .before .row-with .ensures) (c .edges-of .ensures)
+returns c =
+    let x = c .before .before .before in
+    rw (← x .before .before .change-of .ensures, x .register .given .1, ← c .before .row-with .ensures) (c .edges-of .ensures)
 
 returns-2 : tie.Need-returns-2
 returns-2 c = rw (← c .before .before .before .change-of .ensures, c .before .enum-told .given .1) (c .edges-of2 .ensures)
 
 returns-3 : tie.Need-returns-3
-returns-3 c = let x = c .before .before in rw (← x .before .before .change-of .ensures, x .number .given .1) (c .refuse .ensures)
+returns-3 c =
+    let x = c .before .before in
+    rw (← x .before .before .change-of .ensures, x .number .given .1) (c .refuse .ensures)
 
 pub instruction-in-spec : {M : Type 1} → statement M
 instruction-in-spec =

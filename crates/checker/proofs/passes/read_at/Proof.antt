@@ -1,5 +1,6 @@
-use Rattle.checker.specs.Passes.{readPass}
+-- By what the word is read as.
 use borrow.Author.Needs.{needs}
+use Rattle.checker.specs.Passes.{readPass}
 use Rattle.checker.proofs.passes.read_at.Statement.{statement}
 use Rattle.checker.proofs.passes.read_at.Tie as tie
 

@@ -1,13 +1,12 @@
-use Rattle.checker.specs.Lent.{codeOf}
-use Rattle.checker.specs.Passes.{flowOf}
-use mathlib.Core.Path.{ap}
-use Rattle.v8.specs.declared.Reading.{Reading}
-use denote.Ref.{now}
-use Rattle.checker.specs.Passes.{wordPass}
+-- By whether the word is a slot, and what it is read as.
+use mathlib.Core.Path.{sym, ap, _∙_}
 use native.Mathlib.Omega.{arith}
-use mathlib.Core.Path.{sym, _∙_}
+use denote.Ref.{now}
 use borrow.Author.Tests.{not-true, not-false}
 use borrow.Author.Needs.{needs}
+use Rattle.v8.specs.declared.Reading.{Reading}
+use Rattle.checker.specs.Lent.{codeOf}
+use Rattle.checker.specs.Passes.{flowOf, wordPass}
 use Rattle.checker.proofs.passes.word_in.Statement.{statement}
 use Rattle.checker.proofs.passes.word_in.Tie as tie
 
@@ -31,7 +30,16 @@ enum-known-x : tie.Need-enum-known-x
 enum-known-x c = search needs
 
 instruction-in-requires : tie.Need-instruction-in-requires
-instruction-in-requires c κs = let d = c .before .before .before in let i = d .before .before in let s = i .before .before .before .before .before in (omega (arith, s .pre .0, s .pre .3), s .pre .1, s .pre .2, sym (i .before .examined .ensures) ∙ not-false _ (i .if1 .left), ap (λ (x : Reading). flowOf (codeOf (now (s .args .words))) (s .args .at .0) x) (sym (c .before .x .given .1) ∙ d .word-at .ensures) ∙ s .pre .4)
+instruction-in-requires c κs =
+    let d = c .before .before .before in
+    let i = d .before .before in
+    let s = i .before .before .before .before .before in (
+      omega (arith, s .pre .0, s .pre .3),
+      s .pre .1,
+      s .pre .2,
+      sym (i .before .examined .ensures) ∙ not-false _ (i .if1 .left),
+      ap (λ (x : Reading). flowOf (codeOf (now (s .args .words))) (s .args .at .0) x) (sym (c .before .x .given .1) ∙ d .word-at .ensures) ∙ s .pre .4,
+    )
 
 enum-told : tie.Need-enum-told
 enum-told c = search needs
@@ -41,11 +49,27 @@ refuse-requires c κs = search needs
 
 returns-2 : tie.Need-returns-2
 unfolding wordPass
-returns-2 c = let x = c .before .before in let d = x .before .before in let i = d .before .before in rw (sym (i .before .examined .ensures) ∙ not-false _ (i .if1 .left), ← d .word-at .ensures, x .x .given .1, ← d .before .row-at .ensures) (c .instruction-in .ensures)
+returns-2 c =
+    let x = c .before .before in
+    let d = x .before .before in
+    let i = d .before .before in
+    rw (
+      sym (i .before .examined .ensures) ∙ not-false _ (i .if1 .left),
+      ← d .word-at .ensures,
+      x .x .given .1,
+      ← d .before .row-at .ensures,
+    ) (c .instruction-in .ensures)
 
 returns-3 : tie.Need-returns-3
 unfolding wordPass
-returns-3 c = let d = c .before .before .before in let i = d .before .before in rw (sym (i .before .examined .ensures) ∙ not-false _ (i .if1 .left), ← d .word-at .ensures, c .before .enum-told .given .1) (c .refuse .ensures)
+returns-3 c =
+    let d = c .before .before .before in
+    let i = d .before .before in
+    rw (
+      sym (i .before .examined .ensures) ∙ not-false _ (i .if1 .left),
+      ← d .word-at .ensures,
+      c .before .enum-told .given .1,
+    ) (c .refuse .ensures)
 
 pub word-in-spec : {M : Type 1} → statement M
 word-in-spec =

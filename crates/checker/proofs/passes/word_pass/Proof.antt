@@ -24,7 +24,7 @@ loop-holds : tie.Need-loop-holds Inv-loop μ-loop
 loop-holds c = (omega arith, pass-start _ _)
 
 word-in-requires : tie.Need-word-in-requires Inv-loop μ-loop
-word-in-requires c κs = 
+word-in-requires c κs =
     let s = c .before .before .before .before .before .before .before in
     let t = codeOf (now (s .args .words)) in
     let flows = each-passes (flowPass t) _ (s .pre .4) _ (c .if1 .taken) in

@@ -1,3 +1,4 @@
+-- A word that is no slot.
 use borrow.Author.Needs.{needs}
 use Rattle.checker.proofs.words.examined.Statement.{statement}
 use Rattle.checker.proofs.words.examined.Tie as tie

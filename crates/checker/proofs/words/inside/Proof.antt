@@ -1,7 +1,8 @@
-use Rattle.v8.specs.Read.{readingOf}
-use denote.Ref.{now}
+-- The words that are read are as many as those handed in.
 use lib.ListN.{length-map}
+use denote.Ref.{now}
 use borrow.Author.Needs.{needs}
+use Rattle.v8.specs.Read.{readingOf}
 use Rattle.checker.proofs.words.inside.Statement.{statement}
 use Rattle.checker.proofs.words.inside.Tie as tie
 

@@ -1,6 +1,7 @@
-use Rattle.checker.specs.Routine.{isSlot}
-use Rattle.v8.specs.Choice.{tests}
+-- Word 0 is no slot; another one is one by the word before it.
 use borrow.Author.Needs.{needs}
+use Rattle.v8.specs.Choice.{tests}
+use Rattle.checker.specs.Routine.{isSlot}
 use Rattle.checker.proofs.words.is_slot.Statement.{statement}
 use Rattle.checker.proofs.words.is_slot.Tie as tie
 
