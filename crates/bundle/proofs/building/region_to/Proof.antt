@@ -1,0 +1,19 @@
+use borrow.Author.Needs.{needs}
+use Rattle.v8.specs.Choice.{tests}
+use Rattle.bundle.specs.Bundle.{regionTo}
+use Rattle.bundle.proofs.building.region_to.Statement.{statement}
+use Rattle.bundle.proofs.building.region_to.Tie as tie
+
+add-region-requires : tie.Need-add-region-requires
+add-region-requires c κs = search needs
+
+returns : tie.Need-returns
+unfolding regionTo
+returns c = search (tests, c .add-region .ensures)
+
+returns-2 : tie.Need-returns-2
+unfolding regionTo
+returns-2 c = search tests
+
+pub region-to-spec : {M : Type 1} → statement M
+region-to-spec = tie.close (tie.spec add-region-requires returns returns-2)

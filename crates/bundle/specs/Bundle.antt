@@ -1,0 +1,68 @@
+-- The answer to a bundle (document 01, "Bundle"): "23 ..; then the add refusals, then the check's"; "All regions are added before fields."
+use Prim.Native.Nat.{ℕ, zero, suc, _+_, _*_}
+use mathlib.Core.Bool.{cond}
+use mathlib.Core.List.{List, [], _∷_}
+use lib.Dec.{eqb}
+use lib.ListN.{take, drop}
+use Rattle.memory.specs.Memory.{wordAt}
+use Rattle.policy.specs.declared.Policy.{Policy}
+use Rattle.policy.specs.declared.Field.{Field}
+use Rattle.policy.specs.declared.Built.{Built}
+use Rattle.policy.specs.Build.{emptyPolicy, addRegionOf, addFieldOf}
+use Rattle.checker.specs.declared.Answer.{Answer}
+use Rattle.checker.specs.Answer.{refuse}
+use Rattle.checker.specs.Passes.{checkOf}
+use Rattle.bundle.specs.Layout.{regionCount, wordCount, regionSize, fieldCount, fieldsBefore, fieldRead, entryPlace, resultPlace, wordsPlace, rowsPlace, bundleOk, rowBytes, entryBytes, wordBytes}
+
+-- "23"
+abbrev pub badBundle : ℕ
+badBundle = 23
+
+-- an add, unless an earlier one was refused
+unfoldable pub regionTo : Built → ℕ → Built
+regionTo built size = cond (eqb (built .number) 0) (addRegionOf (built .policy) size) built
+
+unfoldable pub fieldTo : Built → ℕ → Field → Built
+fieldTo built r f = cond (eqb (built .number) 0) (addFieldOf (built .policy) r f) built
+
+-- the n words from a place on
+abbrev pub wordsFrom : List ℕ → ℕ → ℕ → List ℕ
+wordsFrom b at zero = []
+wordsFrom b at (suc n) = wordAt b at ∷ wordsFrom b (at + wordBytes) n
+
+-- n bytes from a place on
+abbrev pub part : List ℕ → ℕ → ℕ → List ℕ
+part b at n = take n (drop at b)
+
+module _ (b : List ℕ) where
+  -- what the adds of the first n regions give
+  unfoldable pub withRegions : ℕ → Built
+  withRegions zero = record { policy = emptyPolicy; number = 0 }
+  withRegions (suc n) = regionTo (withRegions n) (regionSize b n)
+
+  -- what the adds of region r's first n fields give, after others
+  unfoldable pub withFieldsOf : ℕ → Built → ℕ → Built
+  withFieldsOf r built zero = built
+  withFieldsOf r built (suc n) = fieldTo (withFieldsOf r built n) r (fieldRead b (fieldsBefore b r + n))
+
+  -- what the adds of the fields of the first n regions give, after all the regions
+  unfoldable pub withFields : ℕ → Built
+  withFields zero = withRegions (regionCount b)
+  withFields (suc n) = withFieldsOf n (withFields n) (fieldCount b n)
+
+  -- the bundle's policy, or the first refusal of an add
+  abbrev pub builtOf : Built
+  builtOf = withFields (regionCount b)
+
+  -- the check of what stands in the bundle
+  abbrev pub checkedWith : Policy → Answer
+  checkedWith p =
+      checkOf p (wordsFrom b (wordsPlace b) (wordCount b)) (part b (rowsPlace b) (rowBytes * wordCount b)) (part b (entryPlace b) rowBytes)
+      (part b (resultPlace b) entryBytes)
+
+  abbrev pub afterBuilt : Built → Answer
+  afterBuilt built = cond (eqb (built .number) 0) (checkedWith (built .policy)) (refuse (built .number) 0 0)
+
+  -- the answer
+  unfoldable pub bundleAnswer : Answer
+  bundleAnswer = cond (bundleOk b) (afterBuilt builtOf) (refuse badBundle 0 0)
