@@ -1,6 +1,6 @@
 // Where the parts of a bundle stand, and whether bytes are a bundle (specs/Layout.antt).
 ghost use mathlib.Core.Path.{_≡_};
-ghost use Prim.Native.Nat.{_≤_, _<_};
+ghost use Prim.Native.Nat.{_*_, _≤_, _<_};
 ghost use Rattle.v8.specs.Search.{all};
 ghost use Rattle.bundle.specs.Layout.{regionCount, wordCount, fieldCount, regionZero, fieldsBefore, fieldTotal, fieldPlace, fieldZero, entryPlace, lengthGiven, headOk, bundleOk};
 use crate::reading::byte_at;
@@ -12,10 +12,15 @@ const MOST: usize = 53180;
 const VERSION: u16 = 1;
 // How many bytes the parts take: the head, a region, a field, a row, an entry, a word.
 pub const HEAD_BYTES: usize = 8;
+
 pub const REGION_BYTES: usize = 4;
+
 pub const FIELD_BYTES: usize = 16;
+
 pub const ROW_BYTES: usize = 392;
+
 pub const ENTRY_BYTES: usize = 12;
+
 pub const WORD_BYTES: usize = 4;
 
 // How many regions there are.
@@ -51,7 +56,7 @@ fn region_zero(bytes: &[u8], region: usize) -> bool
 // How many fields the first n regions have together.
 pub fn fields_before(bytes: &[u8], n: usize) -> usize
     requires { ⌜ n < 256 ⌝ }
-    ensures { λ r. ⌜ (r ≡ fieldsBefore (now (bytes .entry)) n) × (r ≤ 65025) ⌝ }
+    ensures { λ r. ⌜ (r ≡ fieldsBefore (now (bytes .entry)) n) × (r ≤ 255 * n) ⌝ }
 {
     let mut sum = 0;
     let mut i = 0;

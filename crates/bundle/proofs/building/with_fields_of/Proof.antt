@@ -1,61 +1,61 @@
+-- `with_fields_of` meets its contract. Invariant: the region's fields below i are added. Measure: the fields left.
+use Prim.Native.Nat.{_≤_, _-_}
+use mathlib.Core.Path.{_≡_, sym, ap, _∙_}
+use native.Mathlib.Nat.{le-antisymm}
+use borrow.Author.Needs.{needs}
+use Rattle.bundle.specs.Bundle.{withFieldsOf}
+use Rattle.bundle.proofs.Next.{fields-of-first, fields-of-next}
 use Rattle.bundle.proofs.building.with_fields_of.Statement.{statement}
 use Rattle.bundle.proofs.building.with_fields_of.Tie as tie
-use Rattle.bundle.proofs.building.with_fields_of.Reads as reads
-use Rattle.bundle.proofs.building.with_fields_of.Lts as lts
-use Rattle.bundle.proofs.building.field_read.Reads as field-read-reads
-use Rattle.bundle.proofs.building.field_to.Reads as field-to-reads
-use Rattle.bundle.proofs.layout.field_count.Reads as field-count-reads
-use Rattle.bundle.proofs.layout.fields_before.Reads as fields-before-reads
 
 abbrev Inv-loop : tie.InvT-loop
-Inv-loop bytes region first count built₀ i₀ built i = ?
+Inv-loop bytes region first count built₀ i₀ built i = (i ≤ count) × (built ≡ withFieldsOf bytes region built₀ i)
 
 abbrev μ-loop : tie.MeasureT-loop
-μ-loop bytes region first count built₀ i₀ built i = ?
+μ-loop bytes region first count built₀ i₀ built i = count - i
 
--- src/building.rt:98:9
 fields-before-requires : tie.Need-fields-before-requires Inv-loop μ-loop
-fields-before-requires c κs = ?
+fields-before-requires c κs = search needs
 
--- src/building.rt:99:9
 field-count-requires : tie.Need-field-count-requires Inv-loop μ-loop
-field-count-requires c κs = ?
+field-count-requires c κs = search needs
 
--- src/building.rt:102:5
 loop-holds : tie.Need-loop-holds Inv-loop μ-loop
-loop-holds c = ?
+loop-holds c = (search needs, sym (fields-of-first _ _ _))
 
--- src/building.rt:103:33
 cast-field-to : tie.Need-cast-field-to Inv-loop μ-loop
-cast-field-to c = ?
+cast-field-to c = search needs
 
--- src/building.rt:103:65
 add-field-read : tie.Need-add-field-read Inv-loop μ-loop
-add-field-read c = ?
+add-field-read c = search needs
 
--- src/building.rt:103:47
 field-read-requires : tie.Need-field-read-requires Inv-loop μ-loop
-field-read-requires c κs = ?
+field-read-requires c κs = search needs
 
--- src/building.rt:103:9
 field-to-requires : tie.Need-field-to-requires Inv-loop μ-loop
-field-to-requires c κs = ?
+field-to-requires c κs = search needs
 
--- src/building.rt:104:9
 add-i : tie.Need-add-i Inv-loop μ-loop
-add-i c = ?
+add-i c = search needs
 
--- src/building.rt:102:5
 loop-less : tie.Need-loop-less Inv-loop μ-loop
-loop-less c = ?
+loop-less c = search needs
 
--- src/building.rt:102:5
 loop-again : tie.Need-loop-again Inv-loop μ-loop
-loop-again c = ?
+loop-again c = (
+      search needs,
+      c .field-to .ensures
+      ∙ rw (
+        fields-of-next,
+        c .before .before .before .loop .inv .1,
+        c .before .field-read .ensures,
+        c .before .before .before .before .before .fields-before .ensures .0,
+      ),
+    )
 
--- src/building.rt:94:1
 returns : tie.Need-returns Inv-loop μ-loop
-returns c = ?
+returns c = let e = le-antisymm (c .before .loop .inv .0) (c .loop-test .left) in
+    c .before .loop .inv .1 ∙ ap (withFieldsOf _ _ _) (e ∙ c .before .before .field-count .ensures .0)
 
 pub with-fields-of-spec : {M : Type 1} → statement M
 with-fields-of-spec =

@@ -1,8 +1,9 @@
+-- `with_regions` meets its contract. Invariant: the regions below i are added. Measure: the regions left.
 use Prim.Native.Nat.{_≤_, _-_}
-use mathlib.Core.Path.{_≡_, sym, ap, _∙_}
+use mathlib.Core.Path.{_≡_, ap, _∙_}
 use native.Mathlib.Nat.{le-antisymm}
 use borrow.Author.Needs.{needs}
-use Rattle.bundle.specs.Bundle.{regionTo, withRegions}
+use Rattle.bundle.specs.Bundle.{withRegions}
 use Rattle.bundle.proofs.Next.{regions-first, regions-next}
 use Rattle.bundle.proofs.building.with_regions.Statement.{statement}
 use Rattle.bundle.proofs.building.with_regions.Tie as tie
@@ -38,7 +39,8 @@ loop-again : tie.Need-loop-again Inv-loop μ-loop
 loop-again c = (search needs, c .region-to .ensures ∙ rw (regions-next, c .before .before .before .loop .inv .1, c .before .region-size .ensures))
 
 returns : tie.Need-returns Inv-loop μ-loop
-returns c = c .before .loop .inv .1 ∙ ap (withRegions _) (le-antisymm (c .before .loop .inv .0) (c .loop-test .left) ∙ c .before .before .before .region-count .ensures .0)
+returns c = let e = le-antisymm (c .before .loop .inv .0) (c .loop-test .left) in
+    c .before .loop .inv .1 ∙ ap (withRegions _) (e ∙ c .before .before .before .region-count .ensures .0)
 
 pub with-regions-spec : {M : Type 1} → statement M
 with-regions-spec =

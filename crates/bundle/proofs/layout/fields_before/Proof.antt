@@ -1,3 +1,5 @@
+-- `fields_before` meets its contract. Invariant: the sum is that of the regions below i, none of which has more than 255. Measure:
+-- the regions left.
 use Prim.Native.Nat.{_≤_, _-_, _*_}
 use mathlib.Core.Path.{_≡_, sym, ap, _∙_}
 use native.Mathlib.Nat.{le-antisymm}

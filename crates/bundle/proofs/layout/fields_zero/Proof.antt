@@ -1,47 +1,46 @@
+-- `fields_zero` meets its contract. Invariant: the zeros of the fields below i are zero. Measure: the fields left.
+use Prim.Native.Nat.{_≤_, _-_}
+use mathlib.Core.Bool.{true, false}
+use mathlib.Core.Path.{_≡_, sym, ap, _∙_}
+use native.Mathlib.Nat.{le-antisymm}
+use borrow.Author.Needs.{needs}
+use borrow.Author.Tests.{not-true, not-false}
+use Rattle.v8.specs.Search.{all, all-none, all-more, all-not}
+use Rattle.bundle.specs.Layout.{fieldZero}
 use Rattle.bundle.proofs.layout.fields_zero.Statement.{statement}
 use Rattle.bundle.proofs.layout.fields_zero.Tie as tie
-use Rattle.bundle.proofs.layout.fields_zero.Reads as reads
-use Rattle.bundle.proofs.layout.fields_zero.Lts as lts
-use Rattle.bundle.proofs.layout.field_total.Reads as field-total-reads
-use Rattle.bundle.proofs.layout.field_zero.Reads as field-zero-reads
 
 abbrev Inv-loop : tie.InvT-loop
-Inv-loop bytes count i₀ i = ?
+Inv-loop bytes count i₀ i = (i ≤ count) × (all (fieldZero bytes) i ≡ true)
 
 abbrev μ-loop : tie.MeasureT-loop
-μ-loop bytes count i₀ i = ?
+μ-loop bytes count i₀ i = count - i
 
--- src/layout.rt:133:9
 field-total-requires : tie.Need-field-total-requires Inv-loop μ-loop
-field-total-requires c κs = ?
+field-total-requires c κs = search needs
 
--- src/layout.rt:135:5
 loop-holds : tie.Need-loop-holds Inv-loop μ-loop
-loop-holds c = ?
+loop-holds c = (search needs, all-none _)
 
--- src/layout.rt:136:13
 field-zero-requires : tie.Need-field-zero-requires Inv-loop μ-loop
-field-zero-requires c κs = ?
+field-zero-requires c κs = search needs
 
--- src/layout.rt:137:13
 returns : tie.Need-returns Inv-loop μ-loop
-returns c = ?
+returns c = let e = sym (c .before .field-zero .ensures) ∙ not-true _ (c .if1 .taken) in
+    rw (← c .before .before .before .before .field-total .ensures .0) (sym (all-not _ _ _ (c .before .before .loop-test .taken) e))
 
--- src/layout.rt:139:9
 add-i : tie.Need-add-i Inv-loop μ-loop
-add-i c = ?
+add-i c = search needs
 
--- src/layout.rt:135:5
 loop-less : tie.Need-loop-less Inv-loop μ-loop
-loop-less c = ?
+loop-less c = search needs
 
--- src/layout.rt:135:5
 loop-again : tie.Need-loop-again Inv-loop μ-loop
-loop-again c = ?
+loop-again c = (search needs, all-more _ _ (c .before .before .before .loop .inv .1) (sym (c .before .field-zero .ensures) ∙ not-false _ (c .if1 .left)))
 
--- src/layout.rt:130:1
 returns-2 : tie.Need-returns-2 Inv-loop μ-loop
-returns-2 c = ?
+returns-2 c = let e = le-antisymm (c .loop-test .left) (c .before .loop .inv .0) in
+    sym (ap (all _) (sym (c .before .before .field-total .ensures .0) ∙ e) ∙ c .before .loop .inv .1)
 
 pub fields-zero-spec : {M : Type 1} → statement M
 fields-zero-spec =

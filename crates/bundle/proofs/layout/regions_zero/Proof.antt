@@ -1,3 +1,4 @@
+-- `regions_zero` meets its contract. Invariant: the zeros of the regions below i are zero. Measure: the regions left.
 use Prim.Native.Nat.{_≤_, _-_}
 use mathlib.Core.Bool.{true, false}
 use mathlib.Core.Path.{_≡_, sym, ap, _∙_}
@@ -25,7 +26,8 @@ region-zero-requires : tie.Need-region-zero-requires Inv-loop μ-loop
 region-zero-requires c κs = search needs
 
 returns : tie.Need-returns Inv-loop μ-loop
-returns c = let e = sym (c .before .region-zero .ensures) ∙ not-true _ (c .if1 .taken) in rw (← c .before .before .before .before .region-count .ensures .0) (sym (all-not _ _ _ (c .before .before .loop-test .taken) e))
+returns c = let e = sym (c .before .region-zero .ensures) ∙ not-true _ (c .if1 .taken) in
+    rw (← c .before .before .before .before .region-count .ensures .0) (sym (all-not _ _ _ (c .before .before .loop-test .taken) e))
 
 add-i : tie.Need-add-i Inv-loop μ-loop
 add-i c = search needs
@@ -37,7 +39,8 @@ loop-again : tie.Need-loop-again Inv-loop μ-loop
 loop-again c = (search needs, all-more _ _ (c .before .before .before .loop .inv .1) (sym (c .before .region-zero .ensures) ∙ not-false _ (c .if1 .left)))
 
 returns-2 : tie.Need-returns-2 Inv-loop μ-loop
-returns-2 c = sym (ap (all _) (sym (c .before .before .region-count .ensures .0) ∙ le-antisymm (c .loop-test .left) (c .before .loop .inv .0)) ∙ c .before .loop .inv .1)
+returns-2 c = let e = le-antisymm (c .loop-test .left) (c .before .loop .inv .0) in
+    sym (ap (all _) (sym (c .before .before .region-count .ensures .0) ∙ e) ∙ c .before .loop .inv .1)
 
 pub regions-zero-spec : {M : Type 1} → statement M
 regions-zero-spec =
