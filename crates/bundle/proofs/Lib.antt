@@ -1,1 +1,4 @@
 pub mod Next
+pub mod Words
+pub mod Sizes
+pub mod Lent

@@ -7,3 +7,7 @@ mod reading;
 mod layout;
 // The bundle's policy.
 mod building;
+// The answer to a bundle.
+mod answering;
+
+pub use answering::answer;

@@ -43,15 +43,15 @@ loop-less c = search needs
 
 loop-again : tie.Need-loop-again Inv-loop μ-loop
 loop-again c = (
-      search needs,
-      c .field-to .ensures
+  search needs,
+  c .field-to .ensures
       ∙ rw (
         fields-of-next,
         c .before .before .before .loop .inv .1,
         c .before .field-read .ensures,
         c .before .before .before .before .before .fields-before .ensures .0,
       ),
-    )
+)
 
 returns : tie.Need-returns Inv-loop μ-loop
 returns c = let e = le-antisymm (c .before .loop .inv .0) (c .loop-test .left) in
