@@ -17,4 +17,4 @@ module _ (b : List ℕ) (p : Policy) where
       (ws : List ℕ) (entry n : ℕ) → let result = entry + rowBytes in let start = result + entryBytes in let rows = start + wordBytes * n in
       entry ≡ entryPlace b → n ≡ wordCount b → ws ≡ wordsFrom b start n
       → checkOf p ws (part b rows (rows + rowBytes * n - rows)) (part b entry (result - entry)) (part b result (start - result)) ≡ checkedWith b p
-  same-check ws entry n e f g = rw (g, e, f, between, between, between)
+  same-check ws entry n e f g = rw (g, e, f) (simp between)

@@ -25,7 +25,7 @@ module _ (b : List ℕ) where
 
   pub regions-next : (i : ℕ) → withRegions b (i + 1) ≡ regionTo (withRegions b i) (regionSize b i)
   unfolding withRegions
-  regions-next i = rw add-one
+  regions-next i = rw (add-one i)
 
   -- the adds of none of a region's fields, and of one more
   pub fields-of-first : (r : ℕ) (built : Built) → withFieldsOf b r built 0 ≡ built
