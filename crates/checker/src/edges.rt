@@ -248,37 +248,16 @@ pub fn edges_of(
 {
     let next = WordIndex(at.0 + 1);
     match x {
-        Instruction::Sethi { rd: _, imm22: _ } => arrive_at(rows, at, next, row),
+        Instruction::Sethi { .. } => arrive_at(rows, at, next, row),
         Instruction::Bicc {
             annul,
             cond,
             distance,
         } => branch_edges(policy, words, rows, at, annul, cond, distance, row),
-        Instruction::Alu {
-            op: _,
-            cc: _,
-            rd: _,
-            rs1: _,
-            operand: _,
-        } => arrive_at(rows, at, next, row),
-        Instruction::Shift {
-            op: _,
-            rd: _,
-            rs1: _,
-            count: _,
-        } => arrive_at(rows, at, next, row),
-        Instruction::Load {
-            op: _,
-            rd: _,
-            rs1: _,
-            displacement: _,
-        } => arrive_at(rows, at, next, row),
-        Instruction::Store {
-            op: _,
-            rd: _,
-            rs1: _,
-            displacement: _,
-        } => arrive_at(rows, at, next, row),
+        Instruction::Alu { .. } => arrive_at(rows, at, next, row),
+        Instruction::Shift { .. } => arrive_at(rows, at, next, row),
+        Instruction::Load { .. } => arrive_at(rows, at, next, row),
+        Instruction::Store { .. } => arrive_at(rows, at, next, row),
         Instruction::Return => edge_out(policy, words, result, at, row),
     }
 }

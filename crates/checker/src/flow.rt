@@ -74,37 +74,16 @@ fn instruction_flow(words: &[u32], at: WordIndex, x: Instruction) -> bool
     ensures { λ r. ⌜ r ≡ flowOf (codeOf (now (words .entry))) (at .0) (Read x) ⌝ }
 {
     match x {
-        Instruction::Sethi { rd: _, imm22: _ } => plain_flow(words, at),
+        Instruction::Sethi { .. } => plain_flow(words, at),
         Instruction::Bicc {
             annul: _,
             cond,
             distance,
         } => branch_flow(words, at, cond, distance),
-        Instruction::Alu {
-            op: _,
-            cc: _,
-            rd: _,
-            rs1: _,
-            operand: _,
-        } => plain_flow(words, at),
-        Instruction::Shift {
-            op: _,
-            rd: _,
-            rs1: _,
-            count: _,
-        } => plain_flow(words, at),
-        Instruction::Load {
-            op: _,
-            rd: _,
-            rs1: _,
-            displacement: _,
-        } => plain_flow(words, at),
-        Instruction::Store {
-            op: _,
-            rd: _,
-            rs1: _,
-            displacement: _,
-        } => plain_flow(words, at),
+        Instruction::Alu { .. } => plain_flow(words, at),
+        Instruction::Shift { .. } => plain_flow(words, at),
+        Instruction::Load { .. } => plain_flow(words, at),
+        Instruction::Store { .. } => plain_flow(words, at),
         Instruction::Return => transfer_flow(words, at),
     }
 }
