@@ -1,0 +1,9 @@
+// Holds the answers to bundles against those of an independent implementation, and against those
+// that the examples give. Standard input has a record for each bundle. Prints each bundle that is
+// answered otherwise, then counts.
+mod record;
+mod report;
+
+fn main() {
+    report::check_bundles();
+}
