@@ -1,0 +1,79 @@
+#!/usr/bin/env python3
+"""speed.py: measures the proved programs beside the plain ones, in one run, and prints the ratios.
+
+Needs target/bin/corpus and target/bin/speed (rt check corpus speed) and gcc, which builds tools/plain with
+-O2. Each measurement is the best of five runs of the whole program, start and reading included.
+"""
+import os
+import resource
+import struct
+import subprocess
+import tempfile
+import time
+
+import bundles
+
+ROOT = os.path.join(os.path.dirname(os.path.abspath(__file__)), "..")
+RUNS = 5
+
+
+def full_bundle():
+    """Accepted, and as long as a bundle can be: 8 regions of 16 fields, 128 words, every register known."""
+    fields = [bundles.field(bundles.UNSIGNED_BYTE, bundles.BOTH, 8 * k, 8, 32, 126) for k in range(16)]
+    known = {r: bundles.number(0, 36, 4) for r in range(1, 32)}
+    known[1] = bundles.number(32, 126)
+    known[8] = bundles.entry(bundles.ADDRESS, 3, 8, 0, 0)
+    known[15] = bundles.entry(bundles.RETURN_ADDRESS)
+    every = bundles.row(known, struct.pack(">BBBBi", 0, 0, 0, 0, 0))
+    store = 0xC22A2000  # stb %g1, [%o0]
+    words = [store] * 126 + [bundles.RETURN, bundles.NOP]
+    return bundles.bundle([(128, fields)] * 8, every, bundles.entry(bundles.UNSET), words, [every] * 128)
+
+
+def best(command, data):
+    """The best time of the runs, in seconds, and what the program wrote."""
+    times = []
+    for _ in range(RUNS):
+        began = time.perf_counter()
+        wrote = subprocess.run(command, input=data, capture_output=True, check=True).stdout
+        times.append(time.perf_counter() - began)
+    return min(times), wrote.decode().split("\n")
+
+
+def memory_of(command, data):
+    """The most memory that a program has had resident, in KiB."""
+    child = "import resource, subprocess, sys; subprocess.run(sys.argv[1:], stdin=0, stdout=subprocess.DEVNULL); " \
+            "print(resource.getrusage(resource.RUSAGE_CHILDREN).ru_maxrss)"
+    return int(subprocess.run(["python3", "-c", child] + command, input=data, capture_output=True, check=True).stdout)
+
+
+def answers(name, bundle, count, plain):
+    ours, wrote = best([f"{ROOT}/target/bin/corpus"], (struct.pack(">BBHI", 0, 0, 0, len(bundle)) + bundle) * count)
+    assert wrote[-2] == f"{count} bundles, 0 wrong", wrote[-2]
+    theirs, lines = best([plain, "-s"], (struct.pack(">I", len(bundle)) + bundle) * count)
+    assert lines[:-1] == ["0 0 0"] * count
+    print(f"{name}: {count / ours:,.0f} bundles a second, plain {count / theirs:,.0f}, time ratio {ours / theirs:.2f}")
+
+
+def steps(name, routine, plain):
+    count = 10 ** 7
+    ours, _ = best([f"{ROOT}/target/bin/speed"], f"{routine}7".encode())
+    theirs, _ = best([plain, str(routine), str(count)], b"")
+    print(f"{name}: {count / ours / 1e6:.0f} million steps a second, plain {count / theirs / 1e6:.0f}, time ratio {ours / theirs:.2f}")
+
+
+def main():
+    with tempfile.TemporaryDirectory() as folder:
+        for job in ("answer", "machine"):
+            subprocess.run(["gcc", "-O2", "-o", f"{folder}/{job}", f"{ROOT}/tools/plain/{job}.c"], check=True)
+        answers("128 words, 8 full regions", full_bundle(), 400, f"{folder}/answer")
+        for name in ("name", "charge", "linked", "sum"):
+            with open(f"{ROOT}/examples/{name}/bundle.bin", "rb") as file:
+                answers(f"example {name}", file.read(), 4000, f"{folder}/answer")
+        steps("arithmetic loop", 0, f"{folder}/machine")
+        steps("loop with a load and a store", 1, f"{folder}/machine")
+        one = full_bundle()
+        print(f"memory: {memory_of([f'{ROOT}/target/bin/answer'], one)} KiB, plain {memory_of([f'{folder}/answer'], one)} KiB")
+
+
+main()
