@@ -1,13 +1,14 @@
--- Every row of the table holds: the definitions, computed, give the outcome that the row expects.
-use mathlib.Core.Path.{_≡_, refl}
-use mathlib.Core.List.{List, map}
+-- Every row of the table holds: the definitions, computed, give the outcome that the row expects. What antt computes in one proof is limited,
+-- so each part of the table is one.
+use mathlib.Core.Path.{_≡_, refl, sym, ap₂, _∙_}
+use mathlib.Core.List.{List, _++_, map, map-append}
 use mathlib.Core.Bool.{xor}
 use Rattle.v8.specs.Signed.{signExtend}
 use Rattle.v8.specs.Search.{all, lowest, first}
 use Rattle.v8.specs.Read.{readingOf, format00, format10, memoryOf, operandOf, countOf}
 use Rattle.writer.specs.Write.{writingOf, packed, packOf, sethiWord, signedBits, fiveBits}
 use Rattle.alu.specs.Codes.{codesOf}
-use Rattle.alu.specs.Condition.{condHolds}
+use Rattle.alu.specs.Condition.{condHolds, conditionOf}
 use Rattle.policy.specs.Element.{widthOf, leastOf, mostOf}
 use Rattle.policy.specs.Policy.{fieldAt, valuesOk, fieldOk, endBefore, fieldFits, fieldAtOk, regionOk, policyOk}
 use Rattle.policy.specs.Find.{holdsIn, stopOf, findIn}
@@ -20,9 +21,51 @@ use Rattle.step.specs.Transfer.{slotRuns, targetOf}
 use Rattle.step.specs.Step.{stepOf}
 use Rattle.machine.specs.Placement.{disjointIn, placedIn}
 use Rattle.machine.specs.Run.{runFrom, refusalOf, runOf}
-use Rattle.trials.specs.Case.{Row, outcome, given, expected}
-use Rattle.trials.specs.Table.{table}
+use Rattle.sets.specs.Sets.{ended, setOk, fitsSet}
+use Rattle.sets.specs.Rules.{within, addSets, subSets, andSets, sllSet, sraSet, srlSet}
+use Rattle.sets.specs.Narrow.{atMost, atLeast, lessThan, isMember, only, without}
+use Rattle.rows.specs.Entry.{sizeIn, entryOk, fits, noteOk, fitsNote, fieldEntry}
+use Rattle.rows.specs.Row.{entryAt, entriesWith, entryOf, noteOf, rowOf, formedAt, formFault, fitsAt, misfit}
+use Rattle.rules.specs.Result.{offsetsGive, addressSum, addressDifference, aluResult, shiftResult}
+use Rattle.rules.specs.Reach.{inField, inRegion, reachOf}
+use Rattle.rules.specs.Change.{noteAfter, codesNote, aluChange, shiftChange, loadChange, storeChange, branchChange, returnChange}
+use Rattle.rules.specs.Narrow.{narrowEntry, narrowRow}
+use Rattle.checker.specs.Answer.{passOf}
+use Rattle.checker.specs.Routine.{isSlot}
+use Rattle.checker.specs.Passes.{shapeOk, rowPass, readPass, flowPass, entryPass, edgeOf, branchEdge, branchEdges, wordPass, answerOf, checkOf}
+use Rattle.trials.specs.Case.{Row, Outcome, outcome, given, expected}
+use Rattle.trials.specs.Table.{machineTable, rowTable, passTable, edgeTable, table}
+
+-- what the definitions give for a row
+abbrev found : Row → Outcome
+found r = outcome (given r)
+
+-- the rows of a list hold
+abbrev Holds : List Row → Type 0
+Holds rows = map found rows ≡ map expected rows
+
+-- where those of two lists do, so do those of both together
+both : (a b : List Row) → Holds a → Holds b → Holds (a ++ b)
+both a b p q = map-append found a b ∙ ap₂ (λ (x y : List Outcome). x ++ y) p q ∙ sym (map-append expected a b)
+
+machine-rows-hold : Holds machineTable
+unfolding readingOf format00 format10 memoryOf operandOf countOf signExtend writingOf packed packOf sethiWord signedBits fiveBits codesOf condHolds xor all widthOf leastOf mostOf fieldAt valuesOk fieldOk endBefore fieldFits fieldAtOk regionOk policyOk regionNumber fieldNumber built startOf lowest first holdsIn stopOf findIn valueIn setIn valuesWith marksWith insideRegion regionIn locate aimIn slotRuns targetOf stepOf disjointIn placedIn runFrom refusalOf runOf
+machine-rows-hold = refl
+
+row-rows-hold : Holds rowTable
+unfolding readingOf format00 format10 memoryOf operandOf countOf signExtend conditionOf lowest first widthOf fieldAt holdsIn stopOf findIn ended setOk fitsSet within addSets subSets andSets sllSet sraSet srlSet atMost atLeast lessThan isMember only without sizeIn entryOk fits noteOk fitsNote fieldEntry entryAt entriesWith entryOf noteOf formedAt formFault fitsAt misfit offsetsGive addressSum addressDifference aluResult shiftResult inField inRegion reachOf noteAfter codesNote aluChange shiftChange loadChange storeChange branchChange returnChange narrowEntry narrowRow
+row-rows-hold = refl
+
+pass-rows-hold : Holds passTable
+unfolding readingOf format00 format10 memoryOf operandOf countOf signExtend lowest first all widthOf leastOf mostOf fieldAt valuesOk fieldOk endBefore fieldFits fieldAtOk regionOk policyOk targetOf setOk fitsSet sizeIn entryOk fits noteOk fitsNote entryAt entryOf noteOf rowOf formedAt formFault fitsAt misfit passOf isSlot shapeOk rowPass readPass flowPass entryPass answerOf checkOf
+pass-rows-hold = refl
+
+edge-rows-hold : Holds edgeTable
+unfolding readingOf format00 format10 memoryOf operandOf countOf signExtend conditionOf lowest first all widthOf leastOf mostOf fieldAt valuesOk fieldOk endBefore fieldFits fieldAtOk regionOk policyOk holdsIn stopOf findIn slotRuns targetOf ended setOk fitsSet within addSets subSets andSets sllSet sraSet srlSet atMost atLeast lessThan isMember only without sizeIn entryOk fits noteOk fitsNote fieldEntry entryAt entriesWith entryOf noteOf formedAt formFault fitsAt misfit rowOf offsetsGive addressSum addressDifference aluResult shiftResult inField inRegion reachOf noteAfter codesNote aluChange shiftChange loadChange storeChange branchChange returnChange narrowEntry narrowRow passOf isSlot shapeOk rowPass readPass flowPass entryPass edgeOf branchEdge branchEdges wordPass answerOf checkOf
+edge-rows-hold = refl
 
 pub every-row-holds : map (λ (r : Row). outcome (given r)) table ≡ map expected table
-unfolding readingOf format00 format10 memoryOf operandOf countOf signExtend writingOf packed packOf sethiWord signedBits fiveBits codesOf condHolds xor all widthOf leastOf mostOf fieldAt valuesOk fieldOk endBefore fieldFits fieldAtOk regionOk policyOk regionNumber fieldNumber built startOf lowest first holdsIn stopOf findIn valueIn setIn valuesWith marksWith insideRegion regionIn locate aimIn slotRuns targetOf stepOf disjointIn placedIn runFrom refusalOf runOf
-every-row-holds = refl
+every-row-holds =
+    both (machineTable ++ rowTable ++ passTable) edgeTable
+    (both (machineTable ++ rowTable) passTable (both machineTable rowTable machine-rows-hold row-rows-hold) pass-rows-hold)
+    edge-rows-hold

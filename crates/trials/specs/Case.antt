@@ -11,13 +11,14 @@ use Rattle.v8.specs.declared.LoadOp.{LoadOp}
 use Rattle.v8.specs.declared.StoreOp.{StoreOp}
 use Rattle.v8.specs.declared.Instruction.{Instruction}
 use Rattle.v8.specs.declared.Reading.{Reading}
+use Rattle.v8.specs.declared.Reading.the-variants.{Read, Unread}
 use Rattle.v8.specs.Read.{readingOf, readNumber}
 use Rattle.writer.specs.declared.Writing.{Writing}
 use Rattle.writer.specs.Write.{writingOf, writeNumber}
 use Rattle.alu.specs.declared.codes.Codes.{Codes}
 use Rattle.alu.specs.Result.{aluOf, shiftOf}
 use Rattle.alu.specs.Codes.{codesOf}
-use Rattle.alu.specs.Condition.{condHolds}
+use Rattle.alu.specs.Condition.{condHolds, conditionOf}
 use Rattle.policy.specs.declared.Field.{Field}
 use Rattle.policy.specs.declared.Policy.{Policy}
 use Rattle.policy.specs.declared.Built.{Built}
@@ -27,6 +28,18 @@ use Rattle.memory.specs.Place.{startOf}
 use Rattle.step.specs.declared.Registers.{Registers}
 use Rattle.machine.specs.declared.End.{End}
 use Rattle.machine.specs.Run.{Run, runOf}
+use Rattle.rows.specs.declared.Entry.{Entry}
+use Rattle.rows.specs.declared.Note.{Note}
+use Rattle.rows.specs.declared.Row as Rows·
+use Rattle.rows.specs.Entry.{fits, fitsNote}
+use Rattle.rows.specs.Row.{formFault, misfit}
+use Rattle.rules.specs.declared.Result.{Result}
+use Rattle.rules.specs.declared.Change.{Change}
+use Rattle.rules.specs.declared.Remainder.{Remainder}
+use Rattle.rules.specs.Result.{aluResult, shiftResult}
+use Rattle.rules.specs.Change.{changeOf}
+use Rattle.rules.specs.Narrow.{RowLeft, narrowEntry, narrowRow}
+use Rattle.checker.specs.Passes.{checkOf}
 
 -- what is added to a policy
 pub data Addition : Type 0 where
@@ -60,6 +73,22 @@ pub data Given : Type 0 where
   begins : List ℕ → ℕ → Given
   -- a run: policy, words, bases, return address, registers, allowance, memory
   runs : Policy → List ℕ → List ℕ → ℕ → Registers → ℕ → List ℕ → Given
+  -- a row's bytes, whose form is tested: how many regions there are, their sizes, the bytes
+  form : ℕ → List ℕ → List ℕ → Given
+  -- an entry, a note or a row, and the one that it is to fit
+  fitting : Entry → Entry → Given
+  fittingNote : Note → Note → Given
+  fittingRow : Rows·.Row → Rows·.Row → Given
+  -- an operation on two entries, with the sizes of the regions; a shift of an entry by another
+  entries : List ℕ → AluOp → Entry → Entry → Given
+  shiftedEntry : ShiftOp → Entry → Entry → Given
+  -- a word on a row
+  change : Policy → Rows·.Row → ℕ → Given
+  -- one of the sixteen conditions, which holds of an entry compared with a number, or on a row with its note
+  narrowing : ℕ → Entry → ℕ → Given
+  narrowingRow : ℕ → Rows·.Row → Given
+  -- a check: policy, words, the rows' bytes, the entry row's, the result entry's
+  check : Policy → List ℕ → List ℕ → List ℕ → List ℕ → Given
 
 -- what comes of it
 pub data Outcome : Type 0 where
@@ -78,6 +107,17 @@ pub data Outcome : Type 0 where
   -- how a run ended, its steps, the values and the marks of r0 to r7, the codes as the digit NZVC, 16 more if they are set, and the
   -- memory afterwards
   ends : End → ℕ → List ℕ → List Bool → ℕ → List ℕ → Outcome
+  -- it fits, or it does not
+  fitted : Bool → Outcome
+  -- the result's entry, or the number of the condition that it breaks
+  makes : Result → Outcome
+  -- what the word does to the row
+  changes : Change → Outcome
+  -- what is left of the entry, or of the row
+  remains : Remainder → Outcome
+  rowRemains : RowLeft → Outcome
+  -- an answer: number, word, register
+  answers : ℕ → ℕ → ℕ → Outcome
 
 -- a case and the outcome that it must have
 infix 70 _gives_
@@ -119,6 +159,11 @@ endsOf r =
     (cond (r .outcome .registers .coded) 16 0 + digitOf (r .outcome .registers .codes))
     (r .memory)
 
+-- the outcome of a word, as it is read, on a row
+abbrev pub changeBy : Policy → Rows·.Row → Reading → Outcome
+changeBy p row (Read x) = changes (changeOf p row x)
+changeBy p row Unread = reads Unread
+
 -- what the definitions give
 abbrev pub outcome : Given → Outcome
 outcome (word w) = reads (readingOf w)
@@ -133,3 +178,14 @@ outcome (loaded op m a) = yields (loadOf op m a)
 outcome (stored op v a m) = leaves (storeOf op v a m)
 outcome (begins sizes r) = yields (startOf sizes r)
 outcome (runs p words bases returns g allowance memory) = endsOf (runOf p words bases returns g allowance memory)
+outcome (form regions sizes bytes) = yields (formFault regions sizes bytes 0)
+outcome (fitting a b) = fitted (fits a b)
+outcome (fittingNote a b) = fitted (fitsNote a b)
+outcome (fittingRow a b) = yields (misfit a b)
+outcome (entries sizes op a b) = makes (aluResult sizes op a b)
+outcome (shiftedEntry op a b) = makes (shiftResult op a b)
+outcome (change p row w) = changeBy p row (readingOf w)
+outcome (narrowing k e n) = remains (narrowEntry (conditionOf k .narrowing) e n)
+outcome (narrowingRow k row) = rowRemains (narrowRow (conditionOf k .narrowing) row)
+outcome (check p words rows entry result) =
+    let a = checkOf p words rows entry result in answers (a .number) (a .word .0) (a .register)

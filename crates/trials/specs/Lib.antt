@@ -4,4 +4,11 @@ pub mod Arithmetic
 pub mod Policies
 pub mod Memories
 pub mod Runs
+pub mod Entries
+pub mod FormRows
+pub mod FitRows
+pub mod ResultRows
+pub mod ChangeRows
+pub mod NarrowRows
+pub mod CheckRows
 pub mod Table
