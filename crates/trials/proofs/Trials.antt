@@ -34,7 +34,9 @@ use Rattle.checker.specs.Answer.{passOf}
 use Rattle.checker.specs.Routine.{isSlot}
 use Rattle.checker.specs.Passes.{shapeOk, rowPass, readPass, flowPass, entryPass, edgeOf, branchEdge, branchEdges, wordPass, answerOf, checkOf}
 use Rattle.trials.specs.Case.{Row, Outcome, outcome, given, expected}
-use Rattle.trials.specs.Table.{machineTable, rowTable, passTable, edgeTable, table}
+use Rattle.claims.proofs.Answered.{return-then-nop, one-nop, loop-accepted}
+use Rattle.claims.proofs.Looped.{loop-never-returns}
+use Rattle.trials.specs.Table.{machineTable, rowTable, passTable, edgeTable, table, Claim, returnThenNop, oneNop, loopAccepted, loopNeverReturns, Says, TableHolds}
 
 -- what the definitions give for a row
 abbrev found : Row → Outcome
@@ -64,8 +66,17 @@ edge-rows-hold : Holds edgeTable
 unfolding readingOf format00 format10 memoryOf operandOf countOf signExtend conditionOf lowest first all widthOf leastOf mostOf fieldAt valuesOk fieldOk endBefore fieldFits fieldAtOk regionOk policyOk holdsIn stopOf findIn slotRuns targetOf ended setOk fitsSet within addSets subSets andSets sllSet sraSet srlSet atMost atLeast lessThan isMember only without sizeIn entryOk fits noteOk fitsNote fieldEntry entryAt entriesWith entryOf noteOf formedAt formFault fitsAt misfit rowOf offsetsGive addressSum addressDifference aluResult shiftResult inField inRegion reachOf noteAfter codesNote aluChange shiftChange loadChange storeChange branchChange returnChange narrowEntry narrowRow passOf isSlot shapeOk rowPass readPass flowPass entryPass edgeOf branchEdge branchEdges wordPass answerOf checkOf
 edge-rows-hold = refl
 
-pub every-row-holds : map (λ (r : Row). outcome (given r)) table ≡ map expected table
+every-claim-holds : (c : Claim) → Says c
+every-claim-holds returnThenNop = return-then-nop
+every-claim-holds oneNop = one-nop
+every-claim-holds loopAccepted = loop-accepted
+every-claim-holds loopNeverReturns = loop-never-returns
+
+every-row-holds : Holds table
 every-row-holds =
     both (machineTable ++ rowTable ++ passTable) edgeTable
     (both (machineTable ++ rowTable) passTable (both machineTable rowTable machine-rows-hold row-rows-hold) pass-rows-hold)
     edge-rows-hold
+
+pub table-holds : TableHolds
+table-holds = record { rows = every-row-holds; claims = every-claim-holds }

@@ -1,6 +1,9 @@
--- The one shared table of worked cases, by subject. It stands in parts, each small enough to be computed in one proof.
-use mathlib.Core.List.{List, _++_}
-use Rattle.trials.specs.Case.{Row}
+-- The one shared table of worked cases, by subject: rows that are computed, in parts small enough for one proof each, and the cases that
+-- document 01 states of every row, which are claims.
+use mathlib.Core.Path.{_≡_}
+use mathlib.Core.List.{List, _++_, map}
+use Rattle.claims.specs.Claims.{ReturnThenNop, OneNop, LoopAccepted, LoopNeverReturns}
+use Rattle.trials.specs.Case.{Row, outcome, given, expected}
 use Rattle.trials.specs.Words.{wordRows, writeRows, answerRows}
 use Rattle.trials.specs.Arithmetic.{additionRows, subtractionRows, logicRows, shiftRows, conditionRows}
 use Rattle.trials.specs.Policies.{addRows}
@@ -33,3 +36,22 @@ edgeTable = edgePassRows
 
 abbrev pub table : List Row
 table = machineTable ++ rowTable ++ passTable ++ edgeTable
+
+-- the cases of every row: "Return then nop ..", "One nop alone", "10800000 .. then nop .., accepted, never returns"
+pub data Claim : Type 0 where
+  returnThenNop : Claim
+  oneNop : Claim
+  loopAccepted : Claim
+  loopNeverReturns : Claim
+
+-- what each says
+abbrev pub Says : Claim → Type 0
+Says returnThenNop = ReturnThenNop
+Says oneNop = OneNop
+Says loopAccepted = LoopAccepted
+Says loopNeverReturns = LoopNeverReturns
+
+-- the whole table holds: each row has the outcome that it expects, and each claim is so
+pub record TableHolds : Type 0 where
+  pub rows : map (λ (r : Row). outcome (given r)) table ≡ map expected table
+  pub claims : (c : Claim) → Says c
