@@ -5,13 +5,12 @@ Needs target/bin/corpus and target/bin/speed (rt check corpus speed) and gcc, wh
 -O2. Each measurement is the best of five runs of the whole program, start and reading included.
 """
 import os
-import resource
 import struct
 import subprocess
 import tempfile
 import time
 
-import bundles
+import parts
 
 ROOT = os.path.join(os.path.dirname(os.path.abspath(__file__)), "..")
 RUNS = 5
@@ -19,15 +18,15 @@ RUNS = 5
 
 def full_bundle():
     """Accepted, and as long as a bundle can be: 8 regions of 16 fields, 128 words, every register known."""
-    fields = [bundles.field(bundles.UNSIGNED_BYTE, bundles.BOTH, 8 * k, 8, 32, 126) for k in range(16)]
-    known = {r: bundles.number(0, 36, 4) for r in range(1, 32)}
-    known[1] = bundles.number(32, 126)
-    known[8] = bundles.entry(bundles.ADDRESS, 3, 8, 0, 0)
-    known[15] = bundles.entry(bundles.RETURN_ADDRESS)
-    every = bundles.row(known, struct.pack(">BBBBi", 0, 0, 0, 0, 0))
+    fields = [parts.field(parts.UNSIGNED_BYTE, parts.BOTH, 8 * k, 8, 32, 126) for k in range(16)]
+    known = {r: parts.number(0, 36, 4) for r in range(1, 32)}
+    known[1] = parts.number(32, 126)
+    known[8] = parts.entry(parts.ADDRESS, 3, 8, 0, 0)
+    known[15] = parts.entry(parts.RETURN_ADDRESS)
+    every = parts.row(known, struct.pack(">BBBBi", 0, 0, 0, 0, 0))
     store = 0xC22A2000  # stb %g1, [%o0]
-    words = [store] * 126 + [bundles.RETURN, bundles.NOP]
-    return bundles.bundle([(128, fields)] * 8, every, bundles.entry(bundles.UNSET), words, [every] * 128)
+    words = [store] * 126 + [parts.RETURN, parts.NOP]
+    return parts.bundle([(128, fields)] * 8, every, parts.entry(parts.UNSET), words, [every] * 128)
 
 
 def best(command, data):
@@ -38,13 +37,6 @@ def best(command, data):
         wrote = subprocess.run(command, input=data, capture_output=True, check=True).stdout
         times.append(time.perf_counter() - began)
     return min(times), wrote.decode().split("\n")
-
-
-def memory_of(command, data):
-    """The most memory that a program has had resident, in KiB."""
-    child = "import resource, subprocess, sys; subprocess.run(sys.argv[1:], stdin=0, stdout=subprocess.DEVNULL); " \
-            "print(resource.getrusage(resource.RUSAGE_CHILDREN).ru_maxrss)"
-    return int(subprocess.run(["python3", "-c", child] + command, input=data, capture_output=True, check=True).stdout)
 
 
 def answers(name, bundle, count, plain):
@@ -72,8 +64,6 @@ def main():
                 answers(f"example {name}", file.read(), 4000, f"{folder}/answer")
         steps("arithmetic loop", 0, f"{folder}/machine")
         steps("loop with a load and a store", 1, f"{folder}/machine")
-        one = full_bundle()
-        print(f"memory: {memory_of([f'{ROOT}/target/bin/answer'], one)} KiB, plain {memory_of([f'{folder}/answer'], one)} KiB")
 
 
 main()

@@ -1,7 +1,7 @@
 #!/usr/bin/env python3
-"""bundles.py: makes the bundle that the program crates/answer is run on.
+"""parts.py: the parts of a bundle as bytes, and the bundle that the program crates/answer is run on.
 
-Writes crates/answer/stdin, the return and a nop with every row equal to the entry row, and
+Run, it writes crates/answer/stdin, the return and a nop with every row equal to the entry row, and
 crates/answer/stdout, what the program must print. The data is the same at each run. The functions
 below spell the parts of a bundle as document 01 states them, right or wrong.
 """
