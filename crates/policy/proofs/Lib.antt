@@ -5,3 +5,4 @@ pub mod Bytes
 pub mod FoundField
 pub mod RegionKept
 pub mod FieldKept
+pub mod Ending

@@ -2,6 +2,7 @@
 -- field k of region r stands at place 16 r + k of each list of fields. No rule reads a place that is not in use.
 use Prim.Native.Nat.{ℕ, _+_, _*_, _-_, _%_}
 use mathlib.Core.Bool.{Bool, cond, _&&_}
+use mathlib.Core.List.{List}
 use lib.Dec.{leb, ltb, eqb}
 use lib.ListN.{getD}
 use Rattle.v8.specs.Search.{all}
@@ -25,18 +26,22 @@ baseOf r = 16 * r
 abbrev pub placeOf : ℕ → ℕ → ℕ
 placeOf r k = baseOf r + k
 
+-- the field at a place of the lists
+abbrev pub fieldIn : List ℕ → List ℕ → List ℕ → List ℕ → List ℕ → List ℕ → List ℕ → ℕ → Field
+fieldIn elements permissions targets offsets counts lows highs place =
+    record {
+      element = getD elements place 0;
+      permission = getD permissions place 0;
+      target = getD targets place 0;
+      offset = record { 0 = getD offsets place 0 };
+      count = getD counts place 0;
+      lo = getD lows place 0;
+      hi = getD highs place 0;
+    }
+
 -- the field at a place
 unfoldable pub fieldAt : Policy → ℕ → Field
-fieldAt p place =
-    record {
-      element = getD (p .elements) place 0;
-      permission = getD (p .permissions) place 0;
-      target = getD (p .targets) place 0;
-      offset = record { 0 = getD (p .offsets) place 0 };
-      count = getD (p .counts) place 0;
-      lo = getD (p .lows) place 0;
-      hi = getD (p .highs) place 0;
-    }
+fieldAt p place = fieldIn (p .elements) (p .permissions) (p .targets) (p .offsets) (p .counts) (p .lows) (p .highs) place
 
 -- where the bytes of `count` elements end that begin at an offset: the first byte after them
 abbrev pub endOf : ℕ → ℕ → ℕ → ℕ
@@ -70,9 +75,13 @@ fieldOk regions size f =
 unfoldable pub endBefore : Policy → ℕ → ℕ → ℕ
 endBefore p r k = cond (eqb k 0) 0 (fieldEnd (fieldAt p (placeOf r (k - 1))))
 
--- f obeys every rule as field k of region r: those of a field, and "ascending, not overlapping"
+-- f obeys every rule after fields that end before it: those of a field, and "ascending, not overlapping"
+abbrev pub fieldFollows : ℕ → ℕ → ℕ → Field → Bool
+fieldFollows regions size end f = fieldOk regions size f && leb end (f .offset .0)
+
+-- f obeys every rule as field k of region r
 unfoldable pub fieldFits : Policy → ℕ → ℕ → Field → Bool
-fieldFits p r k f = fieldOk (p .regions) (sizeOf p r) f && leb (endBefore p r k) (f .offset .0)
+fieldFits p r k f = fieldFollows (p .regions) (sizeOf p r) (endBefore p r k) f
 
 -- field k of region r obeys every rule
 unfoldable pub fieldAtOk : Policy → ℕ → ℕ → Bool

@@ -4,7 +4,7 @@ ghost use Rattle.policy.specs.Build.{emptyPolicy, regionNumber, fieldNum
 use crate::Built;
 use crate::Field;
 use crate::Policy;
-use crate::rules::field_fits;
+use crate::rules::field_follows;
 use crate::rules::size_ok;
 
 // The add is accepted.
@@ -47,7 +47,7 @@ fn field_number(p: Policy, region: u8, f: Field) -> u8
     if 16 <= count {
         return FULL;
     }
-    if !field_fits(p, r, count, f) {
+    if !field_follows(p.regions, p.sizes[r], p.end_before(r, count), f) {
         return BROKEN_RULE;
     }
     ACCEPTED

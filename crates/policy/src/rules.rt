@@ -1,7 +1,7 @@
 // The rules that a policy obeys (specs/Policy.antt).
 ghost use mathlib.Core.Path.{_≡_};
 ghost use Prim.Native.Nat.{_<_};
-ghost use Rattle.policy.specs.Policy.{endOf, sizeOk, valuesOk, fieldOk, fieldAt, fieldFits, regionOk, policyOk};
+ghost use Rattle.policy.specs.Policy.{endOf, sizeOk, valuesOk, fieldOk, fieldIn, fieldAt, endBefore, fieldFollows, regionOk, policyOk};
 use crate::Field;
 use crate::Policy;
 use crate::element::LEASTS;
@@ -60,20 +60,45 @@ fn field_ok(regions: u8, size: u16, f: Field) -> bool
         & values
 }
 
-// Whether f obeys every rule as field k of region r.
-pub fn field_fits(p: Policy, r: usize, k: usize, f: Field) -> bool
-    requires { ⌜ (r < 8) × (k < 16) ⌝ }
-    ensures { λ b. ⌜ b ≡ fieldFits p r k f ⌝ }
+// Whether f obeys every rule after fields that end before it.
+pub fn field_follows(regions: u8, size: u16, end: u64, f: Field) -> bool
+    ensures { λ b. ⌜ b ≡ fieldFollows regions size end f ⌝ }
 {
-    let size = p.sizes[r];
-    let alone = field_ok(p.regions, size, f);
-    if k == 0 {
-        return alone;
-    }
-    let last = p.field(16 * r + (k - 1));
-    let end = end_of(last.element, last.offset.0, last.count);
+    let alone = field_ok(regions, size, f);
     let begin = f.offset.0 as u64;
     alone & (end <= begin)
+}
+
+// The field at a place of the arrays.
+pub fn field_in<'a>(
+    elements: &'a [u8; 128],
+    permissions: &'a [u8; 128],
+    targets: &'a [u8; 128],
+    offsets: &'a [u32; 128],
+    counts: &'a [u16; 128],
+    lows: &'a [u32; 128],
+    highs: &'a [u32; 128],
+    place: usize,
+) -> Field
+    requires { ⌜ place < 128 ⌝ }
+    ensures { λ r. ⌜ r ≡ fieldIn (now (elements .entry)) (now (permissions .entry)) (now (targets .entry)) (now (offsets .entry)) (now (counts .entry)) (now (lows .entry)) (now (highs .entry)) place ⌝ }
+{
+    let element = elements[place];
+    let permission = permissions[place];
+    let target = targets[place];
+    let offset = ByteOffset(offsets[place]);
+    let count = counts[place];
+    let lo = lows[place];
+    let hi = highs[place];
+    Field {
+        element,
+        permission,
+        target,
+        offset,
+        count,
+        lo,
+        hi,
+    }
 }
 
 // Whether region r obeys every rule.
@@ -81,6 +106,7 @@ fn region_ok(p: Policy, r: usize) -> bool
     requires { ⌜ r < 8 ⌝ }
     ensures { λ b. ⌜ b ≡ regionOk p r ⌝ }
 {
+    let regions = p.regions;
     let size = p.sizes[r];
     let count = p.fields[r] as usize;
     if !size_ok(size) {
@@ -90,11 +116,22 @@ fn region_ok(p: Policy, r: usize) -> bool
         return false;
     }
     let mut k = 0;
+    let mut end: u64 = 0;
     while k < count {
-        let f = p.field(16 * r + k);
-        if !field_fits(p, r, k, f) {
+        let f = field_in(
+            &p.elements,
+            &p.permissions,
+            &p.targets,
+            &p.offsets,
+            &p.counts,
+            &p.lows,
+            &p.highs,
+            16 * r + k,
+        );
+        if !field_follows(regions, size, end, f) {
             return false;
         }
+        end = end_of(f.element, f.offset.0, f.count);
         k += 1;
     }
     true
@@ -134,6 +171,18 @@ impl Policy {
             lo,
             hi,
         }
+    }
+
+    // Where the fields of region r before field k end.
+    pub fn end_before(self, r: usize, k: usize) -> u64
+        requires { ⌜ (r < 8) × (k < 16) ⌝ }
+        ensures { λ e. ⌜ e ≡ endBefore self r k ⌝ }
+    {
+        if k == 0 {
+            return 0;
+        }
+        let last = self.field(16 * r + (k - 1));
+        end_of(last.element, last.offset.0, last.count)
     }
 
     // Whether the policy obeys every rule.
