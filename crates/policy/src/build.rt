@@ -4,8 +4,8 @@ ghost use Rattle.policy.specs.Build.{emptyPolicy, regionNumber, fieldNum
 use crate::Built;
 use crate::Field;
 use crate::Policy;
-use crate::rules::field_follows;
-use crate::rules::size_ok;
+use crate::form::field_follows;
+use crate::form::size_ok;
 
 // The add is accepted.
 pub const ACCEPTED: u8 = 0;

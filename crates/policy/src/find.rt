@@ -3,7 +3,7 @@ ghost use mathlib.Core.Path.{_≡_};
 ghost use Rattle.policy.specs.Find.{findIn, findField};
 use crate::Found;
 use crate::Policy;
-use crate::rules::end_of;
+use crate::form::end_of;
 use v8::ByteOffset;
 
 // The lowest field of a region that holds the bytes from low up to end, which is not among them;

@@ -5,7 +5,7 @@ use v8::ByteOffset;
 // The elements' widths and ranges.
 pub mod element;
 // The rules that a policy obeys.
-mod rules;
+mod form;
 // The operations that build a policy.
 pub mod build;
 // The search for a field.

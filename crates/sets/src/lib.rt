@@ -7,7 +7,7 @@ mod natural;
 // The form of a set, and inclusion.
 mod form;
 // Arithmetic, logic and shifts on sets.
-mod rules;
+mod operations;
 // Narrowing by a comparison.
 mod narrow;
 
@@ -17,10 +17,10 @@ pub use form::full;
 pub use form::set_ok;
 pub use form::single;
 pub use narrow::narrow_set;
-pub use rules::add_sets;
-pub use rules::alu_sets;
-pub use rules::shift_set;
-pub use rules::sub_sets;
+pub use operations::add_sets;
+pub use operations::alu_sets;
+pub use operations::shift_set;
+pub use operations::sub_sets;
 
 // The numbers from lo to hi that lie on the steps from lo. Signed numbers stand in excess form, 2^31
 // more than the number.

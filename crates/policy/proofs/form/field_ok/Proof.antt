@@ -1,0 +1,28 @@
+use borrow.Author.Needs.{needs}
+use Rattle.policy.specs.Policy.{fieldOk}
+use Rattle.policy.proofs.form.field_ok.Statement.{statement}
+use Rattle.policy.proofs.form.field_ok.Tie as tie
+
+width-of-requires : tie.Need-width-of-requires
+width-of-requires c κs = search needs
+
+end-of-requires : tie.Need-end-of-requires
+end-of-requires c κs = search needs
+
+values-ok-requires : tie.Need-values-ok-requires
+values-ok-requires c κs = search needs
+
+cast-result : tie.Need-cast-result
+cast-result c = search needs
+
+rem-result : tie.Need-rem-result
+rem-result c = search needs
+
+returns : tie.Need-returns
+unfolding fieldOk
+returns c = simp (c .before .before .width-of .ensures .0, c .before .end-of .ensures, c .values-ok .ensures)
+
+pub field-ok-spec : {M : Type 1} → statement M
+field-ok-spec =
+    tie.close
+    (tie.spec width-of-requires end-of-requires values-ok-requires cast-result rem-result returns)
