@@ -2,3 +2,4 @@ pub mod Next
 pub mod Words
 pub mod Sizes
 pub mod Lent
+pub mod Obeying

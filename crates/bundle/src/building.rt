@@ -2,6 +2,7 @@
 // fields of each; the first refusal stays (specs/Bundle.antt).
 ghost use mathlib.Core.Path.{_≡_};
 ghost use Prim.Native.Nat.{_≤_, _<_};
+ghost use Rattle.policy.specs.Laws.{Sound};
 ghost use Rattle.bundle.specs.Layout.{regionCount, regionSize, fieldCount, fieldRead};
 ghost use Rattle.bundle.specs.Bundle.{regionTo, fieldTo, withRegions, withFieldsOf, builtOf};
 use crate::layout::HEAD_BYTES;
@@ -54,20 +55,22 @@ fn field_read(bytes: &[u8], i: usize) -> Field
 
 // One region more, unless an earlier add was refused.
 fn region_to(built: Built, size: u16) -> Built
+    requires { ⌜ Sound (built .policy) ⌝ }
     ensures { λ r. ⌜ r ≡ regionTo built size ⌝ }
 {
     if built.number == ACCEPTED {
-        return built.policy.add_region(size);
+        return built.policy.push_region(size);
     }
     built
 }
 
 // One field more in a region, unless an earlier add was refused.
 fn field_to(built: Built, region: u8, f: Field) -> Built
+    requires { ⌜ Sound (built .policy) ⌝ }
     ensures { λ r. ⌜ r ≡ fieldTo built region f ⌝ }
 {
     if built.number == ACCEPTED {
-        return built.policy.add_field(region, f);
+        return built.policy.push_field(region, f);
     }
     built
 }
@@ -92,7 +95,7 @@ fn with_regions(bytes: &[u8]) -> Built
 
 // What the adds of a region's fields give, after others.
 fn with_fields_of(bytes: &[u8], region: usize, before: Built) -> Built
-    requires { ⌜ region < 255 ⌝ }
+    requires { ⌜ (region < 255) × Sound (before .policy) ⌝ }
     ensures { λ r. ⌜ r ≡ withFieldsOf (now (bytes .entry)) region before (fieldCount (now (bytes .entry)) region) ⌝ }
 {
     let first = fields_before(bytes, region);

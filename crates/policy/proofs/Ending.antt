@@ -9,12 +9,12 @@ use Rattle.policy.specs.declared.Policy.{Policy}
 
 -- before the first there is none
 pub end-first : (p : Policy) (r : ℕ) → 0 ≡ endBefore p r 0
-unfolding endBefore
+unfolding endBefore fieldAt
 end-first p r = refl
 
 -- before the next, the last one's end
 pub end-next : (p : Policy) (r k e : ℕ) (f : Field) → f ≡ fieldAt p (placeOf r k) → e ≡ fieldEnd f → e ≡ endBefore p r (k + 1)
-unfolding endBefore
+unfolding endBefore fieldAt
 end-next p r k e f g q = q ∙ ap fieldEnd g ∙ sym (rw (ne-eqb (k + 1) 0 (more k), back k))
   where
     more : (k : ℕ) → k + 1 ≡ 0 → ⊥

@@ -94,7 +94,7 @@ module _ (p : Policy) (r k : ℕ) (f : Field) (h : fieldFits p r k f ≡ true) w
 
 module _ (p : Policy) (r : ℕ) where
   pub later : (k : ℕ) → endBefore p r (k + 1) ≡ fieldEnd (fieldAt p (placeOf r k))
-  unfolding endBefore
+  unfolding endBefore fieldAt
   later k = let e : k + 1 - 1 ≡ k = omega arith in simp (ne-eqb (k + 1) 0 (λ z. omega arith), e)
 
   pub none-before : endBefore p r 0 ≡ 0

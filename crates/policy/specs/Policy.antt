@@ -72,8 +72,13 @@ fieldOk regions size f =
     && valuesOk regions f
 
 -- where the fields of region r before field k end
+abbrev pub endIn : List ℕ → List ℕ → List ℕ → ℕ → ℕ → ℕ
+endIn elements offsets counts r k =
+    cond (eqb k 0) 0
+    (endOf (getD elements (placeOf r (k - 1)) 0) (getD offsets (placeOf r (k - 1)) 0) (getD counts (placeOf r (k - 1)) 0))
+
 unfoldable pub endBefore : Policy → ℕ → ℕ → ℕ
-endBefore p r k = cond (eqb k 0) 0 (fieldEnd (fieldAt p (placeOf r (k - 1))))
+endBefore p r k = endIn (p .elements) (p .offsets) (p .counts) r k
 
 -- f obeys every rule after fields that end before it: those of a field, and "ascending, not overlapping"
 abbrev pub fieldFollows : ℕ → ℕ → ℕ → Field → Bool

@@ -1,9 +1,12 @@
 // The three operations that build a policy, each giving the next one (specs/Build.antt).
 ghost use mathlib.Core.Path.{_≡_};
-ghost use Rattle.policy.specs.Build.{emptyPolicy, regionNumber, fieldNumber, addRegionOf, addFieldOf};
+ghost use mathlib.Core.Bool.{true};
+ghost use Rattle.policy.specs.Policy.{policyOk};
+ghost use Rattle.policy.specs.Build.{emptyPolicy, addRegionOf, addFieldOf};
 use crate::Built;
 use crate::Field;
 use crate::Policy;
+use crate::form::end_before;
 use crate::form::field_follows;
 use crate::form::size_ok;
 
@@ -15,43 +18,6 @@ pub const FULL: u8 = 18;
 pub const BAD_SIZE: u8 = 19;
 // The policy handed in or the field to be added breaks a rule, or there is no such region.
 pub const BROKEN_RULE: u8 = 20;
-
-// The number that adding a region of this size gives: 0, or that of the refusal.
-fn region_number(p: Policy, size: u16) -> u8
-    ensures { λ r. ⌜ r ≡ regionNumber p size ⌝ }
-{
-    if !p.well_formed() {
-        return BROKEN_RULE;
-    }
-    if 8 <= p.regions {
-        return FULL;
-    }
-    if !size_ok(size) {
-        return BAD_SIZE;
-    }
-    ACCEPTED
-}
-
-// The number that adding the field f to a region gives: 0, or that of the refusal.
-fn field_number(p: Policy, region: u8, f: Field) -> u8
-    ensures { λ r. ⌜ r ≡ fieldNumber p region f ⌝ }
-{
-    if !p.well_formed() {
-        return BROKEN_RULE;
-    }
-    if p.regions <= region {
-        return BROKEN_RULE;
-    }
-    let r = region as usize;
-    let count = p.fields[r] as usize;
-    if 16 <= count {
-        return FULL;
-    }
-    if !field_follows(p.regions, p.sizes[r], p.end_before(r, count), f) {
-        return BROKEN_RULE;
-    }
-    ACCEPTED
-}
 
 impl Policy {
     // The policy with no regions.
@@ -72,22 +38,93 @@ impl Policy {
         }
     }
 
-    // The policy with one region more, without fields. Refused: 20 if the policy given breaks a
-    // rule, 18 if it has 8 regions, 19 if the size is not allowed.
-    pub fn add_region(mut self, size: u16) -> Built
+    // The policy with one region more, without fields, of a policy that obeys the rules. Refused: 18 if
+    // it has 8 regions, 19 if the size is not allowed.
+    pub fn push_region(mut self, size: u16) -> Built
+        requires { ⌜ policyOk self ≡ true ⌝ }
         ensures { λ r. ⌜ r ≡ addRegionOf self size ⌝ }
     {
-        let number = region_number(self, size);
-        if number != ACCEPTED {
+        if 8 <= self.regions {
             return Built {
                 policy: self,
-                number,
+                number: FULL,
+            };
+        }
+        if !size_ok(size) {
+            return Built {
+                policy: self,
+                number: BAD_SIZE,
             };
         }
         let r = self.regions as usize;
         self.sizes[r] = size;
         self.fields[r] = 0;
         self.regions += 1;
+        Built {
+            policy: self,
+            number: ACCEPTED,
+        }
+    }
+
+    // The policy with one field more in a region, of a policy that obeys the rules. Refused: 20 if there is
+    // no such region, 18 if the region has 16 fields, 20 if the field breaks a rule.
+    pub fn push_field(mut self, region: u8, f: Field) -> Built
+        requires { ⌜ policyOk self ≡ true ⌝ }
+        ensures { λ r. ⌜ r ≡ addFieldOf self region f ⌝ }
+    {
+        if self.regions <= region {
+            return Built {
+                policy: self,
+                number: BROKEN_RULE,
+            };
+        }
+        let r = region as usize;
+        let count = self.fields[r];
+        if 16 <= count {
+            return Built {
+                policy: self,
+                number: FULL,
+            };
+        }
+        let end = end_before(
+            &self.elements,
+            &self.offsets,
+            &self.counts,
+            r,
+            count as usize,
+        );
+        if !field_follows(self.regions, self.sizes[r], end, f) {
+            return Built {
+                policy: self,
+                number: BROKEN_RULE,
+            };
+        }
+        let place = 16 * r + count as usize;
+        self.elements[place] = f.element;
+        self.permissions[place] = f.permission;
+        self.targets[place] = f.target;
+        self.offsets[place] = f.offset.0;
+        self.counts[place] = f.count;
+        self.lows[place] = f.lo;
+        self.highs[place] = f.hi;
+        self.fields[r] = count + 1;
+        Built {
+            policy: self,
+            number: ACCEPTED,
+        }
+    }
+
+    // The policy with one region more, without fields. Refused: 20 if the policy given breaks a
+    // rule, 18 if it has 8 regions, 19 if the size is not allowed.
+    pub fn add_region(mut self, size: u16) -> Built
+        ensures { λ r. ⌜ r ≡ addRegionOf self size ⌝ }
+    {
+        let mut number = BROKEN_RULE;
+        if self.well_formed() {
+            let built = self.push_region(size);
+            self = built.policy;
+            number = built.number;
+        }
         Built {
             policy: self,
             number,
@@ -99,24 +136,12 @@ impl Policy {
     pub fn add_field(mut self, region: u8, f: Field) -> Built
         ensures { λ r. ⌜ r ≡ addFieldOf self region f ⌝ }
     {
-        let number = field_number(self, region, f);
-        if number != ACCEPTED {
-            return Built {
-                policy: self,
-                number,
-            };
+        let mut number = BROKEN_RULE;
+        if self.well_formed() {
+            let built = self.push_field(region, f);
+            self = built.policy;
+            number = built.number;
         }
-        let r = region as usize;
-        let count = self.fields[r];
-        let place = 16 * r + count as usize;
-        self.elements[place] = f.element;
-        self.permissions[place] = f.permission;
-        self.targets[place] = f.target;
-        self.offsets[place] = f.offset.0;
-        self.counts[place] = f.count;
-        self.lows[place] = f.lo;
-        self.highs[place] = f.hi;
-        self.fields[r] = count + 1;
         Built {
             policy: self,
             number,

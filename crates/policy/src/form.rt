@@ -1,7 +1,7 @@
 // The rules that a policy obeys (specs/Policy.antt).
 ghost use mathlib.Core.Path.{_≡_};
-ghost use Prim.Native.Nat.{_<_};
-ghost use Rattle.policy.specs.Policy.{endOf, sizeOk, valuesOk, fieldOk, fieldIn, fieldAt, endBefore, fieldFollows, regionOk, policyOk};
+ghost use Prim.Native.Nat.{_<_, _≤_};
+ghost use Rattle.policy.specs.Policy.{endOf, sizeOk, valuesOk, fieldOk, fieldIn, fieldAt, endIn, fieldFollows, regionOk, policyOk};
 use crate::Field;
 use crate::Policy;
 use crate::element::LEASTS;
@@ -101,6 +101,24 @@ pub fn field_in<'a>(
     }
 }
 
+// Where the fields of region r before field k end.
+pub fn end_before<'a>(
+    elements: &'a [u8; 128],
+    offsets: &'a [u32; 128],
+    counts: &'a [u16; 128],
+    r: usize,
+    k: usize,
+) -> u64
+    requires { ⌜ (r < 8) × (k ≤ 16) ⌝ }
+    ensures { λ e. ⌜ e ≡ endIn (now (elements .entry)) (now (offsets .entry)) (now (counts .entry)) r k ⌝ }
+{
+    if k == 0 {
+        return 0;
+    }
+    let last = 16 * r + (k - 1);
+    end_of(elements[last], offsets[last], counts[last])
+}
+
 // Whether region r obeys every rule.
 fn region_ok(p: Policy, r: usize) -> bool
     requires { ⌜ r < 8 ⌝ }
@@ -171,18 +189,6 @@ impl Policy {
             lo,
             hi,
         }
-    }
-
-    // Where the fields of region r before field k end.
-    pub fn end_before(self, r: usize, k: usize) -> u64
-        requires { ⌜ (r < 8) × (k < 16) ⌝ }
-        ensures { λ e. ⌜ e ≡ endBefore self r k ⌝ }
-    {
-        if k == 0 {
-            return 0;
-        }
-        let last = self.field(16 * r + (k - 1));
-        end_of(last.element, last.offset.0, last.count)
     }
 
     // Whether the policy obeys every rule.

@@ -5,6 +5,7 @@ use native.Mathlib.Nat.{le-antisymm}
 use borrow.Author.Needs.{needs}
 use Rattle.bundle.specs.Bundle.{withFields}
 use Rattle.bundle.proofs.Next.{fields-first, fields-next}
+use Rattle.bundle.proofs.Obeying.{fields-obey}
 use Rattle.bundle.proofs.building.built_of.Statement.{statement}
 use Rattle.bundle.proofs.building.built_of.Tie as tie
 
@@ -24,7 +25,7 @@ loop-holds : tie.Need-loop-holds Inv-loop μ-loop
 loop-holds c = (search needs, c .with-regions .ensures ∙ sym (fields-first _))
 
 with-fields-of-requires : tie.Need-with-fields-of-requires Inv-loop μ-loop
-with-fields-of-requires c κs = search needs
+with-fields-of-requires c κs = (search needs, rw (c .before .loop .inv .1) (fields-obey _ _))
 
 add-r : tie.Need-add-r Inv-loop μ-loop
 add-r c = search needs

@@ -4,16 +4,16 @@ use Rattle.bundle.specs.Bundle.{fieldTo}
 use Rattle.bundle.proofs.building.field_to.Statement.{statement}
 use Rattle.bundle.proofs.building.field_to.Tie as tie
 
-add-field-requires : tie.Need-add-field-requires
-add-field-requires c κs = search needs
+push-field-requires : tie.Need-push-field-requires
+push-field-requires c κs = c .before .before .pre .ok
 
 returns : tie.Need-returns
 unfolding fieldTo
-returns c = search (tests, c .add-field .ensures)
+returns c = search (tests, c .push-field .ensures)
 
 returns-2 : tie.Need-returns-2
 unfolding fieldTo
 returns-2 c = search tests
 
 pub field-to-spec : {M : Type 1} → statement M
-field-to-spec = tie.close (tie.spec add-field-requires returns returns-2)
+field-to-spec = tie.close (tie.spec push-field-requires returns returns-2)

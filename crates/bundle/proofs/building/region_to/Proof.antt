@@ -4,16 +4,16 @@ use Rattle.bundle.specs.Bundle.{regionTo}
 use Rattle.bundle.proofs.building.region_to.Statement.{statement}
 use Rattle.bundle.proofs.building.region_to.Tie as tie
 
-add-region-requires : tie.Need-add-region-requires
-add-region-requires c κs = search needs
+push-region-requires : tie.Need-push-region-requires
+push-region-requires c κs = c .before .before .pre .ok
 
 returns : tie.Need-returns
 unfolding regionTo
-returns c = search (tests, c .add-region .ensures)
+returns c = search (tests, c .push-region .ensures)
 
 returns-2 : tie.Need-returns-2
 unfolding regionTo
 returns-2 c = search tests
 
 pub region-to-spec : {M : Type 1} → statement M
-region-to-spec = tie.close (tie.spec add-region-requires returns returns-2)
+region-to-spec = tie.close (tie.spec push-region-requires returns returns-2)

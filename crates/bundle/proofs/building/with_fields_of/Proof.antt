@@ -5,6 +5,7 @@ use native.Mathlib.Nat.{le-antisymm}
 use borrow.Author.Needs.{needs}
 use Rattle.bundle.specs.Bundle.{withFieldsOf}
 use Rattle.bundle.proofs.Next.{fields-of-first, fields-of-next}
+use Rattle.bundle.proofs.Obeying.{fields-of-obey}
 use Rattle.bundle.proofs.building.with_fields_of.Statement.{statement}
 use Rattle.bundle.proofs.building.with_fields_of.Tie as tie
 
@@ -33,7 +34,7 @@ field-read-requires : tie.Need-field-read-requires Inv-loop μ-loop
 field-read-requires c κs = search needs
 
 field-to-requires : tie.Need-field-to-requires Inv-loop μ-loop
-field-to-requires c κs = search needs
+field-to-requires c κs = rw (c .before .before .loop .inv .1) (fields-of-obey _ _ _ (c .before .before .before .before .before .before .pre .1) _)
 
 add-i : tie.Need-add-i Inv-loop μ-loop
 add-i c = search needs

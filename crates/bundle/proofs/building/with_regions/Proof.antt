@@ -5,6 +5,7 @@ use native.Mathlib.Nat.{le-antisymm}
 use borrow.Author.Needs.{needs}
 use Rattle.bundle.specs.Bundle.{withRegions}
 use Rattle.bundle.proofs.Next.{regions-first, regions-next}
+use Rattle.bundle.proofs.Obeying.{regions-obey}
 use Rattle.bundle.proofs.building.with_regions.Statement.{statement}
 use Rattle.bundle.proofs.building.with_regions.Tie as tie
 
@@ -27,7 +28,7 @@ region-size-requires : tie.Need-region-size-requires Inv-loop μ-loop
 region-size-requires c κs = search needs
 
 region-to-requires : tie.Need-region-to-requires Inv-loop μ-loop
-region-to-requires c κs = search needs
+region-to-requires c κs = rw (c .before .before .loop .inv .1) (regions-obey _ _)
 
 add-i : tie.Need-add-i Inv-loop μ-loop
 add-i c = search needs

@@ -1,47 +1,21 @@
 use mathlib.Core.Path.{sym, _∙_}
-use native.Mathlib.Omega.{arith}
-use borrow.Author.Tests.{ne-eqb}
+use Rattle.policy.specs.Build.{regionNumber, built}
 use borrow.Author.Needs.{needs}
-use Rattle.policy.specs.Build.{built}
-use Rattle.policy.proofs.Accepted.{accepts-region}
 use Rattle.policy.proofs.Policy.add_region.Statement.{statement}
 use Rattle.policy.proofs.Policy.add_region.Tie as tie
 
-region-number-requires : tie.Need-region-number-requires
-region-number-requires c κs = search needs
+well-formed-requires : tie.Need-well-formed-requires
+well-formed-requires c κs = search needs
+
+push-region-requires : tie.Need-push-region-requires
+push-region-requires c κs = sym (c .before .well-formed .ensures) ∙ c .if1 .taken
 
 returns : tie.Need-returns
-unfolding built
-returns c = rw (← c .before .region-number .ensures) (simp (ne-eqb _ _ (c .if1 .taken)))
-
-cast-r : tie.Need-cast-r
-cast-r c = search needs
-
-mul-self : tie.Need-mul-self
-mul-self c = search needs
-
-element-write-self : tie.Need-element-write-self
-element-write-self c = accepts-region _ _ (sym (c .before .region-number .ensures) ∙ c .if1 .left) .room
-
-element-write-self-2 : tie.Need-element-write-self-2
-element-write-self-2 c = accepts-region _ _ (sym (c .before .region-number .ensures) ∙ c .if1 .left) .room
-
-add-self : tie.Need-add-self
-add-self c = omega (arith, accepts-region _ _ (sym (c .before .region-number .ensures) ∙ c .if1 .left) .room)
+returns c = search needs
 
 returns-2 : tie.Need-returns-2
-unfolding built
-returns-2 c = rw (← c .before .region-number .ensures) (simp (c .if1 .left))
+unfolding built regionNumber
+returns-2 c = simp (sym (c .before .well-formed .ensures) ∙ c .if1 .left)
 
 pub add-region-spec : {M : Type 1} → statement M
-add-region-spec =
-    tie.close
-    (tie.spec
-    region-number-requires
-    returns
-    cast-r
-    mul-self
-    element-write-self
-    element-write-self-2
-    add-self
-    returns-2)
+add-region-spec = tie.close (tie.spec well-formed-requires push-region-requires returns returns-2)

@@ -1,0 +1,145 @@
+-- The tests of the add, one by one. The region exists, so it is one of the eight, and it has room, so the field has a place in the
+-- arrays; the next policy is the one defined.
+use Prim.Native.Nat.{_<_}
+use mathlib.Core.Path.{sym, _∙_}
+use native.Mathlib.Omega.{arith}
+use borrow.Author.Tests.{not-true, not-false, lt-leb, le-leb}
+use Rattle.policy.specs.Policy.{countOf, placeOf, endBefore, fieldFits}
+use Rattle.policy.specs.Build.{fieldNumber, built}
+use Rattle.policy.proofs.WellFormed.{regions-at-most}
+use borrow.Author.Needs.{needs}
+use Rattle.policy.proofs.Policy.push_field.Statement.{statement}
+use Rattle.policy.proofs.Policy.push_field.Tie as tie
+
+-- an existing region is one of the eight
+below-8 : (c : tie.Else1) → c .before .args .region < 8
+below-8 c = omega (arith, regions-at-most _ (c .before .pre), c .if1 .left)
+
+-- with room in the region, the next field has a place
+place-below : (c : tie.Else3) → placeOf (c .before .before .before .before .before .before .before .before .before .before .before .args .region) (countOf (c .before .before .before .before .before .before .before .before .before .before .before .args .t1) (c .before .before .before .before .before .before .before .before .before .before .before .args .region)) < 128
+place-below c = omega (arith, below-8 (c .before .before .before .before .before .before .before .before .before .before), c .before .before .before .before .before .before .before .before .if2 .left)
+
+returns : tie.Need-returns
+unfolding built fieldNumber
+returns c = simp (c .before .pre, le-leb _ _ (c .if1 .taken))
+
+element-copy-out-count : tie.Need-element-copy-out-count
+element-copy-out-count c = below-8 c
+
+returns-2 : tie.Need-returns-2
+unfolding built fieldNumber
+returns-2 c = simp (c .before .before .before .pre, lt-leb _ _ (c .before .before .if1 .left), le-leb _ _ (c .if2 .taken))
+
+cast-end-before : tie.Need-cast-end-before
+cast-end-before c = search needs
+
+end-before-requires : tie.Need-end-before-requires
+end-before-requires c κs = (below-8 (c .before .before .before .before .before .before), omega (arith, c .before .before .before .before .if2 .left))
+
+mul-field-follows : tie.Need-mul-field-follows
+mul-field-follows c = search needs
+
+element-copy-out-field-follows : tie.Need-element-copy-out-field-follows
+element-copy-out-field-follows c = below-8 (c .before .before .before .before .before .before .before)
+
+field-follows-requires : tie.Need-field-follows-requires
+field-follows-requires c κs = search needs
+
+returns-3 : tie.Need-returns-3
+unfolding built fieldNumber fieldFits endBefore
+returns-3 c = simp (
+  c .before .before .before .before .before .before .before .before .before .before .before .pre,
+  lt-leb _ _ (c .before .before .before .before .before .before .before .before .before .before .if1 .left),
+  lt-leb _ _ (c .before .before .before .before .before .before .before .before .if2 .left),
+  ← c .before .before .before .end-before .ensures,
+  sym (c .before .field-follows .ensures) ∙ not-true _ (c .if3 .taken),
+)
+
+mul-place : tie.Need-mul-place
+mul-place c = search needs
+
+cast-place : tie.Need-cast-place
+cast-place c = search needs
+
+add-place : tie.Need-add-place
+add-place c = search needs
+
+element-write-self : tie.Need-element-write-self
+element-write-self c = place-below c
+
+element-write-self-2 : tie.Need-element-write-self-2
+element-write-self-2 c = place-below c
+
+element-write-self-3 : tie.Need-element-write-self-3
+element-write-self-3 c = place-below c
+
+mul-self : tie.Need-mul-self
+mul-self c = search needs
+
+element-write-self-4 : tie.Need-element-write-self-4
+element-write-self-4 c = place-below c
+
+mul-self-2 : tie.Need-mul-self-2
+mul-self-2 c = search needs
+
+element-write-self-5 : tie.Need-element-write-self-5
+element-write-self-5 c = place-below c
+
+mul-self-3 : tie.Need-mul-self-3
+mul-self-3 c = search needs
+
+element-write-self-6 : tie.Need-element-write-self-6
+element-write-self-6 c = place-below c
+
+mul-self-4 : tie.Need-mul-self-4
+mul-self-4 c = search needs
+
+element-write-self-7 : tie.Need-element-write-self-7
+element-write-self-7 c = place-below c
+
+add-self : tie.Need-add-self
+add-self c = search needs
+
+element-write-self-8 : tie.Need-element-write-self-8
+element-write-self-8 c = below-8 (c .before .before .before .before .before .before .before .before .before .before)
+
+returns-4 : tie.Need-returns-4
+unfolding built fieldNumber fieldFits endBefore
+returns-4 c = simp (
+  c .before .before .before .before .before .before .before .before .before .before .before .pre,
+  lt-leb _ _ (c .before .before .before .before .before .before .before .before .before .before .if1 .left),
+  lt-leb _ _ (c .before .before .before .before .before .before .before .before .if2 .left),
+  ← c .before .before .before .end-before .ensures,
+  sym (c .before .field-follows .ensures) ∙ not-false _ (c .if3 .left),
+)
+
+pub push-field-spec : {M : Type 1} → statement M
+push-field-spec =
+    tie.close
+    (tie.spec
+    returns
+    element-copy-out-count
+    returns-2
+    cast-end-before
+    end-before-requires
+    mul-field-follows
+    element-copy-out-field-follows
+    field-follows-requires
+    returns-3
+    mul-place
+    cast-place
+    add-place
+    element-write-self
+    element-write-self-2
+    element-write-self-3
+    mul-self
+    element-write-self-4
+    mul-self-2
+    element-write-self-5
+    mul-self-3
+    element-write-self-6
+    mul-self-4
+    element-write-self-7
+    add-self
+    element-write-self-8
+    returns-4)
