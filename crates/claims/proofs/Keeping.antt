@@ -8,9 +8,9 @@ use mathlib.Core.List.{List}
 use native.Mathlib.Omega.{arith}
 use lib.Dec.{ltb, eqb}
 use lib.Seq.{set-getD}
-use borrow.Author.Tests.{eqb-true, eq-eqb, ltb-true, ltb-false, lt-ltb, not-false}
+use borrow.Author.Tests.{eqb-true, eq-eqb, ltb-true, ltb-false}
 use Rattle.v8.specs.Choice.{cond-both}
-use Rattle.v8.specs.Search.{first-least, needed, needed-le, needed-eq}
+use Rattle.v8.specs.Search.{needed, needed-le, needed-eq}
 use Rattle.alu.specs.declared.condition.Narrowing.the-variants.{Unrelated}
 use Rattle.sets.specs.declared.NumberSet.{NumberSet}
 use Rattle.sets.specs.Sets.{nought}
@@ -18,10 +18,10 @@ use Rattle.rows.specs.declared.Entry.{Entry}
 use Rattle.rows.specs.declared.Note.{Note}
 use Rattle.rows.specs.declared.Row.{Row}
 use Rattle.rows.specs.Entry.{noEntry, isNumber, isStartOrNull, isComparison, numberIn, entryOk, noteOk, fitsNote}
-use Rattle.rows.specs.Row.{entryAt, entriesWith, rowWith, entryOf, noteOf, rowOf, entryPlace, notePlace, formedAt, brokenAt, formFault, fitsAt, misfitsAt, misfit, places}
+use Rattle.rows.specs.Row.{entryAt, entriesWith, rowWith, noteOf, rowOf, notePlace, formedAt, formFault, fitsAt, misfitsAt, misfit, places}
 use Rattle.rows.proofs.Tests.{or-true, and-went}
 use Rattle.rows.proofs.Order.{fits-self}
-use Rattle.rows.proofs.Obeying.{row-obeys}
+use Rattle.rows.proofs.Obeying.{formed-each, formed-entry, row-obeys}
 use Rattle.rows.proofs.ReadRows.{entry-read}
 use Rattle.rows.proofs.RowFitting.{beyond}
 use Rattle.rules.specs.declared.Remainder.{Remainder}
@@ -86,19 +86,14 @@ module _ (regions : ℕ) (sizes bytes : List ℕ) (at : ℕ) (h : places ≤ for
   row = rowOf bytes at
 
   formed : (r : ℕ) → r < places → formedAt regions sizes bytes at r ≡ true
-  unfolding formFault
-  formed r l = not-false (formedAt regions sizes bytes at r) (first-least (brokenAt regions sizes bytes at) 0 places r (omega arith) (omega arith))
+  formed = formed-each regions sizes bytes at h
 
   note-formed : noteOk (row .note) ≡ true
   unfolding formedAt rowOf
   note-formed = needed (formedAt regions sizes bytes at 32) (noteOk (noteOf bytes (notePlace at))) (formed 32 (omega arith)) (λ f. rw (f, and-false))
 
   entry-formed : (r : ℕ) → r < 32 → entryOk regions sizes (entryAt row r) ≡ true
-  unfolding formedAt
-  entry-formed r l =
-      ap (entryOk regions sizes) (entry-read bytes at r l)
-      ∙ needed (formedAt regions sizes bytes at r) (entryOk regions sizes (entryOf bytes (entryPlace at r))) (formed r (omega arith))
-      (λ f. rw (lt-ltb r 32 l, f, and-false))
+  entry-formed r l = ap (entryOk regions sizes) (entry-read bytes at r l) ∙ formed-entry regions sizes bytes at r l (formed r (omega arith))
 
   -- "1 number .. Region 0"
   number-region : (e : Entry) → entryOk regions sizes e ≡ true → isNumber e ≡ true → e .region ≡ 0

@@ -76,14 +76,14 @@ entry-obeys regions sizes e top f =
     λ _ f₃. as-other regions sizes e f₃
 
 -- no fault found is none
-formed-each : (regions : ℕ) (sizes bytes : List ℕ) (at : ℕ) → places ≤ formFault regions sizes bytes at
+pub formed-each : (regions : ℕ) (sizes bytes : List ℕ) (at : ℕ) → places ≤ formFault regions sizes bytes at
     → (r : ℕ) → r < places → formedAt regions sizes bytes at r ≡ true
 unfolding formFault
 formed-each regions sizes bytes at e r l =
     not-false (formedAt regions sizes bytes at r)
     (first-least (brokenAt regions sizes bytes at) 0 places r (omega arith) (omega arith))
 
-formed-entry : (regions : ℕ) (sizes bytes : List ℕ) (at r : ℕ) → r < 32 → formedAt regions sizes bytes at r ≡ true
+pub formed-entry : (regions : ℕ) (sizes bytes : List ℕ) (at r : ℕ) → r < 32 → formedAt regions sizes bytes at r ≡ true
     → entryOk regions sizes (entryOf bytes (entryPlace at r)) ≡ true
 unfolding formedAt
 formed-entry regions sizes bytes at r l e =
