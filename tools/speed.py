@@ -1,10 +1,12 @@
 #!/usr/bin/env python3
 """speed.py: measures the proved programs beside the plain ones, in one run, and prints the ratios.
 
-Needs target/bin/corpus and target/bin/speed (rt check corpus speed) and gcc, which builds tools/plain with
--O2. Each measurement is the best of five runs of the whole program, start and reading included.
+Needs target/bin/answer, corpus and speed (rt check answer corpus speed), gcc, which builds tools/plain with -O2,
+and valgrind and size for the memory. Each time is the best of five runs of the whole program, start and reading
+included. The memory of a program is the most that its stack and heap take (valgrind's massif) and its static data.
 """
 import os
+import re
 import struct
 import subprocess
 import tempfile
@@ -54,6 +56,24 @@ def steps(name, routine, plain):
     print(f"{name}: {count / ours / 1e6:.0f} million steps a second, plain {count / theirs / 1e6:.0f}, time ratio {ours / theirs:.2f}")
 
 
+def most_memory(command, data, folder):
+    """The most bytes of stack, heap and static data that a program takes."""
+    out = f"{folder}/massif"
+    subprocess.run(["valgrind", "--tool=massif", "--stacks=yes", f"--massif-out-file={out}", command],
+                   input=data, capture_output=True, check=True)
+    with open(out) as file:
+        snapshots = file.read().split("#-----------\nsnapshot=")[1:]
+    taken = max(sum(int(n) for n in re.findall(r"^mem_\w+_B=(\d+)", one, re.M)) for one in snapshots)
+    sizes = subprocess.run(["size", command], capture_output=True, check=True, text=True).stdout.split("\n")[1].split()
+    return taken + int(sizes[1]) + int(sizes[2])
+
+
+def memory(name, bundle, plain, folder):
+    ours = most_memory(f"{ROOT}/target/bin/answer", bundle, folder)
+    theirs = most_memory(plain, bundle, folder)
+    print(f"{name}: {ours:,} bytes of memory, plain {theirs:,}, ratio {ours / theirs:.2f}")
+
+
 def main():
     with tempfile.TemporaryDirectory() as folder:
         for job in ("answer", "machine"):
@@ -62,6 +82,7 @@ def main():
         for name in ("name", "charge", "linked", "sum"):
             with open(f"{ROOT}/examples/{name}/bundle.bin", "rb") as file:
                 answers(f"example {name}", file.read(), 4000, f"{folder}/answer")
+        memory("128 words, 8 full regions", full_bundle(), f"{folder}/answer", folder)
         steps("arithmetic loop", 0, f"{folder}/machine")
         steps("loop with a load and a store", 1, f"{folder}/machine")
 
