@@ -11,9 +11,7 @@ pub mod condition;
 
 pub use codes::Codes;
 pub use codes::codes_of;
-pub use condition::Condition;
 pub use condition::Narrowing;
-pub use condition::Rule;
 pub use condition::condition_of;
 pub use condition::holds;
 pub use condition::opposite;

@@ -3,7 +3,6 @@ use Prim.Native.Nat.{ℕ, _≤_}
 use mathlib.Core.Bool.{true, and-false}
 use mathlib.Core.List.{List}
 use mathlib.Core.Path.{_≡_}
-use lib.Dec.{leb, eqb}
 use lib.ListN.{length}
 use Rattle.v8.specs.Search.{needed-le, needed-eq}
 use Rattle.bundle.specs.Layout.{most, lengthGiven, bundleOk}

@@ -3,16 +3,14 @@
 -- nothing, and neither does the condition always. So the row arrives as it left. One nop alone has no next word, which the flow refuses.
 use Prim.Native.Nat.{ℕ, zero, suc, _+_, _*_, _≤_, _<_}
 use mathlib.Core.Path.{_≡_, refl, ap, _∙_}
-use mathlib.Core.Bool.{true, false, and-false}
+use mathlib.Core.Bool.{true, and-false}
 use mathlib.Core.List.{List, [], _∷_}
 use native.Mathlib.Omega.{arith}
 use lib.ListN.{length}
 use borrow.Author.Tests.{le-ltb}
-use Rattle.v8.specs.declared.Instruction.the-variants.{Sethi, Bicc, Return}
-use Rattle.v8.specs.declared.Reading.the-variants.{Read}
-use Rattle.v8.specs.Signed.{signExtend}
 use Rattle.v8.specs.Search.{first, lowest}
-use Rattle.v8.specs.Read.{readingOf, format00, format10}
+use Rattle.v8.specs.Read.{readingOf}
+use Rattle.v8.proofs.Worked.{nop-read, return-read, always-read}
 use Rattle.alu.specs.Result.{sethiOf}
 use Rattle.alu.specs.Condition.{conditionOf}
 use Rattle.policy.specs.declared.Policy.{Policy}
@@ -40,19 +38,6 @@ below-two P a b zero l = a
 below-two P a b (suc zero) l = b
 below-two P a b (suc (suc w)) l = absurd (omega arith)
 
--- what the words are read as
-nop-read : readingOf nop ≡ Read (Sethi 0 0)
-unfolding readingOf format00
-nop-read = refl
-
-return-read : readingOf returnWord ≡ Read Return
-unfolding readingOf format10
-return-read = refl
-
-always-read : readingOf alwaysHere ≡ Read (Bicc false 8 (record { 0 = 0 }))
-unfolding readingOf format00 signExtend
-always-read = refl
-
 -- a word whose row is well formed passes 1
 row-passes : (t : Routine) (w : ℕ) → places ≤ formFault (t .policy .regions) (t .policy .sizes) (t .rows) (rowBytes * w) → passes (rowPass t w) ≡ true
 unfolding rowPass
@@ -71,12 +56,12 @@ module _ (p : Policy) (rows entry result : List ℕ) (f : WellFormedEntry p entr
     alone-rows = all-pass (rowPass alone) 1 (below-one (λ (w : ℕ). passes (rowPass alone w) ≡ true) (row-passes alone 0 (omega arith)))
 
     alone-reads : passOf (readPass alone) 1 ≡ accepted
-    unfolding passOf first lowest readPass readingOf format00
-    alone-reads = refl
+    unfolding passOf first lowest readPass
+    alone-reads = rw nop-read
 
     alone-flow : passOf (flowPass alone) 1 ≡ refuse 3 0 0
-    unfolding passOf first lowest flowPass readingOf format00 isSlot
-    alone-flow = refl
+    unfolding passOf first lowest flowPass isSlot
+    alone-flow = rw nop-read
 
     alone-answer : checkOf p (nop ∷ []) rows entry result ≡ refuse 3 0 0
     unfolding checkOf

@@ -14,6 +14,7 @@ use Rattle.v8.specs.declared.LoadOp.{LoadOp}
 use Rattle.v8.specs.declared.StoreOp.{StoreOp}
 use Rattle.v8.specs.declared.Displacement.{Displacement}
 use Rattle.v8.specs.declared.Instruction.the-variants.{Load, Store}
+use Rattle.v8.specs.Laws.{OperandSmall}
 use Rattle.alu.specs.Result.{add32}
 use Rattle.policy.specs.declared.Policy.{Policy}
 use Rattle.policy.specs.declared.Field.{Field}
@@ -59,7 +60,6 @@ use Rattle.guarantee.specs.Guarantee.{hostOf}
 use Rattle.guarantee.specs.Laws.{InElement}
 use Rattle.guarantee.specs.Invariant.{CoreOk, Fitted, Kept, Covers}
 use Rattle.guarantee.proofs.Writing.{read-small}
-use Rattle.guarantee.proofs.Numbers.{OperandSmall}
 use Rattle.guarantee.proofs.Computed.{register-held, operand-held, operand-rules, operand-word, written-kept}
 use Rattle.guarantee.proofs.Stored.{load-declared, store-declared, store-framed}
 

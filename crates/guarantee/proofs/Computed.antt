@@ -13,6 +13,7 @@ use Rattle.v8.specs.declared.ShiftOp.{ShiftOp}
 use Rattle.v8.specs.declared.Operand.{Operand}
 use Rattle.v8.specs.declared.Operand.the-variants.{Reg, Imm}
 use Rattle.v8.specs.declared.Instruction.the-variants.{Sethi, Alu, Shift}
+use Rattle.v8.specs.Laws.{OperandSmall}
 use Rattle.alu.specs.Result.{aluOf, shiftOf, sethiOf}
 use Rattle.alu.specs.Codes.{codesOf}
 use Rattle.alu.proofs.Words.{alu-small, shift-small, sethi-small}
@@ -43,7 +44,6 @@ use Rattle.guarantee.specs.Fields.{Framed}
 use Rattle.guarantee.specs.Guarantee.{heldOf, Words}
 use Rattle.guarantee.specs.Invariant.{CoreOk, Fitted, Kept, Covers}
 use Rattle.guarantee.proofs.Writing.{wrote, words-written, words-coded, read-small}
-use Rattle.guarantee.proofs.Numbers.{OperandSmall}
 
 -- memory that is as it was
 pub framed-self : (p : Policy) (m : List ℕ) → Framed p m m

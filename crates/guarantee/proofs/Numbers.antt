@@ -1,114 +1,18 @@
--- The number in an instruction that is read is a word: sign extension gives one, and a shift's count is below 32.
-use Prim.Native.Nat.{ℕ, zero, suc, _-_, _^_, _<_}
-use mathlib.Core.Bool.{Bool, true, false}
+-- The number that an instruction of a routine adds is a word, since the words are read.
+use Prim.Native.Nat.{ℕ, zero, suc}
 use mathlib.Core.List.{List, [], _∷_}
-use native.Mathlib.Omega.{arith}
-use lib.Dec.{leb, ltb, eqb}
-use Rattle.v8.specs.Choice.{cond-both}
-use Rattle.v8.specs.Signed.{signExtend}
-use Rattle.v8.specs.Field.{opOf, op2Of, op3Of, iOf, unusedOf, simm13Of}
-use Rattle.v8.specs.declared.AluOp.{AluOp}
-use Rattle.v8.specs.declared.ShiftOp.{ShiftOp}
-use Rattle.v8.specs.declared.ShiftOp.the-variants.{Sll, Srl, Sra}
-use Rattle.v8.specs.declared.Operand.{Operand}
-use Rattle.v8.specs.declared.Operand.the-variants.{Reg, Imm}
-use Rattle.v8.specs.declared.Instruction.{Instruction}
-use Rattle.v8.specs.declared.Instruction.the-variants.{Sethi, Bicc, Alu, Shift, Load, Store, Return}
-use Rattle.v8.specs.declared.Reading.{Reading}
-use Rattle.v8.specs.declared.Reading.the-variants.{Read, Unread}
-use Rattle.v8.specs.declared.read.OperandReading.{OperandReading}
-use Rattle.v8.specs.declared.read.OperandReading.the-variants.{Second, Reserved}
-use Rattle.v8.specs.Read.{readingOf, format00, format10, memoryOf, memoryWith, operandOf, countOf, aluWith, shiftWith, displacementOf, aluOpOf, leafReturn}
+use Rattle.v8.specs.declared.Displacement.{Displacement}
+use Rattle.v8.specs.declared.Displacement.the-variants.{Index, Bytes}
+use Rattle.v8.specs.Laws.{OperandSmall, DisplacementSmall, ReadingSmall}
+use Rattle.v8.proofs.Small.{reads-small}
 use Rattle.access.specs.Serve.{addend}
 use Rattle.step.specs.Setting.{readingsOf, readingAt}
 
--- the operand's number is a word
-abbrev pub OperandSmall : Operand → Type 0
-OperandSmall (Reg r) = Unit {0}
-OperandSmall (Imm v) = v < 4294967296
+pub addend-small : (d : Displacement) → DisplacementSmall d → OperandSmall (addend d)
+addend-small (Index r) l = l
+addend-small (Bytes n) l = l
 
-abbrev pub InstructionSmall : Instruction → Type 0
-InstructionSmall (Sethi rd imm22) = Unit {0}
-InstructionSmall (Bicc annul cnd d) = Unit {0}
-InstructionSmall (Alu op cc rd rs1 x) = OperandSmall x
-InstructionSmall (Shift op rd rs1 x) = OperandSmall x
-InstructionSmall (Load op rd rs1 d) = OperandSmall (addend d)
-InstructionSmall (Store op rd rs1 d) = OperandSmall (addend d)
-InstructionSmall Return = Unit {0}
-
-abbrev pub ReadingSmall : Reading → Type 0
-ReadingSmall (Read x) = InstructionSmall x
-ReadingSmall Unread = Unit {0}
-
-abbrev SecondSmall : OperandReading → Type 0
-SecondSmall (Second x) = OperandSmall x
-SecondSmall Reserved = Unit {0}
-
-extended : (x : ℕ) → x < 2 ^ 13 → signExtend 13 x < 4294967296
-unfolding signExtend
-extended x l = cond-both (λ (v : ℕ). v < 4294967296) (ltb x (2 ^ 12)) (λ _. omega arith) (λ _. omega arith)
-
-operand-small : (w : ℕ) → SecondSmall (operandOf w)
-unfolding operandOf
-operand-small w =
-    cond-both SecondSmall (eqb (iOf w) 1) (λ _. extended (simm13Of w) (omega arith))
-    λ _. cond-both SecondSmall (eqb (unusedOf w) 0) (λ _. tt) (λ _. tt)
-
-count-small : (w : ℕ) → SecondSmall (countOf w)
-unfolding countOf
-count-small w =
-    cond-both SecondSmall (eqb (unusedOf w) 0)
-    (λ _. cond-both SecondSmall (eqb (iOf w) 1) (λ _. omega arith) (λ _. tt)) (λ _. tt)
-
-alu-with : (op : AluOp) (cc : Bool) (w : ℕ) (x : OperandReading) → SecondSmall x → ReadingSmall (aluWith op cc w x)
-alu-with op cc w (Second x) l = l
-alu-with op cc w Reserved l = tt
-
-shift-with : (op : ShiftOp) (w : ℕ) (x : OperandReading) → SecondSmall x → ReadingSmall (shiftWith op w x)
-shift-with op w (Second x) l = l
-shift-with op w Reserved l = tt
-
-format00-small : (w : ℕ) → ReadingSmall (format00 w)
-unfolding format00
-format00-small w = cond-both ReadingSmall (eqb (op2Of w) 4) (λ _. tt) λ _. cond-both ReadingSmall (eqb (op2Of w) 2) (λ _. tt) (λ _. tt)
-
-format10-small : (w : ℕ) → ReadingSmall (format10 w)
-unfolding format10
-format10-small w =
-    cond-both ReadingSmall (leb (op3Of w) 0x07) (λ _. alu-with (aluOpOf (op3Of w)) false w (operandOf w) (operand-small w))
-    λ _. cond-both ReadingSmall (ltb (op3Of w) 0x10) (λ _. tt)
-    λ _. cond-both ReadingSmall (leb (op3Of w) 0x17) (λ _. alu-with (aluOpOf (op3Of w - 0x10)) true w (operandOf w) (operand-small w))
-    λ _. cond-both ReadingSmall (eqb (op3Of w) 0x25) (λ _. shift-with Sll w (countOf w) (count-small w))
-    λ _. cond-both ReadingSmall (eqb (op3Of w) 0x26) (λ _. shift-with Srl w (countOf w) (count-small w))
-    λ _. cond-both ReadingSmall (eqb (op3Of w) 0x27) (λ _. shift-with Sra w (countOf w) (count-small w))
-    λ _. cond-both ReadingSmall (eqb w leafReturn) (λ _. tt) (λ _. tt)
-
-memory-small : (w : ℕ) (x : Operand) → OperandSmall (addend (displacementOf x)) → ReadingSmall (memoryOf w (displacementOf x))
-unfolding memoryOf
-memory-small w x l =
-    cond-both ReadingSmall (eqb (op3Of w) 0x00) (λ _. l)
-    λ _. cond-both ReadingSmall (eqb (op3Of w) 0x01) (λ _. l)
-    λ _. cond-both ReadingSmall (eqb (op3Of w) 0x02) (λ _. l)
-    λ _. cond-both ReadingSmall (eqb (op3Of w) 0x04) (λ _. l)
-    λ _. cond-both ReadingSmall (eqb (op3Of w) 0x05) (λ _. l)
-    λ _. cond-both ReadingSmall (eqb (op3Of w) 0x06) (λ _. l)
-    λ _. cond-both ReadingSmall (eqb (op3Of w) 0x09) (λ _. l)
-    λ _. cond-both ReadingSmall (eqb (op3Of w) 0x0A) (λ _. l) (λ _. tt)
-
-memory-with : (w : ℕ) (x : OperandReading) → SecondSmall x → ReadingSmall (memoryWith w x)
-memory-with w (Second (Reg r)) l = memory-small w (Reg r) tt
-memory-with w (Second (Imm v)) l = memory-small w (Imm v) l
-memory-with w Reserved l = tt
-
-pub reading-small : (w : ℕ) → ReadingSmall (readingOf w)
-unfolding readingOf
-reading-small w =
-    cond-both ReadingSmall (eqb (opOf w) 0) (λ _. format00-small w)
-    λ _. cond-both ReadingSmall (eqb (opOf w) 2) (λ _. format10-small w)
-    λ _. cond-both ReadingSmall (eqb (opOf w) 3) (λ _. memory-with w (operandOf w) (operand-small w)) (λ _. tt)
-
--- so is that of every word of a routine
 pub readings-small : (words : List ℕ) (w : ℕ) → ReadingSmall (readingAt (readingsOf words) w)
 readings-small [] w = tt
-readings-small (x ∷ xs) zero = reading-small x
+readings-small (x ∷ xs) zero = reads-small x
 readings-small (x ∷ xs) (suc w) = readings-small xs w

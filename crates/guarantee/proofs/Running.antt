@@ -6,6 +6,7 @@ use mathlib.Core.List.{List, [], _∷_}
 use native.Mathlib.Omega.{arith}
 use native.Mathlib.Nat.{zero-add}
 use lib.ListN.{length, getD}
+use Rattle.v8.specs.Laws.{ReadingSmall}
 use Rattle.policy.specs.declared.Policy.{Policy}
 use Rattle.policy.specs.Laws.{WellFormed}
 use Rattle.access.specs.Layout.{layoutOf}
@@ -23,7 +24,6 @@ use Rattle.guarantee.specs.Fields.{Declared, Framed}
 use Rattle.guarantee.specs.Safe.{ReadingSafe}
 use Rattle.guarantee.specs.Guarantee.{hostOf, noState, EndsWell, EndsWith, LastStep, Guaranteed}
 use Rattle.guarantee.specs.Invariant.{Invariant, StepGood}
-use Rattle.guarantee.proofs.Numbers.{ReadingSmall}
 use Rattle.guarantee.proofs.Computed.{framed-self}
 use Rattle.guarantee.proofs.Stepping.{step-sound}
 

@@ -13,6 +13,7 @@ use Rattle.v8.specs.declared.Instruction.{Instruction}
 use Rattle.v8.specs.declared.Instruction.the-variants.{Sethi, Bicc, Alu, Shift, Load, Store, Return}
 use Rattle.v8.specs.declared.Reading.{Reading}
 use Rattle.v8.specs.declared.Reading.the-variants.{Read, Unread}
+use Rattle.v8.specs.Laws.{InstructionSmall, ReadingSmall}
 use Rattle.alu.specs.declared.codes.Codes.{Codes}
 use Rattle.alu.specs.Condition.{condHolds, conditionOf}
 use Rattle.alu.proofs.Conditions.{opposite-holds}
@@ -52,7 +53,7 @@ use Rattle.guarantee.specs.Safe.{InstructionSafe, ReadingSafe}
 use Rattle.guarantee.specs.Guarantee.{hostOf, heldOf}
 use Rattle.guarantee.specs.Invariant.{CoreOk, Fitted, Kept, Good, Covers, At, Arrived, Due, Ready, Invariant, StepGood}
 use Rattle.guarantee.proofs.Writing.{read-small}
-use Rattle.guarantee.proofs.Numbers.{InstructionSmall, ReadingSmall}
+use Rattle.guarantee.proofs.Numbers.{addend-small}
 use Rattle.guarantee.proofs.Computed.{framed-self, sethi-covers, alu-covers, shift-covers}
 use Rattle.guarantee.proofs.Accessed.{load-covers, store-covers}
 
@@ -187,8 +188,8 @@ module _ (t : Routine) (bases : List ℕ) (returns : ℕ) (wf : WellFormed (t .p
   covered (Bicc annul cnd d) e k row c ck f = false-true (sym e)
   covered (Alu op cc rd rs1 x) e k row c ck f = alu-covers (t .policy) h row c ck f bases laid op cc rd rs1 x k
   covered (Shift op rd rs1 x) e k row c ck f = shift-covers (t .policy) h row c ck f bases op rd rs1 x k
-  covered (Load op rd rs1 d) e k row c ck f = load-covers (t .policy) bases returns wf laid row c ck f rs1 d k op rd
-  covered (Store op rd rs1 d) e k row c ck f = store-covers (t .policy) bases returns wf laid row c ck f rs1 d k op rd
+  covered (Load op rd rs1 d) e k row c ck f = load-covers (t .policy) bases returns wf laid row c ck f rs1 d (addend-small d k) op rd
+  covered (Store op rd rs1 d) e k row c ck f = store-covers (t .policy) bases returns wf laid row c ck f rs1 d (addend-small d k) op rd
   covered Return e k row c ck f = false-true (sym e)
 
   -- where a word that has run goes

@@ -20,7 +20,7 @@ pub const BAD_PLACEMENT: u8 = 22;
 const MOST_WORDS: usize = 128;
 
 // The number that refuses a run, or 0.
-pub fn refusal(policy: Policy, words: &[u32], bases: &[u32], returns: u32, memory: &[u8]) -> u8
+fn refusal(policy: Policy, words: &[u32], bases: &[u32], returns: u32, memory: &[u8]) -> u8
     ensures { λ r. ⌜ r ≡ refusalOf policy (now (words .entry)) (now (bases .entry)) returns (now (memory .entry)) ⌝ }
 {
     if !policy.well_formed() {

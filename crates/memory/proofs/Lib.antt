@@ -2,4 +2,3 @@ pub mod Sets
 pub mod Memory
 pub mod Parts
 pub mod Starts
-pub mod Examples

@@ -1,9 +1,9 @@
 -- The laws of loads and stores. A load is a function of the bytes that it reads (`load-same`), so that what a store does to
 -- single bytes decides what every load gives afterwards.
 use Prim.Native.Nat.{ℕ, _+_, _-_, _*_, _/_, _%_, _^_, _≤_, _<_}
-use mathlib.Core.Path.{_≡_, refl, sym, ap, _∙_}
+use mathlib.Core.Path.{_≡_, sym, ap, _∙_}
 use mathlib.Core.List.{List}
-use native.Mathlib.Nat.{add-zero, zero-add, add-assoc, div-one, mod-eq-of-lt}
+use native.Mathlib.Nat.{add-zero, zero-add, add-assoc, div-one}
 use native.Mathlib.Omega.{arith}
 use lib.Dec.{ltb}
 use lib.Seq.{length-sets}
@@ -11,9 +11,8 @@ use Rattle.v8.specs.Choice.{cond-both}
 use Rattle.v8.specs.Signed.{signExtend}
 use Rattle.v8.specs.declared.LoadOp.{LoadOp}
 use Rattle.v8.specs.declared.LoadOp.the-variants.{Ld, Ldub, Lduh, Ldsb, Ldsh}
-use Rattle.v8.specs.declared.StoreOp.the-variants.{St}
 use Rattle.memory.specs.Memory.{byteAt, halfAt, lowBytes, loadWidth, loadOf, storeWidth, storeOf}
-use Rattle.memory.specs.Laws.{StoreKeepsLength, StoreKeepsOthers, StoreKeepsBytes, LoadKept, lowOf, LoadAfterStore, WordAfterStore, LoadFits}
+use Rattle.memory.specs.Laws.{StoreKeepsLength, StoreKeepsOthers, StoreKeepsBytes, LoadKept, lowOf, LoadAfterStore, LoadFits}
 use Rattle.memory.proofs.Sets.{low-length, sets-others, sets-there, sets-bytes}
 
 half-same : (m n : List ℕ) (a b : ℕ) → byteAt m a ≡ byteAt n b → byteAt m (a + 1) ≡ byteAt n (b + 1) → halfAt m a ≡ halfAt n b
@@ -69,9 +68,6 @@ load-after-store load store v a m e inside =
     (λ j l. simp zero-add (sets-there (lowBytes n v) m a j (rw (low-length n v) inside) (rw (low-length n v, ← e) l)))
     ∙ ap (λ (w : ℕ). loadOf load (lowBytes w v) 0) (sym e)
     ∙ load-low load v
-
-pub word-after-store : WordAfterStore
-word-after-store v a m h inside = load-after-store Ld St v a m refl inside ∙ mod-eq-of-lt h
 
 -- a sign-extended field is a 32-bit word
 sign-extend-fits : (n x : ℕ) → 2 ^ n ≤ 4294967296 → x < 2 ^ n → signExtend n x < 4294967296

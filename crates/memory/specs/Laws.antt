@@ -8,7 +8,6 @@ use Rattle.v8.specs.Signed.{signExtend}
 use Rattle.v8.specs.declared.LoadOp.{LoadOp}
 use Rattle.v8.specs.declared.LoadOp.the-variants.{Ld, Ldub, Lduh, Ldsb, Ldsh}
 use Rattle.v8.specs.declared.StoreOp.{StoreOp}
-use Rattle.v8.specs.declared.StoreOp.the-variants.{St}
 use Rattle.memory.specs.Memory.{byteAt, Bytes, loadWidth, loadOf, storeWidth, storeOf}
 use Rattle.memory.specs.Place.{startOf}
 
@@ -51,10 +50,6 @@ abbrev pub LoadAfterStore : Type 0
 LoadAfterStore =
     (load : LoadOp) (store : StoreOp) (v a : ℕ) (m : List ℕ) → loadWidth load ≡ storeWidth store → a + storeWidth store ≤ length m
     → loadOf load (storeOf store v a m) a ≡ lowOf load v
-
--- LD gives the word that ST stored.
-abbrev pub WordAfterStore : Type 0
-WordAfterStore = (v a : ℕ) (m : List ℕ) → v < 4294967296 → a + 4 ≤ length m → loadOf Ld (storeOf St v a m) a ≡ v
 
 -- A load gives a 32-bit word.
 abbrev pub LoadFits : Type 0

@@ -10,7 +10,6 @@ pub mod place;
 pub mod part;
 
 pub use big_endian::load;
-pub use big_endian::store;
 pub use part::load_in;
 pub use part::store_in;
 pub use place::start_of;

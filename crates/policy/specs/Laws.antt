@@ -17,10 +17,6 @@ pub record Wide (width : ℕ) : Type 0 where
   pub some : 1 ≤ width
   pub most : width ≤ 4
 
--- Every width is one.
-abbrev pub Widths : Type 0
-Widths = (e : ℕ) → Wide (widthOf e)
-
 -- a size that a region may have
 pub record SizeRules (size : ℕ) : Type 0 where
   pub least : 8 ≤ size

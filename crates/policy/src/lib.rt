@@ -11,7 +11,6 @@ pub mod build;
 // The search for a field.
 mod find;
 
-pub use element::width_of;
 pub use find::find_in;
 
 // A field of a region: `count` elements that begin `offset` bytes after the region's start.

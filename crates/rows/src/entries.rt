@@ -69,7 +69,7 @@ pub fn address_in(r: u8, s: NumberSet) -> Entry
 }
 
 // The address of a region's start, or null.
-pub fn start_or_null(r: u8) -> Entry
+fn start_or_null(r: u8) -> Entry
     ensures { λ res. ⌜ res ≡ startOrNull r ⌝ }
 {
     let blank = NumberSet {
@@ -120,7 +120,7 @@ pub fn is_zero(e: Entry) -> bool
 }
 
 // Whether the entry is the start of this region.
-pub fn is_start_of(r: u8, e: Entry) -> bool
+fn is_start_of(r: u8, e: Entry) -> bool
     ensures { λ res. ⌜ res ≡ isStartOf r e ⌝ }
 {
     (e.kind == ADDRESS) & (e.region == r) & only_nought(e.set)

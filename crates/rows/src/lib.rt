@@ -13,11 +13,8 @@ pub mod registers;
 // The form of a row in bytes, and whether one row fits another.
 pub mod passes;
 
-pub use entries::entry_ok;
 pub use entries::field_entry;
 pub use entries::fits;
-pub use notes::fits_note;
-pub use notes::note_ok;
 pub use passes::form_fault;
 pub use passes::formed_at;
 pub use passes::misfit;

@@ -1,6 +1,6 @@
 -- The worked cases: what is given, what comes of it, and what the definitions give for it. A row of the shared table is a case
 -- with the outcome that it must have (document 01, "To the testers": "rows of one shared table").
-use Prim.Native.Nat.{ℕ, zero, suc, _+_, _*_, _/_, _%_, _^_}
+use Prim.Native.Nat.{ℕ, zero, suc, _+_, _/_, _%_, _^_}
 use mathlib.Core.Bool.{Bool, cond}
 use mathlib.Core.List.{List, [], _∷_}
 use lib.Dec.{eqb}

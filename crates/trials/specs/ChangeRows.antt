@@ -1,6 +1,6 @@
 -- What words do to a row, and the conditions that they break with the register named (document 01, "What each word does to a row" and
 -- "One word's conditions"). The words are those that GNU as gives; each is told beside its row, where %g1 to %g3 are r1 to r3.
-use Prim.Native.Nat.{ℕ, _+_, _-_}
+use Prim.Native.Nat.{ℕ}
 use mathlib.Core.List.{List, [], _∷_, _++_}
 use Rattle.policy.specs.declared.Policy.{Policy}
 use Rattle.policy.specs.Build.{emptyPolicy, withRegion, withField}

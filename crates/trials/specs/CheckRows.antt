@@ -1,6 +1,6 @@
 -- Whole checks (document 01, "Order of the check, and its numbers"): number, word, register. The words are those that GNU as gives; each is
 -- told beside its row, where %g1 to %g3 are r1 to r3 and %o0 is r8. The cost of a check grows fast with its words, so each has few.
-use Prim.Native.Nat.{ℕ, _+_, _-_, _*_}
+use Prim.Native.Nat.{ℕ, _*_}
 use mathlib.Core.List.{List, [], _∷_, _++_, map}
 use lib.ListN.{replicate, take}
 use Rattle.policy.specs.declared.Policy.{Policy}

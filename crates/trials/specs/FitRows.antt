@@ -1,5 +1,4 @@
 -- What fits what (document 01, "Entry A fits B if .."; "Note A fits B if ..").
-use Prim.Native.Nat.{ℕ, _+_, _-_}
 use mathlib.Core.Bool.{true, false}
 use mathlib.Core.List.{List, [], _∷_, _++_}
 use Rattle.sets.specs.Sets.{nought}

@@ -1,6 +1,6 @@
 -- The form of rows, by their bytes (document 01, "Rows"; "1 row badly formed: .. the lowest register .. is the one named, 32 for the
 -- note"): the register named, 33 where the row is well formed.
-use Prim.Native.Nat.{ℕ, _+_, _-_, _*_}
+use Prim.Native.Nat.{ℕ, _+_, _*_}
 use mathlib.Core.List.{List, [], _∷_, _++_}
 use lib.ListN.{replicate, set}
 use Rattle.sets.specs.Sets.{nought}
@@ -8,7 +8,7 @@ use Rattle.rows.specs.declared.Entry.{Entry}
 use Rattle.rows.specs.declared.Note.{Note}
 use Rattle.rows.specs.declared.Row as Rows·
 use Rattle.trials.specs.Case.{Row, _gives_, Given, form, yields}
-use Rattle.trials.specs.Entries.{above, below, least, most, entryWith, num, just, anyNumber, addr, at, unset, startOrNull, link, noteWith, noCodes, someCodes, compared, bare, put, noted, bytesOf}
+use Rattle.trials.specs.Entries.{above, below, least, most, entryWith, num, just, anyNumber, addr, at, unset, startOrNull, link, noteWith, someCodes, compared, bare, put, noted, bytesOf}
 
 -- the bytes of a row, where there are two regions, of 16 and of 8 bytes
 abbrev pub formOf : List ℕ → Given

@@ -1,15 +1,13 @@
 -- What branches leave of what was compared (document 01, "A branch with note 2 narrows a noted number on conditions 1, 2, 3, 9, 10, 11 ..").
 -- A row has the condition that holds: the branch's where it is taken, its opposite where it is not.
-use Prim.Native.Nat.{ℕ, _+_, _-_}
 use mathlib.Core.List.{List, [], _∷_, _++_}
 use Rattle.sets.specs.Sets.{nought}
 use Rattle.rows.specs.declared.Entry.{Entry}
-use Rattle.rows.specs.declared.Note.{Note}
 use Rattle.rows.specs.declared.Row as Rows·
 use Rattle.rules.specs.declared.Remainder.the-variants.{Left, Nothing}
 use Rattle.rules.specs.Narrow.{left, nothing}
 use Rattle.trials.specs.Case.{Row, _gives_, Outcome, narrowing, narrowingRow, remains, rowRemains}
-use Rattle.trials.specs.Entries.{above, below, least, most, num, just, anyNumber, addr, at, unset, startOrNull, link, noCodes, someCodes, compared, bare, put, noted}
+use Rattle.trials.specs.Entries.{above, below, least, most, num, just, anyNumber, addr, at, unset, startOrNull, link, someCodes, compared, bare, put, noted}
 
 -- an entry is left; nothing is
 abbrev pub leaves : Entry → Outcome

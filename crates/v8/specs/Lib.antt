@@ -5,3 +5,4 @@ pub mod Power
 pub mod Signed
 pub mod Field
 pub mod Read
+pub mod Laws

@@ -2,7 +2,7 @@
 ghost use mathlib.Core.Path.{_≡_};
 ghost use Prim.Native.Nat.{_<_, _≤_, _^_};
 ghost use Rattle.v8.specs.Signed.{signExtend};
-ghost use Rattle.v8.specs.Read.{readingOf, format00, format10, memoryOf, memoryWith, operandOf, countOf, displacementOf, aluWith, shiftWith, aluOpOf, loadOf, storeOf};
+ghost use Rattle.v8.specs.Read.{readNumber, readingOf, format00, format10, memoryOf, memoryWith, operandOf, countOf, displacementOf, aluWith, shiftWith, aluOpOf, loadOf, storeOf};
 use crate::AluOp;
 use crate::ByteOffset;
 use crate::Displacement;
@@ -223,7 +223,8 @@ fn read_format_11(w: u32) -> Reading
 
 // Reads a word: an instruction of the subset, or refusal 2.
 pub fn read_word(w: u32) -> Reading
-    ensures { λ r. ⌜ r ≡ readingOf w ⌝ }
+    ensures reading { λ r. ⌜ r ≡ readingOf w ⌝ }
+    ensures number { λ r. ⌜ readNumber r ≡ readNumber (readingOf w) ⌝ }
 {
     match w >> 30 {
         0 => read_format_00(w),

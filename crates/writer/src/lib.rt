@@ -2,7 +2,7 @@
 // stand in specs/Laws.antt. (Document 01, "Write an instruction".)
 ghost use mathlib.Core.Path.{_≡_};
 ghost use Prim.Native.Nat.{_+_, _<_, _≤_, _^_};
-ghost use Rattle.writer.specs.Write.{writingOf, signedBits, fiveBits, operandBits, countBits, displacementBits, aluCode, aluCodeCc, shiftCode, loadCode, storeCode, packed, sethiWord, biccWord, Fits};
+ghost use Rattle.writer.specs.Write.{writeNumber, writingOf, signedBits, fiveBits, operandBits, countBits, displacementBits, aluCode, aluCodeCc, shiftCode, loadCode, storeCode, packed, sethiWord, biccWord, Fits};
 use v8::AluOp;
 use v8::Displacement;
 use v8::Instruction;
@@ -203,7 +203,8 @@ fn write_bicc(annul: bool, cond: u8, distance: WordIndex) -> Writing
 
 // Writes an instruction: a word, or refusal 17 where a part is out of range.
 pub fn write_instruction(x: Instruction) -> Writing
-    ensures { λ r. ⌜ r ≡ writingOf x ⌝ }
+    ensures writing { λ r. ⌜ r ≡ writingOf x ⌝ }
+    ensures number { λ r. ⌜ writeNumber r ≡ writeNumber (writingOf x) ⌝ }
 {
     match x {
         Instruction::Sethi { rd, imm22 } => write_sethi(rd, imm22),

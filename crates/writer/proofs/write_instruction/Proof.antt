@@ -1,10 +1,16 @@
 -- Each kind of instruction is written by its own case; the parts fit their fields (Ranges).
 use Rattle.writer.proofs.Ranges.{alu-cc-small, shift-small, load-small, store-small, operand-fits, count-fits, displacement-fits}
-use Rattle.writer.specs.Write.{writingOf}
+use mathlib.Core.Path.{_≡_, ap}
+use Rattle.writer.specs.declared.Writing.{Writing}
+use Rattle.writer.specs.Write.{writeNumber, writingOf}
 use native.Mathlib.Omega.{arith}
 use borrow.Author.Needs.{needs}
 use Rattle.writer.proofs.write_instruction.Statement.{statement}
 use Rattle.writer.proofs.write_instruction.Tie as tie
+
+-- the same writing has the same number
+with-number : (x y : Writing) → x ≡ y → (x ≡ y) × (writeNumber x ≡ writeNumber y)
+with-number x y e = (e, ap writeNumber e)
 
 enum-known-x : tie.Need-enum-known-x
 enum-known-x c = search needs
@@ -71,31 +77,31 @@ enum-told c = search needs
 
 returns : tie.Need-returns
 unfolding writingOf
-returns c = rw (c .before .before .x .given .1) (c .write-sethi .ensures)
+returns c = with-number _ _ (rw (c .before .before .x .given .1) (c .write-sethi .ensures))
 
 returns-2 : tie.Need-returns-2
 unfolding writingOf
-returns-2 c = rw (c .before .before .x2 .given .1) (c .write-bicc .ensures)
+returns-2 c = with-number _ _ (rw (c .before .before .x2 .given .1) (c .write-bicc .ensures))
 
 returns-3 : tie.Need-returns-3
 unfolding writingOf
-returns-3 c = rw (c .before .before .before .before .x3 .given .1) (cc)
+returns-3 c = with-number _ _ (rw (c .before .before .before .before .x3 .given .1) (cc))
 
 returns-4 : tie.Need-returns-4
 unfolding writingOf
-returns-4 c = rw (c .before .before .before .before .x4 .given .1) (cc)
+returns-4 c = with-number _ _ (rw (c .before .before .before .before .x4 .given .1) (cc))
 
 returns-5 : tie.Need-returns-5
 unfolding writingOf
-returns-5 c = rw (c .before .before .before .before .x5 .given .1) (cc)
+returns-5 c = with-number _ _ (rw (c .before .before .before .before .x5 .given .1) (cc))
 
 returns-6 : tie.Need-returns-6
 unfolding writingOf
-returns-6 c = rw (c .before .before .before .before .x6 .given .1) (cc)
+returns-6 c = with-number _ _ (rw (c .before .before .before .before .x6 .given .1) (cc))
 
 returns-7 : tie.Need-returns-7
 unfolding writingOf
-returns-7 c = rw (c .enum-told .given .1)
+returns-7 c = with-number _ _ (rw (c .enum-told .given .1))
 
 pub write-instruction-spec : {M : Type 1} → statement M
 write-instruction-spec =

@@ -1,4 +1,3 @@
-use borrow.Author.Needs.{needs}
 use Rattle.v8.specs.Choice.{tests}
 use Rattle.bundle.specs.Bundle.{fieldTo}
 use Rattle.bundle.proofs.building.field_to.Statement.{statement}

@@ -1,6 +1,6 @@
 -- `fields_zero` meets its contract. Invariant: the zeros of the fields below i are zero. Measure: the fields left.
 use Prim.Native.Nat.{_≤_, _-_}
-use mathlib.Core.Bool.{true, false}
+use mathlib.Core.Bool.{true}
 use mathlib.Core.Path.{_≡_, sym, ap, _∙_}
 use native.Mathlib.Nat.{le-antisymm}
 use borrow.Author.Needs.{needs}

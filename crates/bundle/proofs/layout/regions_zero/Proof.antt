@@ -1,6 +1,6 @@
 -- `regions_zero` meets its contract. Invariant: the zeros of the regions below i are zero. Measure: the regions left.
 use Prim.Native.Nat.{_≤_, _-_}
-use mathlib.Core.Bool.{true, false}
+use mathlib.Core.Bool.{true}
 use mathlib.Core.Path.{_≡_, sym, ap, _∙_}
 use native.Mathlib.Nat.{le-antisymm}
 use borrow.Author.Needs.{needs}

@@ -26,7 +26,7 @@ read-word-requires c κs = search needs
 returns-2 : tie.Need-returns-2
 returns-2 c =
     let a = c .before .before .before .before .before .args in
-    c .read-word .ensures ∙ sym (fetched (now (a .words)) (a .at .0))
+    c .read-word .ensures .0 ∙ sym (fetched (now (a .words)) (a .at .0))
 
 pub word-at-spec : {M : Type 1} → statement M
 word-at-spec =

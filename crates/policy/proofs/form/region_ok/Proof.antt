@@ -1,7 +1,7 @@
 -- The test of a region is the one that is defined. Invariant: the fields below k obey the rules, and `end` is where they end. Measure: the
 -- fields left.
 use Prim.Native.Nat.{_≤_, _-_}
-use mathlib.Core.Bool.{true, false, and-false}
+use mathlib.Core.Bool.{true, and-false}
 use mathlib.Core.Path.{_≡_, sym, _∙_}
 use native.Mathlib.Omega.{arith}
 use native.Mathlib.Nat.{le-antisymm}
