@@ -1,4 +1,6 @@
 pub mod RunLaws
+pub mod Filled
+pub mod Fetched
 pub mod Loop
 pub mod Covered
 pub mod Begun

@@ -1,16 +1,17 @@
--- One turn of the run's loop: what a step over lent arrays answers is one step of the run, and the rest of the run goes on from
+-- One turn of the run's loop: what a step of the word fetched answers, over lent arrays, is one step of the run, and the rest of the run goes on from
 -- what it left; a fault leaves everything as it was.
 use Prim.Native.Nat.{ℕ, suc, _+_, _-_, _<_, _≤_}
 use mathlib.Core.Path.{_≡_, refl, sym, ap, _∙_}
 use mathlib.Core.Bool.{Bool}
 use mathlib.Core.List.{List}
 use native.Mathlib.Omega.{arith}
+use Rattle.v8.specs.declared.Reading.{Reading}
 use Rattle.step.specs.declared.Went.{Went}
 use Rattle.step.specs.declared.Progress.{Progress}
 use Rattle.step.specs.declared.Progress.the-variants.{Goes, Returned, Stopped}
-use Rattle.step.specs.Setting.{Setting}
+use Rattle.step.specs.Setting.{Setting, readingAt}
 use Rattle.step.specs.Effect.{Core}
-use Rattle.step.specs.Step.{State, Step, stopped, next, returned, stepOf}
+use Rattle.step.specs.Step.{State, Step, stopped, next, returned, stepWith, stepOf}
 use Rattle.step.specs.Lent.{Stepped, coreOf, leaving, stepFrom, wentOf}
 use Rattle.machine.specs.declared.End.the-variants as End·
 use Rattle.machine.specs.Run.{ended, afterStep, runFrom}
@@ -32,15 +33,21 @@ turn-spent s allowance steps st h = ap (λ (n : ℕ). runFrom s n steps st) (non
     none : (allowance steps : ℕ) → allowance ≤ steps → allowance - steps ≡ 0
     none allowance steps h = omega arith
 
-module _ (s : Setting) (allowance steps : ℕ) (st : State) (w : Went) (values : List ℕ) (marks : List Bool) (memory : List ℕ)
-    (e : wentOf w values marks memory ≡ leaving (st .core) (stepOf s st)) (h : steps < allowance) where
+module _ (s : Setting) (allowance steps : ℕ) (st : State) (x : Reading) (w : Went) (values : List ℕ) (marks : List Bool) (memory : List ℕ)
+    (fetched : x ≡ readingAt (s .readings) (st .control .at .0))
+    (e : wentOf w values marks memory ≡ leaving (st .core) (stepWith (s .layout) (s .returns) st x)) (h : steps < allowance) where
+  -- the step of what is fetched is the step of the state
+  step-of : stepWith (s .layout) (s .returns) st x ≡ stepOf s st
+  unfolding stepOf
+  step-of = ap (stepWith (s .layout) (s .returns) st) fetched
+
   -- what the lent arrays hold after the step
   left : Core
   left = coreOf values marks (w .codes) (w .coded) memory
 
   step-is : (p : Progress) → w .progress ≡ p → stepOf s st ≡ stepFrom p (w .control) left
   unfolding left
-  step-is p q = sym (leaving-step (st .core) (stepOf s st)) ∙ sym (ap (λ (x : Stepped). x .step) e) ∙ ap (λ (x : Progress). stepFrom x (w .control) left) q
+  step-is p q = sym step-of ∙ sym (leaving-step (st .core) _) ∙ sym (ap (λ (x : Stepped). x .step) e) ∙ ap (λ (x : Progress). stepFrom x (w .control) left) q
 
   one : (p : Progress) → w .progress ≡ p → runFrom s (allowance - steps) steps st ≡ afterStep steps st (runFrom s (allowance - (steps + 1)) (steps + 1)) (stepFrom p (w .control) left)
   one p q =
@@ -57,7 +64,7 @@ module _ (s : Setting) (allowance steps : ℕ) (st : State) (w : Went) (values :
 
   core-is : (f : ℕ) → w .progress ≡ Stopped f → left ≡ st .core
   unfolding left
-  core-is f q = ap (λ (x : Stepped). x .core) e ∙ ap (λ (x : Step). leaving (st .core) x .core) (step-is (Stopped f) q)
+  core-is f q = ap (λ (x : Stepped). x .core) e ∙ ap (λ (x : Step). leaving (st .core) x .core) (step-of ∙ step-is (Stopped f) q)
 
   pub turn-stopped : (f : ℕ) → w .progress ≡ Stopped f → runFrom s (allowance - steps) steps st ≡ ended (End·.Fault f) steps (coreOf values marks (w .codes) (w .coded) memory)
   unfolding left

@@ -2,6 +2,7 @@
 ghost use mathlib.Core.Path.{_≡_};
 ghost use Prim.Native.Nat.{_≤_};
 ghost use lib.ListN.{length};
+ghost use Rattle.step.specs.Setting.{Reads};
 ghost use Rattle.step.specs.Transfer.{goTo};
 ghost use Rattle.step.specs.Lent.{coreOf, layoutFrom, settingFrom, Covers};
 ghost use Rattle.machine.specs.Run.{runFrom};
@@ -13,7 +14,25 @@ use step::Control;
 use step::Pending;
 use step::Progress;
 use step::dispatch::one_step;
+use v8::Reading;
 use v8::WordIndex;
+use v8::read_word;
+
+// Reads all words, once before a run: what no word stands at is not read.
+fn read_all(words: &[u32]) -> [Reading; 128]
+    requires { ⌜ length (now words) ≤ 128 ⌝ }
+    ensures { λ r. ⌜ Reads r (now (words .entry)) ⌝ }
+{
+    let none = Reading::Unread;
+    let mut readings = [none; 128];
+    let mut i: usize = 0;
+    while i < words.len() {
+        let x = read_word(words[i]);
+        readings[i] = x;
+        i += 1;
+    }
+    readings
+}
 
 // Runs from word 0 until the run has returned, has spent the allowance, or stops at a fault.
 pub fn run_steps<'a>(
@@ -37,6 +56,7 @@ pub fn run_steps<'a>(
     requires { ⌜ (length (now words) ≤ 128) × (regions ≤ 8) × (regions ≤ length (now bases)) × Covers (layoutFrom regions (now sizes) (now bases) (now fields) (now elements) (now permissions) (now offsets) (now counts)) (length (now memory)) ⌝ }
     ensures { λ r. ⌜ ranOf r (now (values .exit)) (now (marks .exit)) (now (memory .exit)) ≡ runFrom (settingFrom (layoutFrom regions (now (sizes .entry)) (now (bases .entry)) (now (fields .entry)) (now (elements .entry)) (now (permissions .entry)) (now (offsets .entry)) (now (counts .entry))) (now (words .entry)) returns) allowance 0 (record { control = goTo 0; core = (coreOf (now (values .entry)) (now (marks .entry)) codes coded (now (memory .entry))) }) ⌝ }
 {
+    let readings = read_all(words);
     let mut control = Control {
         at: WordIndex(0),
         pending: Pending::Nothing,
@@ -45,6 +65,12 @@ pub fn run_steps<'a>(
     let mut set = coded;
     let mut steps: u64 = 0;
     while steps < allowance {
+        let at = control.at;
+        let i = at.0 as usize;
+        let mut x = Reading::Unread;
+        if i < 128 {
+            x = readings[i];
+        }
         let r = one_step(
             control,
             flags,
@@ -52,7 +78,7 @@ pub fn run_steps<'a>(
             values,
             marks,
             memory,
-            words,
+            x,
             returns,
             regions,
             sizes,

@@ -5,6 +5,8 @@ use mathlib.Core.Path.{_≡_}
 use mathlib.Core.Bool.{Bool}
 use mathlib.Core.List.{List}
 use lib.ListN.{getD}
+use Rattle.v8.specs.declared.Reading.{Reading}
+use Rattle.v8.specs.declared.Reading.the-variants.{Read, Unread}
 use Rattle.alu.specs.declared.codes.Codes.{Codes}
 use Rattle.step.specs.declared.Control.{Control}
 use Rattle.step.specs.declared.Progress.{Progress}
@@ -90,6 +92,11 @@ Lies sizes n width Nowhere = Unit {0}
 -- every access lies so: what a policy that obeys the rules and a memory as long as its regions give
 abbrev pub Covers : Layout → ℕ → Type 0
 Covers l n = (a : Access) (address : ℕ) → Lies (l .sizes) n (accessWidth a) (locate l a address)
+
+-- control stands at a word of the code, where that word is read
+abbrev pub Within : Control → Reading → Type 0
+Within k (Read x) = k .at .0 < 128
+Within k Unread = Unit {0}
 
 -- the layout that lent numbers say
 abbrev pub layoutFrom : ℕ → List ℕ → List ℕ → List ℕ → List ℕ → List ℕ → List ℕ → List ℕ → Layout

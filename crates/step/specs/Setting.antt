@@ -1,7 +1,8 @@
 -- What a run is set in: how policy and host have laid the memory, the words as they are read, and the return address.
 use Prim.Native.Nat.{ℕ}
+use mathlib.Core.Path.{_≡_}
 use mathlib.Core.List.{List, map}
-use lib.ListN.{getD}
+use lib.ListN.{getD, length}
 use Rattle.v8.specs.declared.Reading.{Reading}
 use Rattle.v8.specs.declared.Reading.the-variants.{Unread}
 use Rattle.v8.specs.Read.{readingOf}
@@ -20,3 +21,7 @@ readingsOf words = map readingOf words
 -- what the word at an index is read as; a word outside the code is not read
 abbrev pub readingAt : List Reading → ℕ → Reading
 readingAt readings at = getD readings at Unread
+
+-- 128 readings that have at every index what the word there is read as
+abbrev pub Reads : List Reading → List ℕ → Type 0
+Reads readings words = (length readings ≡ 128) × ((at : ℕ) → readingAt readings at ≡ readingAt (readingsOf words) at)

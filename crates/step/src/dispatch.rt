@@ -1,10 +1,10 @@
-// One step of the machine: the word is fetched, and its instruction is run.
+// One step of the machine: the instruction that is read at a word is run.
 ghost use mathlib.Core.Path.{_≡_};
 ghost use Prim.Native.Nat.{_<_, _≤_};
 ghost use lib.ListN.{length};
 ghost use Rattle.step.specs.Transfer.{isTransfer, inSlot};
-ghost use Rattle.step.specs.Step.{execute, stepWith, stepOf};
-ghost use Rattle.step.specs.Lent.{coreOf, leaving, wentOf, layoutFrom, settingFrom, Covers};
+ghost use Rattle.step.specs.Step.{execute, stepWith};
+ghost use Rattle.step.specs.Lent.{coreOf, leaving, wentOf, layoutFrom, Within, Covers};
 use crate::Control;
 use crate::Pending;
 use crate::Went;
@@ -20,7 +20,6 @@ use crate::loadstore::step_store;
 use alu::Codes;
 use v8::Instruction;
 use v8::Reading;
-use v8::read_word;
 
 // Whether the next word is a slot.
 pub fn in_slot(pending: Pending) -> bool
@@ -193,7 +192,8 @@ fn run_instruction<'a>(
     }
 }
 
-// Runs one step: 101 where the word is outside the code, is not read, or is a transfer in a slot.
+// Runs one step, x being what the word that control stands at is read as: 101 where it is not read, or
+// is a transfer in a slot.
 pub fn one_step<'a>(
     control: Control,
     codes: Codes,
@@ -201,7 +201,7 @@ pub fn one_step<'a>(
     values: &mut [u32; 32],
     marks: &mut [bool; 32],
     memory: &mut [u8],
-    words: &[u32],
+    x: Reading,
     returns: u32,
     regions: u8,
     sizes: &'a [u16; 8],
@@ -212,18 +212,13 @@ pub fn one_step<'a>(
     offsets: &'a [u32; 128],
     counts: &'a [u16; 128],
 ) -> Went
-    requires { ⌜ (length (now words) ≤ 128) × (regions ≤ 8) × (regions ≤ length (now bases)) × Covers (layoutFrom regions (now sizes) (now bases) (now fields) (now elements) (now permissions) (now offsets) (now counts)) (length (now memory)) ⌝ }
-    ensures { λ r. ⌜ wentOf r (now (values .exit)) (now (marks .exit)) (now (memory .exit)) ≡ leaving (coreOf (now (values .entry)) (now (marks .entry)) codes coded (now (memory .entry))) (stepOf (settingFrom (layoutFrom regions (now (sizes .entry)) (now (bases .entry)) (now (fields .entry)) (now (elements .entry)) (now (permissions .entry)) (now (offsets .entry)) (now (counts .entry))) (now (words .entry)) returns) (record { control = control; core = (coreOf (now (values .entry)) (now (marks .entry)) codes coded (now (memory .entry))) })) ⌝ }
+    requires { ⌜ Within control x × (regions ≤ 8) × (regions ≤ length (now bases)) × Covers (layoutFrom regions (now sizes) (now bases) (now fields) (now elements) (now permissions) (now offsets) (now counts)) (length (now memory)) ⌝ }
+    ensures { λ r. ⌜ wentOf r (now (values .exit)) (now (marks .exit)) (now (memory .exit)) ≡ leaving (coreOf (now (values .entry)) (now (marks .entry)) codes coded (now (memory .entry))) (stepWith (layoutFrom regions (now (sizes .entry)) (now (bases .entry)) (now (fields .entry)) (now (elements .entry)) (now (permissions .entry)) (now (offsets .entry)) (now (counts .entry))) returns (record { control = control; core = (coreOf (now (values .entry)) (now (marks .entry)) codes coded (now (memory .entry))) }) x) ⌝ }
 {
-    let at = control.at;
-    let pending = control.pending;
-    let i = at.0 as usize;
-    if words.len() <= i {
-        return stop(control, codes, coded, NO_WORD);
-    }
-    match read_word(words[i]) {
-        Reading::Read(x) => {
-            if in_slot(pending) & is_transfer(x) {
+    match x {
+        Reading::Read(instruction) => {
+            let pending = control.pending;
+            if in_slot(pending) & is_transfer(instruction) {
                 return stop(control, codes, coded, NO_WORD);
             }
             run_instruction(
@@ -242,7 +237,7 @@ pub fn one_step<'a>(
                 permissions,
                 offsets,
                 counts,
-                x,
+                instruction,
             )
         }
         Reading::Unread => stop(control, codes, coded, NO_WORD),
