@@ -3,3 +3,5 @@ pub mod Writes
 pub mod RightReach
 pub mod Narrowed
 pub mod Numbered
+pub mod Placed
+pub mod Parts

@@ -2,4 +2,5 @@ pub mod Result
 pub mod Reach
 pub mod Change
 pub mod Narrow
+pub mod Lent
 pub mod Laws

@@ -2,16 +2,17 @@
 // (specs/Change.antt).
 ghost use mathlib.Core.Path.{_≡_};
 ghost use mathlib.Core.Bool.{cond};
-ghost use Rattle.v8.specs.declared.Instruction.the-variants.{Sethi, Alu, Shift, Load, Store};
-ghost use Rattle.rules.specs.Change.{noteAfter, codesNote, writing, aluChange, shiftChange, loaded, loadChange, stored, storeChange, branchChange, returnChange, changeOf};
+ghost use Prim.Native.Nat.{_<_};
+ghost use Rattle.rules.specs.Change.{noteAfter, codesNote, writing, aluChange, shiftChange, branchChange, returnChange, changeOf};
+ghost use Rattle.rules.specs.Lent.{fieldsOf, heldAt, stores, accessed, accessChange};
 use crate::Change;
+use crate::Operands;
 use crate::Reach;
 use crate::Result;
 use crate::conditions::NO_RULE;
 use crate::conditions::UNSET_OPERAND;
 use crate::conditions::WRONG_VALUE;
-use crate::operands::operand_entry;
-use crate::operands::operand_name;
+use crate::operand::operands_of;
 use crate::reaching::reach_of;
 use crate::results::alu_result;
 use crate::results::is_sub;
@@ -19,6 +20,7 @@ use crate::results::shift_result;
 use access::Access;
 use access::addend_of;
 use alu::sethi;
+use policy::Field;
 use policy::Policy;
 use rows::Entry;
 use rows::Note;
@@ -33,12 +35,9 @@ use rows::fits;
 use rows::notes::codes_set;
 use rows::notes::comparison;
 use v8::AluOp;
-use v8::Displacement;
+use v8::ByteOffset;
 use v8::Instruction;
-use v8::LoadOp;
-use v8::Operand;
 use v8::ShiftOp;
-use v8::StoreOp;
 
 // r15, which the leaf return reads.
 const LINK: u8 = 15;
@@ -86,120 +85,122 @@ fn writing(rd: u8, n: Note, rs1: u8, result: Result) -> Change
     }
 }
 
-// Arithmetic and logic on the entries `a` of rs1 and `b` of rs2.
-fn alu_change(
-    sizes: &[u16; 8],
-    n: Note,
-    op: AluOp,
-    cc: bool,
-    rd: u8,
-    rs1: u8,
-    a: Entry,
-    rs2: u8,
-    b: Entry,
-) -> Change
-    ensures { λ r. ⌜ r ≡ aluChange (now (sizes .entry)) n op cc rd rs1 a rs2 b ⌝ }
+// Arithmetic and logic on a word's operands.
+fn alu_change(sizes: &[u16; 8], n: Note, op: AluOp, cc: bool, rd: u8, o: Operands) -> Change
+    ensures { λ r. ⌜ r ≡ aluChange (now (sizes .entry)) n op cc rd (o .rs1) (o .first) (o .rs2) (o .second) ⌝ }
 {
-    if a.kind == UNSET {
-        return Change::Breaks(UNSET_OPERAND, rs1);
+    if o.first.kind == UNSET {
+        return Change::Breaks(UNSET_OPERAND, o.rs1);
     }
-    if b.kind == UNSET {
-        return Change::Breaks(UNSET_OPERAND, rs2);
+    if o.second.kind == UNSET {
+        return Change::Breaks(UNSET_OPERAND, o.rs2);
     }
-    let note = alu_note(n, op, cc, rd, rs1, b);
-    writing(rd, note, rs1, alu_result(sizes, op, a, b))
+    let note = alu_note(n, op, cc, rd, o.rs1, o.second);
+    writing(rd, note, o.rs1, alu_result(sizes, op, o.first, o.second))
 }
 
-// A shift of the entry `a` of rs1 by the entry `b` of rs2.
-fn shift_change(n: Note, op: ShiftOp, rd: u8, rs1: u8, a: Entry, rs2: u8, b: Entry) -> Change
-    ensures { λ r. ⌜ r ≡ shiftChange n op rd rs1 a rs2 b ⌝ }
+// A shift of a word's first operand by the second.
+fn shift_change(n: Note, op: ShiftOp, rd: u8, o: Operands) -> Change
+    ensures { λ r. ⌜ r ≡ shiftChange n op rd (o .rs1) (o .first) (o .rs2) (o .second) ⌝ }
 {
-    if a.kind == UNSET {
-        return Change::Breaks(UNSET_OPERAND, rs1);
+    if o.first.kind == UNSET {
+        return Change::Breaks(UNSET_OPERAND, o.rs1);
     }
-    if b.kind == UNSET {
-        return Change::Breaks(UNSET_OPERAND, rs2);
+    if o.second.kind == UNSET {
+        return Change::Breaks(UNSET_OPERAND, o.rs2);
     }
     let note = note_after(n, rd);
-    writing(rd, note, rs1, shift_result(op, a, b))
+    writing(rd, note, o.rs1, shift_result(op, o.first, o.second))
 }
 
-// A load from where the access lies.
-fn loaded(policy: Policy, n: Note, rd: u8, reach: Reach) -> Change
-    ensures { λ r. ⌜ r ≡ loaded policy n rd reach ⌝ }
+// What a load of the field at a place gives.
+fn held_at<'a>(
+    elements: &'a [u8; 128],
+    targets: &'a [u8; 128],
+    lows: &'a [u32; 128],
+    highs: &'a [u32; 128],
+    place: usize,
+) -> Entry
+    requires { ⌜ place < 128 ⌝ }
+    ensures { λ r. ⌜ r ≡ heldAt (now (elements .entry)) (now (targets .entry)) (now (lows .entry)) (now (highs .entry)) place ⌝ }
 {
-    match reach {
-        Reach::Inside(place) => Change::Writes(
-            rd,
-            field_entry(policy.field(place)),
-            note_after(n, rd),
-        ),
-        Reach::Outside(number, named) => Change::Breaks(number, named),
-    }
+    let element = elements[place];
+    let target = targets[place];
+    let offset = ByteOffset(0);
+    let lo = lows[place];
+    let hi = highs[place];
+    let f = Field {
+        element,
+        permission: 0,
+        target,
+        offset,
+        count: 0,
+        lo,
+        hi,
+    };
+    field_entry(f)
 }
 
-// A load from the sum of the entries `a` of rs1 and `b` of rs2.
-fn load_change(
-    policy: Policy,
-    n: Note,
-    op: LoadOp,
-    rd: u8,
-    rs1: u8,
-    a: Entry,
-    rs2: u8,
-    b: Entry,
-) -> Change
-    ensures { λ r. ⌜ r ≡ loadChange policy n op rd rs1 a rs2 b ⌝ }
+// An access of rd, whose entry is `e`, to an element that holds `held`: a load gives it, and a store
+// asks that `e` fits it.
+fn accessed(n: Note, a: Access, rd: u8, e: Entry, held: Entry) -> Change
+    ensures { λ r. ⌜ r ≡ accessed n a rd e held ⌝ }
 {
-    if a.kind == UNSET {
-        return Change::Breaks(UNSET_OPERAND, rs1);
-    }
-    if b.kind == UNSET {
-        return Change::Breaks(UNSET_OPERAND, rs2);
-    }
-    let reach = reach_of(policy, Access::Loads(op), rs1, a, rs2, b);
-    loaded(policy, n, rd, reach)
-}
-
-// A store of rd's entry `e` to where the access lies.
-fn stored(policy: Policy, rd: u8, e: Entry, reach: Reach) -> Change
-    ensures { λ r. ⌜ r ≡ stored policy rd e reach ⌝ }
-{
-    match reach {
-        Reach::Inside(place) => {
-            if fits(e, field_entry(policy.field(place))) {
+    match a {
+        Access::Loads(_) => Change::Writes(rd, held, note_after(n, rd)),
+        Access::Stores(_) => {
+            if fits(e, held) {
                 return Change::Keeps;
             }
             Change::Breaks(WRONG_VALUE, rd)
         }
-        Reach::Outside(number, named) => Change::Breaks(number, named),
     }
 }
 
-// A store of rd's entry `e` to the sum of the entries `a` of rs1 and `b` of rs2.
-fn store_change(
-    policy: Policy,
-    op: StoreOp,
+// Whether an access reads rd, as a store does.
+fn stores(a: Access) -> bool
+    ensures { λ r. ⌜ r ≡ stores a ⌝ }
+{
+    match a {
+        Access::Loads(_) => false,
+        Access::Stores(_) => true,
+    }
+}
+
+// A load to rd or a store of it, whose entry is `e`, at the sum of a word's operands.
+fn access_change<'a>(
+    fields: &'a [u8; 8],
+    elements: &'a [u8; 128],
+    permissions: &'a [u8; 128],
+    targets: &'a [u8; 128],
+    offsets: &'a [u32; 128],
+    counts: &'a [u16; 128],
+    lows: &'a [u32; 128],
+    highs: &'a [u32; 128],
+    n: Note,
+    a: Access,
     rd: u8,
     e: Entry,
-    rs1: u8,
-    a: Entry,
-    rs2: u8,
-    b: Entry,
+    o: Operands,
 ) -> Change
-    ensures { λ r. ⌜ r ≡ storeChange policy op rd e rs1 a rs2 b ⌝ }
+    ensures { λ r. ⌜ r ≡ accessChange (fieldsOf (now (fields .entry)) (now (elements .entry)) (now (permissions .entry)) (now (targets .entry)) (now (offsets .entry)) (now (counts .entry)) (now (lows .entry)) (now (highs .entry))) n a rd e o ⌝ }
 {
-    if a.kind == UNSET {
-        return Change::Breaks(UNSET_OPERAND, rs1);
+    if o.first.kind == UNSET {
+        return Change::Breaks(UNSET_OPERAND, o.rs1);
     }
-    if b.kind == UNSET {
-        return Change::Breaks(UNSET_OPERAND, rs2);
+    if o.second.kind == UNSET {
+        return Change::Breaks(UNSET_OPERAND, o.rs2);
     }
-    if e.kind == UNSET {
+    if stores(a) & (e.kind == UNSET) {
         return Change::Breaks(UNSET_OPERAND, rd);
     }
-    let reach = reach_of(policy, Access::Stores(op), rs1, a, rs2, b);
-    stored(policy, rd, e, reach)
+    match reach_of(fields, elements, permissions, offsets, counts, a, o) {
+        Reach::Inside(place) => {
+            let held = held_at(elements, targets, lows, highs, place);
+            accessed(n, a, rd, e, held)
+        }
+        Reach::Outside(number, named) => Change::Breaks(number, named),
+    }
 }
 
 // A branch reads the codes, unless it branches always or never.
@@ -225,70 +226,14 @@ fn return_change(e: Entry) -> Change
     Change::Breaks(NO_RULE, LINK)
 }
 
-// SETHI in a row.
-fn sethi_in(policy: Policy, row: Row, rd: u8, imm22: u32) -> Change
-    ensures { λ r. ⌜ r ≡ changeOf policy row (Sethi rd imm22) ⌝ }
-{
-    Change::Writes(rd, constant(sethi(imm22)), note_after(row.note, rd))
-}
-
-// Arithmetic and logic in a row.
-fn alu_in(
-    policy: Policy,
-    row: Row,
-    op: AluOp,
-    cc: bool,
-    rd: u8,
-    rs1: u8,
-    operand: Operand,
-) -> Change
-    ensures { λ r. ⌜ r ≡ changeOf policy row (Alu op cc rd rs1 operand) ⌝ }
-{
-    let a = entry_at(row, rs1);
-    let rs2 = operand_name(operand);
-    let b = operand_entry(row, operand);
-    alu_change(&policy.sizes, row.note, op, cc, rd, rs1, a, rs2, b)
-}
-
-// A shift in a row.
-fn shift_in(policy: Policy, row: Row, op: ShiftOp, rd: u8, rs1: u8, count: Operand) -> Change
-    ensures { λ r. ⌜ r ≡ changeOf policy row (Shift op rd rs1 count) ⌝ }
-{
-    let a = entry_at(row, rs1);
-    let rs2 = operand_name(count);
-    let b = operand_entry(row, count);
-    shift_change(row.note, op, rd, rs1, a, rs2, b)
-}
-
-// A load in a row.
-fn load_in(policy: Policy, row: Row, op: LoadOp, rd: u8, rs1: u8, by: Displacement) -> Change
-    ensures { λ r. ⌜ r ≡ changeOf policy row (Load op rd rs1 by) ⌝ }
-{
-    let operand = addend_of(by);
-    let a = entry_at(row, rs1);
-    let rs2 = operand_name(operand);
-    let b = operand_entry(row, operand);
-    load_change(policy, row.note, op, rd, rs1, a, rs2, b)
-}
-
-// A store in a row.
-fn store_in(policy: Policy, row: Row, op: StoreOp, rd: u8, rs1: u8, by: Displacement) -> Change
-    ensures { λ r. ⌜ r ≡ changeOf policy row (Store op rd rs1 by) ⌝ }
-{
-    let operand = addend_of(by);
-    let e = entry_at(row, rd);
-    let a = entry_at(row, rs1);
-    let rs2 = operand_name(operand);
-    let b = operand_entry(row, operand);
-    store_change(policy, op, rd, e, rs1, a, rs2, b)
-}
-
 // What a word does to a row.
 pub fn change_of(policy: Policy, row: Row, x: Instruction) -> Change
     ensures { λ r. ⌜ r ≡ changeOf policy row x ⌝ }
 {
     match x {
-        Instruction::Sethi { rd, imm22 } => sethi_in(policy, row, rd, imm22),
+        Instruction::Sethi { rd, imm22 } => {
+            Change::Writes(rd, constant(sethi(imm22)), note_after(row.note, rd))
+        }
         Instruction::Bicc {
             annul: _,
             cond,
@@ -300,20 +245,63 @@ pub fn change_of(policy: Policy, row: Row, x: Instruction) -> Change
             rd,
             rs1,
             operand,
-        } => alu_in(policy, row, op, cc, rd, rs1, operand),
-        Instruction::Shift { op, rd, rs1, count } => shift_in(policy, row, op, rd, rs1, count),
+        } => alu_change(
+            &policy.sizes,
+            row.note,
+            op,
+            cc,
+            rd,
+            operands_of(row, rs1, operand),
+        ),
+        Instruction::Shift { op, rd, rs1, count } => {
+            shift_change(row.note, op, rd, operands_of(row, rs1, count))
+        }
         Instruction::Load {
             op,
             rd,
             rs1,
             displacement,
-        } => load_in(policy, row, op, rd, rs1, displacement),
+        } => {
+            let o = operands_of(row, rs1, addend_of(displacement));
+            access_change(
+                &policy.fields,
+                &policy.elements,
+                &policy.permissions,
+                &policy.targets,
+                &policy.offsets,
+                &policy.counts,
+                &policy.lows,
+                &policy.highs,
+                row.note,
+                Access::Loads(op),
+                rd,
+                entry_at(row, rd),
+                o,
+            )
+        }
         Instruction::Store {
             op,
             rd,
             rs1,
             displacement,
-        } => store_in(policy, row, op, rd, rs1, displacement),
+        } => {
+            let o = operands_of(row, rs1, addend_of(displacement));
+            access_change(
+                &policy.fields,
+                &policy.elements,
+                &policy.permissions,
+                &policy.targets,
+                &policy.offsets,
+                &policy.counts,
+                &policy.lows,
+                &policy.highs,
+                row.note,
+                Access::Stores(op),
+                rd,
+                entry_at(row, rd),
+                o,
+            )
+        }
         Instruction::Return => return_change(entry_at(row, LINK)),
     }
 }

@@ -9,8 +9,8 @@ pub mod conditions;
 pub mod results;
 // Where an access lies.
 pub mod reaching;
-// Second operands: their entries and names.
-mod operands;
+// The operands of a word.
+mod operand;
 // What each word does to a row.
 pub mod changes;
 // What a comparison leaves of an entry.
@@ -21,6 +21,14 @@ pub use narrowing::narrow_entry;
 pub use reaching::reach_of;
 pub use results::alu_result;
 pub use results::shift_result;
+
+// The operands of a word: the registers that it names, and their entries.
+pub struct Operands {
+    pub rs1: u8,
+    pub first: Entry,
+    pub rs2: u8,
+    pub second: Entry,
+}
 
 // What an instruction makes of its operands: an entry, or the number of the condition that is broken.
 pub enum Result {

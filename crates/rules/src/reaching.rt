@@ -1,10 +1,12 @@
 // Where an access lies, by the entries of the two operands that it adds (specs/Reach.antt). The
 // conditions are tested in the order of the returns.
 ghost use mathlib.Core.Path.{_≡_};
-ghost use Prim.Native.Nat.{_-_, _≤_};
+ghost use Prim.Native.Nat.{_-_, _<_, _≤_};
 ghost use Rattle.sets.specs.Sets.{nought};
 ghost use Rattle.access.specs.Serve.{accessWidth};
-ghost use Rattle.rules.specs.Reach.{endOf, onGrid, inField, inFound, inRegion, reachOf};
+ghost use Rattle.rules.specs.Reach.{endOf, onGrid, inField, inRegion, reachOf};
+ghost use Rattle.rules.specs.Lent.{rightsOf, placesOf};
+use crate::Operands;
 use crate::Reach;
 use crate::conditions::MAYBE_NULL;
 use crate::conditions::NO_RULE;
@@ -18,9 +20,8 @@ use access::allowed;
 use access::serves_element;
 use access::width_of;
 use policy::Found;
-use policy::Policy;
 use policy::element::NOUGHT;
-use rows::Entry;
+use policy::find_in;
 use rows::entries::ADDRESS;
 use rows::entries::NUMBER;
 use rows::entries::START_OR_NULL;
@@ -52,62 +53,104 @@ fn on_grid(s: NumberSet, a: Access) -> bool
 }
 
 // Where an access to offsets of the field at a place lies.
-fn in_field(policy: Policy, a: Access, rs1: u8, s: NumberSet, place: usize) -> Reach
-    ensures { λ r. ⌜ r ≡ inField policy a rs1 s place ⌝ }
+fn in_field<'a>(
+    elements: &'a [u8; 128],
+    permissions: &'a [u8; 128],
+    a: Access,
+    rs1: u8,
+    s: NumberSet,
+    place: usize,
+) -> Reach
+    requires { ⌜ place < 128 ⌝ }
+    ensures { λ r. ⌜ r ≡ inField (rightsOf (now (elements .entry)) (now (permissions .entry))) a rs1 s place ⌝ }
 {
-    let f = policy.field(place);
     if 4096 < end_of(s, a) {
         return Reach::Outside(TOO_HIGH, rs1);
     }
-    if !serves_element(a, f.element) {
+    if !serves_element(a, elements[place]) {
         return Reach::Outside(WRONG_ELEMENT, rs1);
     }
     if !on_grid(s, a) {
         return Reach::Outside(OFF_GRID, rs1);
     }
-    if !allowed(a, f.permission) {
+    if !allowed(a, permissions[place]) {
         return Reach::Outside(NOT_ALLOWED, rs1);
     }
     Reach::Inside(place)
 }
 
-// Where an access to these offsets lies, by what the search for their field gave.
-fn in_found(policy: Policy, a: Access, rs1: u8, s: NumberSet, found: Found) -> Reach
-    ensures { λ r. ⌜ r ≡ inFound policy a rs1 s found ⌝ }
-{
-    match found {
-        Found::At(place) => in_field(policy, a, rs1, s, place),
-        Found::Nothing => Reach::Outside(OUTSIDE_FIELDS, rs1),
-    }
-}
-
 // Where an access to these offsets of a region lies.
-fn in_region(policy: Policy, a: Access, rs1: u8, region: u8, s: NumberSet) -> Reach
-    ensures { λ r. ⌜ r ≡ inRegion policy a rs1 region s ⌝ }
+fn in_region<'a>(
+    fields: &'a [u8; 8],
+    elements: &'a [u8; 128],
+    permissions: &'a [u8; 128],
+    offsets: &'a [u32; 128],
+    counts: &'a [u16; 128],
+    a: Access,
+    rs1: u8,
+    region: u8,
+    s: NumberSet,
+) -> Reach
+    ensures { λ r. ⌜ r ≡ inRegion (placesOf (now (fields .entry)) (now (elements .entry)) (now (permissions .entry)) (now (offsets .entry)) (now (counts .entry))) a rs1 region s ⌝ }
 {
     if s.lo < NOUGHT {
         return Reach::Outside(OUTSIDE_FIELDS, rs1);
     }
     let low = ByteOffset(offset_of(s.lo));
     let end = ByteOffset(end_of(s, a));
-    in_found(policy, a, rs1, s, policy.find(region, low, end))
+    match find_in(fields, elements, offsets, counts, region, low, end) {
+        Found::At(place) => in_field(elements, permissions, a, rs1, s, place),
+        Found::Nothing => Reach::Outside(OUTSIDE_FIELDS, rs1),
+    }
 }
 
-// Where an access lies whose address is the sum of two registers' entries, `x` and `y`.
-pub fn reach_of(policy: Policy, a: Access, rs1: u8, x: Entry, rs2: u8, y: Entry) -> Reach
-    ensures { λ r. ⌜ r ≡ reachOf policy a rs1 x rs2 y ⌝ }
+// Where an access lies whose address is the sum of its operands.
+pub fn reach_of<'a>(
+    fields: &'a [u8; 8],
+    elements: &'a [u8; 128],
+    permissions: &'a [u8; 128],
+    offsets: &'a [u32; 128],
+    counts: &'a [u16; 128],
+    a: Access,
+    o: Operands,
+) -> Reach
+    ensures { λ r. ⌜ r ≡ reachOf (placesOf (now (fields .entry)) (now (elements .entry)) (now (permissions .entry)) (now (offsets .entry)) (now (counts .entry))) a (o .rs1) (o .first) (o .rs2) (o .second) ⌝ }
 {
+    let x = o.first;
+    let y = o.second;
     if x.kind == START_OR_NULL {
-        return Reach::Outside(MAYBE_NULL, rs1);
+        return Reach::Outside(MAYBE_NULL, o.rs1);
     }
     if y.kind == START_OR_NULL {
-        return Reach::Outside(MAYBE_NULL, rs2);
+        return Reach::Outside(MAYBE_NULL, o.rs2);
     }
     if (x.kind == ADDRESS) & (y.kind == NUMBER) {
-        return in_region(policy, a, rs1, x.region, add_sets(x.set, y.set));
+        let s = add_sets(x.set, y.set);
+        return in_region(
+            fields,
+            elements,
+            permissions,
+            offsets,
+            counts,
+            a,
+            o.rs1,
+            x.region,
+            s,
+        );
     }
     if (x.kind == NUMBER) & (y.kind == ADDRESS) {
-        return in_region(policy, a, rs1, y.region, add_sets(x.set, y.set));
+        let s = add_sets(x.set, y.set);
+        return in_region(
+            fields,
+            elements,
+            permissions,
+            offsets,
+            counts,
+            a,
+            o.rs1,
+            y.region,
+            s,
+        );
     }
-    Reach::Outside(NO_RULE, rs1)
+    Reach::Outside(NO_RULE, o.rs1)
 }

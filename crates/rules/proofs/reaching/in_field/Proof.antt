@@ -1,72 +1,76 @@
 -- The tests in their order.
+use Rattle.policy.specs.Policy.{fieldAt}
 use Rattle.rules.specs.Reach.{inField}
 use borrow.Author.Tests.{le-ltb, lt-ltb}
 use borrow.Author.Needs.{needs}
 use Rattle.rules.proofs.reaching.in_field.Statement.{statement}
 use Rattle.rules.proofs.reaching.in_field.Tie as tie
 
-field-requires : tie.Need-field-requires
-field-requires c κs = search needs
-
 end-of-requires : tie.Need-end-of-requires
 end-of-requires c κs = search needs
 
 returns : tie.Need-returns
-unfolding inField
+unfolding fieldAt inField
 returns c = rw (← c .before .end-of .ensures, lt-ltb 4096 _ (c .if1 .taken))
+
+element-copy-out-serves-element : tie.Need-element-copy-out-serves-element
+element-copy-out-serves-element c = search needs
 
 serves-element-requires : tie.Need-serves-element-requires
 serves-element-requires c κs = search needs
 
 returns-2 : tie.Need-returns-2
-unfolding inField
+unfolding fieldAt inField
 returns-2 c =
-    let end = c .before .before in
-    rw (← end .before .before .field .ensures, ← end .before .end-of .ensures, le-ltb 4096 _ (end .if1 .left), ← c .before .serves-element .ensures, c .if2 .taken)
+    let end = c .before .before .before in
+    rw (← end .before .end-of .ensures, le-ltb 4096 _ (end .if1 .left), ← c .before .serves-element .ensures, c .if2 .taken)
 
 on-grid-requires : tie.Need-on-grid-requires
 on-grid-requires c κs = search needs
 
 returns-3 : tie.Need-returns-3
-unfolding inField
+unfolding fieldAt inField
 returns-3 c =
     let serves = c .before .before in
-    let end = serves .before .before in
-    rw
-    (← end .before .before .field .ensures, ← end .before .end-of .ensures, le-ltb 4096 _ (end .if1 .left), ← serves .before .serves-element .ensures, serves .if2 .left, ← c .before .on-grid .ensures, c .if3 .taken)
+    let end = serves .before .before .before in
+    rw (← end .before .end-of .ensures, le-ltb 4096 _ (end .if1 .left), ← serves .before .serves-element .ensures, serves .if2 .left, ← c .before .on-grid .ensures, c .if3 .taken)
+
+element-copy-out-allowed : tie.Need-element-copy-out-allowed
+element-copy-out-allowed c = search needs
 
 allowed-requires : tie.Need-allowed-requires
 allowed-requires c κs = search needs
 
 returns-4 : tie.Need-returns-4
-unfolding inField
+unfolding fieldAt inField
 returns-4 c =
-    let grid = c .before .before in
+    let grid = c .before .before .before in
     let serves = grid .before .before in
-    let end = serves .before .before in
+    let end = serves .before .before .before in
     rw
-    (← end .before .before .field .ensures, ← end .before .end-of .ensures, le-ltb 4096 _ (end .if1 .left), ← serves .before .serves-element .ensures, serves .if2 .left, ← grid .before .on-grid .ensures, grid .if3 .left, ← c .before .allowed .ensures, c .if4 .taken)
+    (← end .before .end-of .ensures, le-ltb 4096 _ (end .if1 .left), ← serves .before .serves-element .ensures, serves .if2 .left, ← grid .before .on-grid .ensures, grid .if3 .left, ← c .before .allowed .ensures, c .if4 .taken)
 
 returns-5 : tie.Need-returns-5
-unfolding inField
+unfolding fieldAt inField
 returns-5 c =
-    let grid = c .before .before in
+    let grid = c .before .before .before in
     let serves = grid .before .before in
-    let end = serves .before .before in
+    let end = serves .before .before .before in
     rw
-    (← end .before .before .field .ensures, ← end .before .end-of .ensures, le-ltb 4096 _ (end .if1 .left), ← serves .before .serves-element .ensures, serves .if2 .left, ← grid .before .on-grid .ensures, grid .if3 .left, ← c .before .allowed .ensures, c .if4 .left)
+    (← end .before .end-of .ensures, le-ltb 4096 _ (end .if1 .left), ← serves .before .serves-element .ensures, serves .if2 .left, ← grid .before .on-grid .ensures, grid .if3 .left, ← c .before .allowed .ensures, c .if4 .left)
 
 pub in-field-spec : {M : Type 1} → statement M
 in-field-spec =
     tie.close
     (tie.spec
-    field-requires
     end-of-requires
     returns
+    element-copy-out-serves-element
     serves-element-requires
     returns-2
     on-grid-requires
     returns-3
+    element-copy-out-allowed
     allowed-requires
     returns-4
     returns-5)

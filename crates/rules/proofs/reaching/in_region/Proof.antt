@@ -1,5 +1,9 @@
--- The lowest offset is not negative, and a field is searched.
-use Rattle.rules.specs.Reach.{inRegion}
+-- The lowest offset is not negative, and a field is searched; a place that is found is one of the 128, and what is asked of its field
+-- reads the element and the permission alone.
+use mathlib.Core.Path.{sym, _∙_}
+use Rattle.policy.specs.Policy.{fieldAt}
+use Rattle.access.proofs.Places.{place-small}
+use Rattle.rules.specs.Reach.{inField, inRegion}
 use borrow.Author.Tests.{le-ltb, lt-ltb}
 use borrow.Author.Needs.{needs}
 use Rattle.rules.proofs.reaching.in_region.Statement.{statement}
@@ -15,21 +19,44 @@ offset-of-requires c κs = search needs
 end-of-requires : tie.Need-end-of-requires
 end-of-requires c κs = search needs
 
-find-requires : tie.Need-find-requires
-find-requires c κs = search needs
+find-in-requires : tie.Need-find-in-requires
+find-in-requires c κs = search needs
 
-in-found-requires : tie.Need-in-found-requires
-in-found-requires c κs = search needs
+enum-known-place : tie.Need-enum-known-place
+enum-known-place c = search needs
+
+in-field-requires : tie.Need-in-field-requires
+in-field-requires c κs = place-small _ _ _ _ _ _ _ _ (sym (c .before .before .before .find-in .ensures) ∙ c .before .place .given .1)
+
+enum-told : tie.Need-enum-told
+enum-told c = search needs
 
 returns-2 : tie.Need-returns-2
-unfolding inRegion
+unfolding fieldAt inField inRegion
 returns-2 c =
-    let low = c .before .before .before in
+    let found = c .before .before .before .before in
+    let low = found .before .before in
     rw
-    (le-ltb _ 2147483648 (low .before .if1 .left), ← low .offset-of .ensures .0, ← c .before .before .end-of .ensures, ← c .before .find .ensures)
-    (c .in-found .ensures)
+    (le-ltb _ 2147483648 (low .before .if1 .left), ← low .offset-of .ensures .0, ← found .before .end-of .ensures, ← found .find-in .ensures, c .before .before .place .given .1)
+    (c .in-field .ensures)
+
+returns-3 : tie.Need-returns-3
+unfolding inRegion
+returns-3 c =
+    let found = c .before .before in
+    let low = found .before .before in
+    rw (le-ltb _ 2147483648 (low .before .if1 .left), ← low .offset-of .ensures .0, ← found .before .end-of .ensures, ← found .find-in .ensures, c .enum-told .given .1)
 
 pub in-region-spec : {M : Type 1} → statement M
 in-region-spec =
     tie.close
-    (tie.spec returns offset-of-requires end-of-requires find-requires in-found-requires returns-2)
+    (tie.spec
+    returns
+    offset-of-requires
+    end-of-requires
+    find-in-requires
+    enum-known-place
+    in-field-requires
+    enum-told
+    returns-2
+    returns-3)

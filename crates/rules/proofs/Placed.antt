@@ -1,0 +1,59 @@
+-- An access that lies inside a field lies at one of the 128 places: each test keeps the place that the search found.
+use Prim.Native.Nat.{ℕ, _-_, _<_}
+use mathlib.Core.Path.{_≡_, refl, subst}
+use mathlib.Core.Bool.{not, _&&_}
+use lib.Dec.{ltb}
+use Rattle.v8.specs.Choice.{cond-both}
+use Rattle.policy.specs.declared.Policy.{Policy}
+use Rattle.policy.specs.declared.Found.{Found}
+use Rattle.policy.specs.declared.Found.the-variants as Found·
+use Rattle.policy.specs.Policy.{fieldAt}
+use Rattle.policy.specs.Find.{findField}
+use Rattle.access.specs.declared.Access.{Access}
+use Rattle.access.specs.Serve.{accessWidth, serves, allows}
+use Rattle.access.proofs.Places.{place-small}
+use Rattle.sets.specs.declared.NumberSet.{NumberSet}
+use Rattle.sets.specs.Sets.{nought}
+use Rattle.sets.specs.Rules.{addSets}
+use Rattle.rows.specs.declared.Entry.{Entry}
+use Rattle.rows.specs.Entry.{isNumber, isAddress, isStartOrNull}
+use Rattle.rules.specs.declared.Reach.{Reach}
+use Rattle.rules.specs.declared.Reach.the-variants.{Inside, Outside}
+use Rattle.rules.specs.Reach.{endOf, onGrid, inField, inFound, inRegion, reachOf}
+
+abbrev Placed : Reach → Type 0
+Placed (Inside place) = place < 128
+Placed (Outside number r) = Unit {0}
+
+module _ (p : Policy) (a : Access) (rs1 : ℕ) where
+  field-placed : (s : NumberSet) (place : ℕ) → place < 128 → Placed (inField p a rs1 s place)
+  unfolding inField
+  field-placed s place l =
+      cond-both Placed (ltb 4096 (endOf s (accessWidth a))) (λ _. tt)
+      λ _. cond-both Placed (not (serves a (fieldAt p place .element))) (λ _. tt)
+      λ _. cond-both Placed (not (onGrid s (accessWidth a))) (λ _. tt)
+      λ _. cond-both Placed (not (allows a (fieldAt p place .permission))) (λ _. tt)
+      λ _. l
+
+  found-placed : (r low end : ℕ) (s : NumberSet) (f : Found) → findField p r low end ≡ f → Placed (inFound p a rs1 s f)
+  found-placed r low end s (Found·.At place) e =
+      field-placed s place (place-small (p .fields) (p .elements) (p .offsets) (p .counts) r low end place e)
+  found-placed r low end s Found·.Nothing e = tt
+
+  region-placed : (r : ℕ) (s : NumberSet) → Placed (inRegion p a rs1 r s)
+  unfolding inRegion
+  region-placed r s =
+      cond-both Placed (ltb (s .lo) nought) (λ _. tt)
+      (λ _. found-placed r (s .lo - nought) (endOf s (accessWidth a)) s (findField p r (s .lo - nought) (endOf s (accessWidth a))) refl)
+
+  reach-placed : (rs2 : ℕ) (x y : Entry) → Placed (reachOf p a rs1 x rs2 y)
+  unfolding reachOf
+  reach-placed rs2 x y =
+      cond-both Placed (isStartOrNull x) (λ _. tt)
+      λ _. cond-both Placed (isStartOrNull y) (λ _. tt)
+      λ _. cond-both Placed (isAddress x && isNumber y) (λ _. region-placed (x .region) (addSets (x .set) (y .set)))
+      λ _. cond-both Placed (isNumber x && isAddress y) (λ _. region-placed (y .region) (addSets (x .set) (y .set)))
+      λ _. tt
+
+pub placed : (p : Policy) (a : Access) (rs1 rs2 : ℕ) (x y : Entry) (place : ℕ) → reachOf p a rs1 x rs2 y ≡ Inside place → place < 128
+placed p a rs1 rs2 x y place e = subst Placed e (reach-placed p a rs1 rs2 x y)
