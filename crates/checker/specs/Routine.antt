@@ -1,6 +1,6 @@
 -- A routine as the check sees it: the policy, the words as they are read, their rows, the entry row and the result entry.
 use Prim.Native.Nat.{ℕ, _-_, _*_}
-use mathlib.Core.Bool.{Bool, false, cond, not}
+use mathlib.Core.Bool.{Bool, true, false, cond, not}
 use mathlib.Core.List.{List}
 use lib.Dec.{eqb}
 use lib.ListN.{length}
@@ -71,3 +71,8 @@ hasTaken cnd = not (eqb cnd 0)
 
 abbrev pub hasOther : ℕ → Bool
 hasOther cnd = not (eqb cnd 8)
+
+-- a branch has the edge that is taken, or the other
+abbrev pub hasEdge : ℕ → Bool → Bool
+hasEdge cnd true = hasTaken cnd
+hasEdge cnd false = hasOther cnd

@@ -6,9 +6,8 @@ ghost use Prim.Native.Nat.{_+_, _*_, _<_, _≤_};
 ghost use lib.ListN.{length};
 ghost use Rattle.v8.specs.declared.Reading.the-variants.{Read};
 ghost use Rattle.alu.specs.Condition.{conditionOf};
-ghost use Rattle.step.specs.Transfer.{landing};
 ghost use Rattle.rules.specs.Narrow.{narrowRow};
-ghost use Rattle.checker.specs.Routine.{wordAt, hasTaken, hasOther, examined};
+ghost use Rattle.checker.specs.Routine.{wordAt, hasEdge, examined};
 ghost use Rattle.checker.specs.Answer.{accepted};
 ghost use Rattle.checker.specs.Passes.{to, caller, oppositeOf, changeBy, edgeOf, ifLeft, branchEdge, branchEdges, branchFlow, flowOf, edges};
 ghost use Rattle.checker.specs.Lent.{codeOf, bodyOf};
@@ -18,8 +17,7 @@ use crate::answers::accept;
 use crate::answers::refuse;
 use crate::arrival::arrive_at;
 use crate::arrival::arrive_out;
-use crate::flow::has_other;
-use crate::flow::has_taken;
+use crate::flow::has_edge;
 use crate::words::word_at;
 use alu::Narrowing;
 use alu::condition_of;
@@ -131,7 +129,8 @@ fn narrowed_edge(
     }
 }
 
-// One edge of a branch, taken or not.
+// One edge of a branch, taken or not, where it has it; it ends at a word of the code, since the flow is
+// right.
 fn branch_edge(
     policy: Policy,
     words: &[u32],
@@ -143,73 +142,16 @@ fn branch_edge(
     taken: bool,
     row: Row,
 ) -> Answer
-    requires { ⌜ (at .0 < 128) × (392 * landing (at .0) (distance .0) taken + 392 ≤ length (now rows)) ⌝ }
-    ensures { λ r. ⌜ r ≡ branchEdge (bodyOf policy (now (words .entry)) (now (rows .entry)) []) (at .0) annul condition (distance .0) taken row ⌝ }
+    requires { ⌜ (at .0 < 128) × (392 * length (now words) ≡ length (now rows)) × (branchFlow (codeOf (now words)) (at .0) condition (distance .0) ≡ true) ⌝ }
+    ensures { λ r. ⌜ r ≡ cond (hasEdge condition taken) (branchEdge (bodyOf policy (now (words .entry)) (now (rows .entry)) []) (at .0) annul condition (distance .0) taken row) accepted ⌝ }
 {
+    if !has_edge(condition, taken) {
+        return accept();
+    }
     let runs = slot_runs(annul, condition, taken);
     let next = landing_of(at, distance, taken);
     let class = class_of(condition, taken);
     narrowed_edge(policy, words, rows, at, runs, next, class, row)
-}
-
-// The taken edge of a branch, where it has one.
-fn taken_edge(
-    policy: Policy,
-    words: &[u32],
-    rows: &[u8],
-    at: WordIndex,
-    annul: bool,
-    condition: u8,
-    distance: WordIndex,
-    row: Row,
-) -> Answer
-    requires { ⌜ (at .0 < 128) × (392 * length (now words) ≡ length (now rows)) × (branchFlow (codeOf (now words)) (at .0) condition (distance .0) ≡ true) ⌝ }
-    ensures { λ r. ⌜ r ≡ cond (hasTaken condition) (branchEdge (bodyOf policy (now (words .entry)) (now (rows .entry)) []) (at .0) annul condition (distance .0) true row) accepted ⌝ }
-{
-    if !has_taken(condition) {
-        return accept();
-    }
-    branch_edge(
-        policy,
-        words,
-        rows,
-        at,
-        annul,
-        condition,
-        distance,
-        true,
-        row,
-    )
-}
-
-// The other edge of a branch, where it has one.
-fn other_edge(
-    policy: Policy,
-    words: &[u32],
-    rows: &[u8],
-    at: WordIndex,
-    annul: bool,
-    condition: u8,
-    distance: WordIndex,
-    row: Row,
-) -> Answer
-    requires { ⌜ (at .0 < 128) × (392 * length (now words) ≡ length (now rows)) × (branchFlow (codeOf (now words)) (at .0) condition (distance .0) ≡ true) ⌝ }
-    ensures { λ r. ⌜ r ≡ cond (hasOther condition) (branchEdge (bodyOf policy (now (words .entry)) (now (rows .entry)) []) (at .0) annul condition (distance .0) false row) accepted ⌝ }
-{
-    if !has_other(condition) {
-        return accept();
-    }
-    branch_edge(
-        policy,
-        words,
-        rows,
-        at,
-        annul,
-        condition,
-        distance,
-        false,
-        row,
-    )
 }
 
 // The edges of a branch: the taken one, then the other.
@@ -226,11 +168,31 @@ fn branch_edges(
     requires { ⌜ (at .0 < 128) × (392 * length (now words) ≡ length (now rows)) × (branchFlow (codeOf (now words)) (at .0) condition (distance .0) ≡ true) ⌝ }
     ensures { λ r. ⌜ r ≡ branchEdges (bodyOf policy (now (words .entry)) (now (rows .entry)) []) (at .0) annul condition (distance .0) row ⌝ }
 {
-    let taken = taken_edge(policy, words, rows, at, annul, condition, distance, row);
+    let taken = branch_edge(
+        policy,
+        words,
+        rows,
+        at,
+        annul,
+        condition,
+        distance,
+        true,
+        row,
+    );
     if taken.number != 0 {
         return taken;
     }
-    other_edge(policy, words, rows, at, annul, condition, distance, row)
+    branch_edge(
+        policy,
+        words,
+        rows,
+        at,
+        annul,
+        condition,
+        distance,
+        false,
+        row,
+    )
 }
 
 // The edges of an instruction, from the row that it makes.

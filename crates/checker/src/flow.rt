@@ -2,7 +2,7 @@
 ghost use mathlib.Core.Path.{_≡_};
 ghost use Prim.Native.Nat.{_<_};
 ghost use Rattle.v8.specs.declared.Reading.the-variants.{Read};
-ghost use Rattle.checker.specs.Routine.{hasTaken, hasOther};
+ghost use Rattle.checker.specs.Routine.{hasTaken, hasOther, hasEdge};
 ghost use Rattle.checker.specs.Passes.{landsAt, plainFlow, transferFlow, branchFlow, flowOf, flowPass};
 ghost use Rattle.checker.specs.Lent.{codeOf};
 use crate::Answer;
@@ -18,17 +18,27 @@ use v8::Reading;
 use v8::WordIndex;
 
 // Whether a branch on this condition may be taken: the condition is not "never".
-pub fn has_taken(condition: u8) -> bool
+fn has_taken(condition: u8) -> bool
     ensures { λ r. ⌜ r ≡ hasTaken condition ⌝ }
 {
     !(condition == 0)
 }
 
 // Whether a branch on this condition may be left untaken: the condition is not "always".
-pub fn has_other(condition: u8) -> bool
+fn has_other(condition: u8) -> bool
     ensures { λ r. ⌜ r ≡ hasOther condition ⌝ }
 {
     !(condition == 8)
+}
+
+// Whether a branch on this condition has the edge that is taken, or the other.
+pub fn has_edge(condition: u8, taken: bool) -> bool
+    ensures { λ r. ⌜ r ≡ hasEdge condition taken ⌝ }
+{
+    if taken {
+        return has_taken(condition);
+    }
+    has_other(condition)
 }
 
 // Whether a branch may go to a word: the word is of the code, and no slot.
