@@ -48,26 +48,22 @@ constant-holds h e v l c m =
     back : (v : ℕ) → v < 4294967296 → excess (excess v) ≡ v
     back v l = omega arith
 
+only-or : (op : AluOp) → isOr op ≡ true → op ≡ Or
+only-or Add e = false-true e
+only-or And e = false-true e
+only-or Or e = refl
+only-or Xor e = false-true e
+only-or Sub e = false-true e
+only-or Andn e = false-true e
+only-or Orn e = false-true e
+only-or Xnor e = false-true e
+
 -- OR with 0 hands the other operand on
 or-left : (op : AluOp) (x y : ℕ) → isOr op ≡ true → x ≡ 0 → y ≡ aluOf op x y
-or-left Add x y e z = false-true e
-or-left And x y e z = false-true e
-or-left Or x y e z = sym (rw z (or-zero-l y))
-or-left Xor x y e z = false-true e
-or-left Sub x y e z = false-true e
-or-left Andn x y e z = false-true e
-or-left Orn x y e z = false-true e
-or-left Xnor x y e z = false-true e
+or-left op x y e z = rw (only-or op e, z) (sym (or-zero-l y))
 
 or-right : (op : AluOp) (x y : ℕ) → isOr op ≡ true → y ≡ 0 → x ≡ aluOf op x y
-or-right Add x y e z = false-true e
-or-right And x y e z = false-true e
-or-right Or x y e z = sym (rw z (or-zero-r x))
-or-right Xor x y e z = false-true e
-or-right Sub x y e z = false-true e
-or-right Andn x y e z = false-true e
-or-right Orn x y e z = false-true e
-or-right Xnor x y e z = false-true e
+or-right op x y e z = rw (only-or op e, z) (sym (or-zero-r x))
 
 -- a region's size
 pub size-in : (sizes : List ℕ) (r : ℕ) → r < 8 → sizeIn sizes r ≡ getD sizes r 0
