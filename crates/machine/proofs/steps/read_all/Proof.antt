@@ -43,7 +43,7 @@ loop-again c =
     let readings = c .before .before .before .loop .readings in
     let i = c .before .before .before .loop .i in
     let most : i < length readings = omega (arith, c .before .before .before .loop .inv .1, c .before .before .loop-test .taken, c .before .before .before .before .before .pre) in
-    (omega arith, length-set readings i (c .read-word .result) ∙ c .before .before .before .loop .inv .1, one-filled (c .before .before .before .before .before .args .words .now) readings i (c .read-word .result) (c .before .before .before .loop .inv .2) most (c .read-word .ensures))
+    (omega arith, length-set readings i (c .read-word .result) ∙ c .before .before .before .loop .inv .1, one-filled (c .before .before .before .before .before .args .words .now) readings i (c .read-word .result) (c .before .before .before .loop .inv .2) most (c .read-word .ensures .0))
 
 returns : tie.Need-returns Inv-loop μ-loop
 returns c = all-filled (c .before .before .before .args .words .now) (c .before .loop .readings) (c .before .loop .i) (c .before .loop .inv .1) (c .before .loop .inv .2) (c .loop-test .left)
