@@ -362,7 +362,8 @@ def make(folder):
 
 
 def open_bundle(data):
-    """Region count, entry row, result entry, words and rows of a bundle."""
+    """Policy, entry row, result entry, words and rows of a bundle. The policy is a list of (size, fields), a field
+    (element, permission, target, offset, count, lo, hi)."""
     try:
         return unpacked(data)
     except struct.error:
@@ -373,12 +374,25 @@ def unpacked(data):
     mark, _, regions, count = struct.unpack_from(">3sHBH", data)
     if mark != MARK:
         raise Problem("not a bundle: it does not begin with WTR")
-    fields = sum(struct.unpack_from(">HBB", data, 8 + 4 * k)[1] for k in range(regions))
-    start = 8 + 4 * regions + 16 * fields
+    policy, start = policy_in(data, regions)
     entry, result = row_in(data, start), entry_in(data, start + 392)
     code = start + 392 + 12
     words = list(struct.unpack_from(f">{count}I", data, code))
-    return regions, entry, result, words, [row_in(data, code + 4 * count + 392 * k) for k in range(count)]
+    return policy, entry, result, words, [row_in(data, code + 4 * count + 392 * k) for k in range(count)]
+
+
+def policy_in(data, regions):
+    """The policy, and where the entry row begins."""
+    policy, at = [], 8 + 4 * regions
+    for size, count, _ in (struct.unpack_from(">HBB", data, 8 + 4 * k) for k in range(regions)):
+        policy.append((size, [field_in(data, at + 16 * k) for k in range(count)]))
+        at += 16 * count
+    return policy, at
+
+
+def field_in(data, at):
+    element, permission, target, _, offset, count, lo, hi = struct.unpack_from(">BBBBHHii", data, at)
+    return element, permission, target, offset, count, lo, hi
 
 
 def entry_in(data, at):
