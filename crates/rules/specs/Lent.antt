@@ -20,7 +20,7 @@ use Rattle.rules.specs.declared.Change.the-variants.{Writes, Keeps, Brea
 use Rattle.rules.specs.Reach.{reachOf}
 use Rattle.rules.specs.Change.{operandEntry, operandName, noteAfter, unsetOperand, wrongValue, ifSet}
 
--- the lists of the fields
+-- a policy that has these lists of its fields and nothing else
 abbrev pub fieldsOf : List ℕ → List ℕ → List ℕ → List ℕ → List ℕ → List ℕ → List ℕ → List ℕ → Policy
 fieldsOf fields elements permissions targets offsets counts lows highs =
     record {
@@ -36,11 +36,11 @@ fieldsOf fields elements permissions targets offsets counts lows highs =
       highs = highs;
     }
 
--- the lists that say where an access lies
+-- one that has the lists that say where an access lies
 abbrev pub placesOf : List ℕ → List ℕ → List ℕ → List ℕ → List ℕ → Policy
 placesOf fields elements permissions offsets counts = fieldsOf fields elements permissions [] offsets counts [] []
 
--- the elements and the permissions
+-- one that has the elements and the permissions
 abbrev pub rightsOf : List ℕ → List ℕ → Policy
 rightsOf elements permissions = placesOf [] elements permissions [] []
 
@@ -62,7 +62,7 @@ abbrev pub accessed : Note → Access → ℕ → Entry → Entry → Change
 accessed n (Loads op) rd e held = Writes rd held (noteAfter n rd)
 accessed n (Stores op) rd e held = cond (fits e held) Keeps (Breaks wrongValue rd)
 
--- the same, where the access lies
+-- an access of rd, whose entry is e, by where it lies
 abbrev pub accessedAt : Policy → Note → Access → ℕ → Entry → Reach → Change
 accessedAt p n a rd e (Inside place) = accessed n a rd e (fieldEntry (fieldAt p place))
 accessedAt p n a rd e (Outside number r) = Breaks number r

@@ -1,5 +1,6 @@
 // What each word does to a row, or the first condition that it breaks, with the register named
-// (specs/Change.antt).
+// (specs/Change.antt). The policy's lists are lent, and operands handed on as entries
+// (specs/Lent.antt).
 ghost use mathlib.Core.Path.{_≡_};
 ghost use mathlib.Core.Bool.{cond};
 ghost use Prim.Native.Nat.{_<_};

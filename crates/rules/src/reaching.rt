@@ -1,5 +1,5 @@
 // Where an access lies, by the entries of the two operands that it adds (specs/Reach.antt). The
-// conditions are tested in the order of the returns.
+// conditions are tested in the order of the returns. The policy's lists are lent (specs/Lent.antt).
 ghost use mathlib.Core.Path.{_≡_};
 ghost use Prim.Native.Nat.{_-_, _<_, _≤_};
 ghost use Rattle.sets.specs.Sets.{nought};
