@@ -21,7 +21,7 @@ use Rattle.rules.specs.declared.Reach.{Reach}
 use Rattle.rules.specs.declared.Reach.the-variants.{Inside, Outside}
 use Rattle.rules.specs.Reach.{endOf, inField, inFound, inRegion, reachOf}
 use Rattle.rules.specs.Change.{loaded, loadChange, stored, storeChange}
-use Rattle.rules.specs.Lent.{fieldsOf, placesOf, accessedAt, accessChange}
+use Rattle.rules.specs.Lent.{listsOf, placesOf, accessedAt, accessChange}
 
 -- where an access lies, by the five lists that say it
 module _ (p : Policy) (a : Access) (rs1 : ℕ) where
@@ -44,7 +44,7 @@ module _ (p : Policy) (a : Access) (rs1 : ℕ) where
 -- a load and a store, by the eight lists of the fields
 module _ (p : Policy) (n : Note) (rd : ℕ) (e : Entry) where
   abbrev lists : Policy
-  lists = fieldsOf (p .fields) (p .elements) (p .permissions) (p .targets) (p .offsets) (p .counts) (p .lows) (p .highs)
+  lists = listsOf p
 
   reach-lists : (a : Access) (o : Operands) → reachOf lists a (o .rs1) (o .first) (o .rs2) (o .second) ≡ reachOf p a (o .rs1) (o .first) (o .rs2) (o .second)
   reach-lists a o = sym (reach-part lists a (o .rs1) (o .rs2) (o .first) (o .second)) ∙ reach-part p a (o .rs1) (o .rs2) (o .first) (o .second)

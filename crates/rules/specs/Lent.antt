@@ -36,6 +36,9 @@ fieldsOf fields elements permissions targets offsets counts lows highs =
       highs = highs;
     }
 
+abbrev pub listsOf : Policy → Policy
+listsOf p = fieldsOf (p .fields) (p .elements) (p .permissions) (p .targets) (p .offsets) (p .counts) (p .lows) (p .highs)
+
 -- one that has the lists that say where an access lies
 abbrev pub placesOf : List ℕ → List ℕ → List ℕ → List ℕ → List ℕ → Policy
 placesOf fields elements permissions offsets counts = fieldsOf fields elements permissions [] offsets counts [] []

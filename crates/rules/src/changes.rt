@@ -5,7 +5,7 @@ ghost use mathlib.Core.Path.{_≡_};
 ghost use mathlib.Core.Bool.{cond};
 ghost use Prim.Native.Nat.{_<_};
 ghost use Rattle.rules.specs.Change.{noteAfter, codesNote, writing, aluChange, shiftChange, branchChange, returnChange, changeOf};
-ghost use Rattle.rules.specs.Lent.{fieldsOf, heldAt, stores, accessed, accessChange};
+ghost use Rattle.rules.specs.Lent.{fieldsOf, listsOf, heldAt, stores, accessed, accessChange};
 use crate::Change;
 use crate::Operands;
 use crate::Reach;
@@ -46,7 +46,7 @@ const LINK: u8 = 15;
 const CODES: u8 = 32;
 
 // The note after rd was written: of a comparison of rd it is left that the codes are set.
-pub fn note_after(n: Note, rd: u8) -> Note
+fn note_after(n: Note, rd: u8) -> Note
     ensures { λ r. ⌜ r ≡ noteAfter n rd ⌝ }
 {
     if (n.kind == 2) & (n.register == rd) {
@@ -57,7 +57,7 @@ pub fn note_after(n: Note, rd: u8) -> Note
 
 // The note that a code-setting word leaves: a comparison, if the word is SUBcc of r1 to r31 by a
 // single number and does not write that register.
-pub fn codes_note(op: AluOp, rd: u8, rs1: u8, b: Entry) -> Note
+fn codes_note(op: AluOp, rd: u8, rs1: u8, b: Entry) -> Note
     ensures { λ r. ⌜ r ≡ codesNote op rd rs1 b ⌝ }
 {
     if is_sub(op) & (1 <= rs1) & is_constant(b) & !(rd == rs1) {
@@ -204,6 +204,27 @@ fn access_change<'a>(
     }
 }
 
+// The same in a policy by value.
+fn access_in(policy: Policy, n: Note, a: Access, rd: u8, e: Entry, o: Operands) -> Change
+    ensures { λ r. ⌜ r ≡ accessChange (listsOf policy) n a rd e o ⌝ }
+{
+    access_change(
+        &policy.fields,
+        &policy.elements,
+        &policy.permissions,
+        &policy.targets,
+        &policy.offsets,
+        &policy.counts,
+        &policy.lows,
+        &policy.highs,
+        n,
+        a,
+        rd,
+        e,
+        o,
+    )
+}
+
 // A branch reads the codes, unless it branches always or never.
 fn branch_change(n: Note, condition: u8) -> Change
     ensures { λ r. ⌜ r ≡ branchChange n condition ⌝ }
@@ -235,25 +256,17 @@ pub fn change_of(policy: Policy, row: Row, x: Instruction) -> Change
         Instruction::Sethi { rd, imm22 } => {
             Change::Writes(rd, constant(sethi(imm22)), note_after(row.note, rd))
         }
-        Instruction::Bicc {
-            annul: _,
-            cond,
-            distance: _,
-        } => branch_change(row.note, cond),
+        Instruction::Bicc { cond, .. } => branch_change(row.note, cond),
         Instruction::Alu {
             op,
             cc,
             rd,
             rs1,
             operand,
-        } => alu_change(
-            &policy.sizes,
-            row.note,
-            op,
-            cc,
-            rd,
-            operands_of(row, rs1, operand),
-        ),
+        } => {
+            let o = operands_of(row, rs1, operand);
+            alu_change(&policy.sizes, row.note, op, cc, rd, o)
+        }
         Instruction::Shift { op, rd, rs1, count } => {
             shift_change(row.note, op, rd, operands_of(row, rs1, count))
         }
@@ -264,15 +277,8 @@ pub fn change_of(policy: Policy, row: Row, x: Instruction) -> Change
             displacement,
         } => {
             let o = operands_of(row, rs1, addend_of(displacement));
-            access_change(
-                &policy.fields,
-                &policy.elements,
-                &policy.permissions,
-                &policy.targets,
-                &policy.offsets,
-                &policy.counts,
-                &policy.lows,
-                &policy.highs,
+            access_in(
+                policy,
                 row.note,
                 Access::Loads(op),
                 rd,
@@ -287,15 +293,8 @@ pub fn change_of(policy: Policy, row: Row, x: Instruction) -> Change
             displacement,
         } => {
             let o = operands_of(row, rs1, addend_of(displacement));
-            access_change(
-                &policy.fields,
-                &policy.elements,
-                &policy.permissions,
-                &policy.targets,
-                &policy.offsets,
-                &policy.counts,
-                &policy.lows,
-                &policy.highs,
+            access_in(
+                policy,
                 row.note,
                 Access::Stores(op),
                 rd,

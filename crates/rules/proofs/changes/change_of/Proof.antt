@@ -53,8 +53,8 @@ operands-of-requires-3 c κs = search needs
 entry-at-requires : tie.Need-entry-at-requires
 entry-at-requires c κs = search needs
 
-access-change-requires : tie.Need-access-change-requires
-access-change-requires c κs = search needs
+access-in-requires : tie.Need-access-in-requires
+access-in-requires c κs = search needs
 
 enum-known-x-6 : tie.Need-enum-known-x-6
 enum-known-x-6 c = search needs
@@ -68,8 +68,8 @@ operands-of-requires-4 c κs = search needs
 entry-at-requires-2 : tie.Need-entry-at-requires-2
 entry-at-requires-2 c κs = search needs
 
-access-change-requires-2 : tie.Need-access-change-requires-2
-access-change-requires-2 c κs = search needs
+access-in-requires-2 : tie.Need-access-in-requires-2
+access-in-requires-2 c κs = search needs
 
 enum-told : tie.Need-enum-told
 enum-told c = search needs
@@ -87,20 +87,16 @@ returns-2 : tie.Need-returns-2
 returns-2 c = rw (c .before .before .x2 .given .1) (c .branch-change .ensures)
 
 returns-3 : tie.Need-returns-3
-returns-3 c = rw (c .before .before .before .before .before .x3 .given .1) (rw (c .before .operands-of .ensures) at (c .alu-change .ensures))
+returns-3 c = rw (c .before .before .before .before .before .x3 .given .1) (rw (c .before .before .before .operands-of .ensures) at (c .alu-change .ensures))
 
 returns-4 : tie.Need-returns-4
 returns-4 c = rw (c .before .before .before .x4 .given .1) (rw (c .before .operands-of2 .ensures) at (c .shift-change .ensures))
 
 returns-5 : tie.Need-returns-5
-returns-5 c =
-    let operands = c .before .before .before .before .before .before .before .before .before .before .before in
-    rw (operands .before .before .before .x5 .given .1) (rw (operands .operands-of3 .ensures, operands .before .addend-of .ensures) at (c .access-change .ensures) ∙ load-part (operands .before .before .before .before .before .args .t1) _ _ _ _ _)
+returns-5 c = rw (c .before .before .before .before .before .x5 .given .1) (rw (c .before .before .operands-of3 .ensures, c .before .before .before .addend-of .ensures) at (c .access-in .ensures) ∙ load-part (c .before .before .before .before .before .before .before .args .t1) _ _ _ _ _)
 
 returns-6 : tie.Need-returns-6
-returns-6 c =
-    let operands = c .before .before .before .before .before .before .before .before .before .before .before in
-    rw (operands .before .before .before .x6 .given .1) (rw (operands .operands-of4 .ensures, operands .before .addend-of2 .ensures, c .before .entry-at2 .ensures) at (c .access-change2 .ensures) ∙ store-part (operands .before .before .before .before .before .args .t1) _ _ _ _ _)
+returns-6 c = rw (c .before .before .before .before .before .x6 .given .1) (rw (c .before .before .operands-of4 .ensures, c .before .before .before .addend-of2 .ensures, c .before .entry-at2 .ensures) at (c .access-in2 .ensures) ∙ store-part (c .before .before .before .before .before .before .before .args .t1) _ _ _ _ _)
 
 returns-7 : tie.Need-returns-7
 returns-7 c = rw (c .before .before .enum-told .given .1, ← c .before .entry-at3 .ensures) (c .return-change .ensures)
@@ -125,12 +121,12 @@ change-of-spec =
     addend-of-requires
     operands-of-requires-3
     entry-at-requires
-    access-change-requires
+    access-in-requires
     enum-known-x-6
     addend-of-requires-2
     operands-of-requires-4
     entry-at-requires-2
-    access-change-requires-2
+    access-in-requires-2
     enum-told
     entry-at-requires-3
     return-change-requires
