@@ -5,6 +5,7 @@ use mathlib.Core.Path.{_≡_}
 use mathlib.Core.Bool.{Bool}
 use mathlib.Core.List.{List}
 use lib.ListN.{getD}
+use Rattle.v8.specs.declared.Instruction.{Instruction}
 use Rattle.v8.specs.declared.Reading.{Reading}
 use Rattle.v8.specs.declared.Reading.the-variants.{Read, Unread}
 use Rattle.alu.specs.declared.codes.Codes.{Codes}
@@ -21,7 +22,7 @@ use Rattle.access.specs.Locate.{locate}
 use Rattle.access.specs.Layout.{Layout}
 use Rattle.step.specs.Setting.{Setting, readingsOf}
 use Rattle.step.specs.Effect.{Core, Effect, done}
-use Rattle.step.specs.Step.{Step, stopped, next, returned, plainStep, returnStep}
+use Rattle.step.specs.Step.{Step, stopped, next, returned, plainStep, returnStep, execute}
 
 -- what instructions work on, from its parts
 abbrev pub coreOf : List ℕ → List Bool → Codes → Bool → List ℕ → Core
@@ -77,6 +78,14 @@ Computes r left leftMarks values marks codes coded control f =
     (memory : List ℕ)
     → wentOf r left leftMarks memory
     ≡ leaving (coreOf values marks codes coded memory) (plainStep control (f (coreOf values marks codes coded memory)))
+
+-- whatever the lent memory holds, which stays as it is, and however it is laid, the answer and the values and marks that are left
+-- say the step of an instruction
+abbrev pub Runs : Went → List ℕ → List Bool → List ℕ → List Bool → Codes → Bool → Control → ℕ → Instruction → Type 0
+Runs r left leftMarks values marks codes coded control returns x =
+    (l : Layout) (memory : List ℕ)
+    → wentOf r left leftMarks memory
+    ≡ leaving (coreOf values marks codes coded memory) (execute l returns (record { control = control; core = coreOf values marks codes coded memory }) x)
 
 -- an access at an offset of region r lies in the region's part of a memory of n bytes
 pub record Covered (sizes : List ℕ) (n width r offset : ℕ) : Type 0 where

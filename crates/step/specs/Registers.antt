@@ -9,6 +9,7 @@ use Rattle.v8.specs.declared.Operand.{Operand}
 use Rattle.v8.specs.declared.Operand.the-variants.{Reg, Imm}
 use Rattle.alu.specs.declared.codes.Codes.{Codes}
 use Rattle.step.specs.declared.Registers.{Registers}
+use Rattle.step.specs.declared.Marked.{Marked}
 
 -- what register r reads as, of 32 values; a number above 31 names no register
 unfoldable pub valueIn : List ℕ → ℕ → ℕ
@@ -60,3 +61,10 @@ operandSetIn marks (Imm v) = true
 
 abbrev pub operandSet : Registers → Operand → Bool
 operandSet g x = operandSetIn (g .marks) x
+
+-- what a register, or a second operand, reads as, with its mark
+abbrev pub registerIn : List ℕ → List Bool → ℕ → Marked
+registerIn values marks r = record { value = valueIn values r; set = setIn marks r }
+
+abbrev pub operandWith : List ℕ → List Bool → Operand → Marked
+operandWith values marks x = record { value = operandIn values x; set = operandSetIn marks x }

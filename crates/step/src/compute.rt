@@ -7,10 +7,8 @@ use crate::Went;
 use crate::flow::UNSET_READ;
 use crate::flow::move_on;
 use crate::flow::stop;
-use crate::regs::is_set;
-use crate::regs::operand_set;
-use crate::regs::operand_value;
-use crate::regs::value;
+use crate::regs::operand;
+use crate::regs::register;
 use crate::regs::write;
 use alu::Codes;
 use alu::alu;
@@ -37,15 +35,15 @@ pub fn step_alu(
     requires { ⌜ control .at .0 < 128 ⌝ }
     ensures { λ r. ⌜ Computes r (now (values .exit)) (now (marks .exit)) (now (values .entry)) (now (marks .entry)) codes coded control (λ c. aluEffect c op cc rd rs1 x) ⌝ }
 {
-    let ready = is_set(marks, rs1) & operand_set(marks, x);
+    let left = register(values, marks, rs1);
+    let right = operand(values, marks, x);
+    let ready = left.set & right.set;
     if !ready {
         return stop(control, codes, coded, UNSET_READ);
     }
-    let a = value(values, rs1);
-    let b = operand_value(values, x);
-    write(values, marks, rd, alu(op, a, b));
+    write(values, marks, rd, alu(op, left.value, right.value));
     if cc {
-        return move_on(control, codes_of(op, a, b), true);
+        return move_on(control, codes_of(op, left.value, right.value), true);
     }
     move_on(control, codes, coded)
 }
@@ -65,13 +63,13 @@ pub fn step_shift(
     requires { ⌜ control .at .0 < 128 ⌝ }
     ensures { λ r. ⌜ Computes r (now (values .exit)) (now (marks .exit)) (now (values .entry)) (now (marks .entry)) codes coded control (λ c. shiftEffect c op rd rs1 x) ⌝ }
 {
-    let ready = is_set(marks, rs1) & operand_set(marks, x);
+    let left = register(values, marks, rs1);
+    let right = operand(values, marks, x);
+    let ready = left.set & right.set;
     if !ready {
         return stop(control, codes, coded, UNSET_READ);
     }
-    let a = value(values, rs1);
-    let b = operand_value(values, x);
-    write(values, marks, rd, shift(op, a, b));
+    write(values, marks, rd, shift(op, left.value, right.value));
     move_on(control, codes, coded)
 }
 

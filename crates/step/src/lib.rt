@@ -12,7 +12,9 @@ pub mod dispatch;
 // Control: what follows a word, branches and the return.
 pub mod flow;
 
+use access::Access;
 use alu::Codes;
+use v8::Displacement;
 use v8::WordIndex;
 
 // Registers r0 to r31 and the condition codes, each marked set or unset.
@@ -21,6 +23,12 @@ pub struct Registers {
     pub marks: [bool; 32],
     pub codes: Codes,
     pub coded: bool,
+}
+
+// What is read, with its mark.
+pub struct Marked {
+    pub value: u32,
+    pub set: bool,
 }
 
 // What follows the next word: the word after it; or, where the next word is a slot, the place that
@@ -35,6 +43,13 @@ pub enum Pending {
 pub struct Control {
     pub at: WordIndex,
     pub pending: Pending,
+}
+
+// What an instruction asks of memory: an access with register rd, at register rs1 plus a displacement;
+// or nothing.
+pub enum Request {
+    Memory(Access, u8, u8, Displacement),
+    Nothing,
 }
 
 // Where an access aims: at an address, or the fault that it meets first.

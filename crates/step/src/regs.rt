@@ -1,6 +1,7 @@
 // Registers in lent arrays of values and marks. r0 reads as a set zero, and writes to it vanish.
 ghost use mathlib.Core.Path.{_≡_};
-ghost use Rattle.step.specs.Registers.{valueIn, setIn, operandIn, operandSetIn, valuesWith, marksWith};
+ghost use Rattle.step.specs.Registers.{valueIn, setIn, registerIn, operandWith, valuesWith, marksWith};
+use crate::Marked;
 use v8::Operand;
 
 // What register r reads as.
@@ -46,22 +47,38 @@ pub fn write(values: &mut [u32; 32], marks: &mut [bool; 32], r: u8, v: u32)
     }
 }
 
-// What a second operand gives.
-pub fn operand_value(values: &[u32; 32], x: Operand) -> u32
-    ensures { λ v. ⌜ v ≡ operandIn (now (values .entry)) x ⌝ }
+// What register r reads as, with its mark.
+pub fn register(values: &[u32; 32], marks: &[bool; 32], r: u8) -> Marked
+    ensures { λ v. ⌜ v ≡ registerIn (now (values .entry)) (now (marks .entry)) r ⌝ }
 {
-    match x {
-        Operand::Reg(r) => value(values, r),
-        Operand::Imm(v) => v,
+    let i = r as usize;
+    if i == 0 {
+        return Marked {
+            value: 0,
+            set: true,
+        };
+    }
+    if i < 32 {
+        return Marked {
+            value: values[i],
+            set: marks[i],
+        };
+    }
+    Marked {
+        value: 0,
+        set: false,
     }
 }
 
-// Whether a second operand is set.
-pub fn operand_set(marks: &[bool; 32], x: Operand) -> bool
-    ensures { λ v. ⌜ v ≡ operandSetIn (now (marks .entry)) x ⌝ }
+// What a second operand gives, with its mark: a number is always set.
+pub fn operand(values: &[u32; 32], marks: &[bool; 32], x: Operand) -> Marked
+    ensures { λ v. ⌜ v ≡ operandWith (now (values .entry)) (now (marks .entry)) x ⌝ }
 {
     match x {
-        Operand::Reg(r) => is_set(marks, r),
-        Operand::Imm(_) => true,
+        Operand::Reg(r) => register(values, marks, r),
+        Operand::Imm(v) => Marked {
+            value: v,
+            set: true,
+        },
     }
 }

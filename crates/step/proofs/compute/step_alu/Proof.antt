@@ -5,23 +5,19 @@ use borrow.Author.Needs.{needs}
 use Rattle.step.proofs.compute.step_alu.Statement.{statement}
 use Rattle.step.proofs.compute.step_alu.Tie as tie
 
-is-set-requires : tie.Need-is-set-requires
-is-set-requires c κs = search needs
+register-requires : tie.Need-register-requires
+register-requires c κs = search needs
 
-operand-set-requires : tie.Need-operand-set-requires
-operand-set-requires c κs = search needs
+operand-requires : tie.Need-operand-requires
+operand-requires c κs = search needs
 
 stop-requires : tie.Need-stop-requires
 stop-requires c κs = search needs
 
 returns : tie.Need-returns
-returns c = λ memory. rw (c .stop .ensures, ← c .before .before .before .before .is-set .ensures, ← c .before .before .operand-set .ensures, not-true (c .before .before .before .before .is-set .result && c .before .before .operand-set .result) (c .before .if1 .taken))
-
-value-requires : tie.Need-value-requires
-value-requires c κs = search needs
-
-operand-value-requires : tie.Need-operand-value-requires
-operand-value-requires c κs = search needs
+returns c = λ memory.
+    let unset = rw (c .before .before .before .before .before .before .before .register .ensures, c .before .before .before .before .operand .ensures) at (not-true (c .before .before .before .before .before .before .before .register .result .set && c .before .before .before .before .operand .result .set) (c .before .if1 .taken)) in
+    rw (c .stop .ensures, unset)
 
 alu-requires : tie.Need-alu-requires
 alu-requires c κs = search needs
@@ -37,28 +33,26 @@ move-on-requires c κs = search needs
 
 returns-2 : tie.Need-returns-2
 returns-2 c = λ memory.
-    let codes = rw (c .before .before .before .before .before .before .before .operand-value .ensures, c .before .before .before .before .before .before .before .before .before .value .ensures) at (c .before .codes-of .ensures) in
-    rw (← c .before .before .before .before .before .before .before .before .before .before .before .before .before .before .is-set .ensures, ← c .before .before .before .before .before .before .before .before .before .before .before .before .operand-set .ensures, not-false (c .before .before .before .before .before .before .before .before .before .before .before .before .before .before .is-set .result && c .before .before .before .before .before .before .before .before .before .before .before .before .operand-set .result) (c .before .before .before .before .before .before .before .before .before .before .before .if1 .left), c .before .before .if2 .taken, c .before .before .before .write .ensures .0, c .before .before .before .write .ensures .1, c .before .before .before .before .alu .ensures, c .before .before .before .before .before .before .before .operand-value .ensures, c .before .before .before .before .before .before .before .before .before .value .ensures, ← codes)
-    (c .move-on .ensures _ _ _ memory)
+    let ready = rw (c .before .before .before .before .before .before .before .before .before .before .before .before .before .register .ensures, c .before .before .before .before .before .before .before .before .before .before .operand .ensures) at (not-false (c .before .before .before .before .before .before .before .before .before .before .before .before .before .register .result .set && c .before .before .before .before .before .before .before .before .before .before .operand .result .set) (c .before .before .before .before .before .before .before .if1 .left)) in
+    let codes = rw (c .before .before .before .before .before .before .before .before .before .before .operand .ensures, c .before .before .before .before .before .before .before .before .before .before .before .before .before .register .ensures) at (c .before .codes-of .ensures) in
+    rw (ready, c .before .before .if2 .taken, c .before .before .before .write .ensures .0, c .before .before .before .write .ensures .1, c .before .before .before .before .alu .ensures, c .before .before .before .before .before .before .before .before .before .before .operand .ensures, c .before .before .before .before .before .before .before .before .before .before .before .before .before .register .ensures, ← codes) (c .move-on .ensures _ _ _ memory)
 
 move-on-requires-2 : tie.Need-move-on-requires-2
 move-on-requires-2 c κs = search needs
 
 returns-3 : tie.Need-returns-3
 returns-3 c = λ memory.
-    rw (← c .before .before .before .before .before .before .before .before .before .before .before .before .before .is-set .ensures, ← c .before .before .before .before .before .before .before .before .before .before .before .operand-set .ensures, not-false (c .before .before .before .before .before .before .before .before .before .before .before .before .before .is-set .result && c .before .before .before .before .before .before .before .before .before .before .before .operand-set .result) (c .before .before .before .before .before .before .before .before .before .before .if1 .left), c .before .if2 .left, c .before .before .write .ensures .0, c .before .before .write .ensures .1, c .before .before .before .alu .ensures, c .before .before .before .before .before .before .operand-value .ensures, c .before .before .before .before .before .before .before .before .value .ensures)
-    (c .move-on2 .ensures _ _ _ memory)
+    let ready = rw (c .before .before .before .before .before .before .before .before .before .before .before .before .register .ensures, c .before .before .before .before .before .before .before .before .before .operand .ensures) at (not-false (c .before .before .before .before .before .before .before .before .before .before .before .before .register .result .set && c .before .before .before .before .before .before .before .before .before .operand .result .set) (c .before .before .before .before .before .before .if1 .left)) in
+    rw (ready, c .before .if2 .left, c .before .before .write .ensures .0, c .before .before .write .ensures .1, c .before .before .before .alu .ensures, c .before .before .before .before .before .before .before .before .before .operand .ensures, c .before .before .before .before .before .before .before .before .before .before .before .before .register .ensures) (c .move-on2 .ensures _ _ _ memory)
 
 pub step-alu-spec : {M : Type 1} → statement M
 step-alu-spec =
     tie.close
     (tie.spec
-    is-set-requires
-    operand-set-requires
+    register-requires
+    operand-requires
     stop-requires
     returns
-    value-requires
-    operand-value-requires
     alu-requires
     write-requires
     codes-of-requires

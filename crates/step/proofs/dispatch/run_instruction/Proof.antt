@@ -1,101 +1,48 @@
--- Each instruction is run by its own function.
+-- An instruction is run by what it asks of memory.
+use Rattle.step.proofs.Requests.{asked}
+use Rattle.step.specs.Lent.{coreOf, layoutFrom}
+use denote.Ref.{now}
+use mathlib.Core.Path.{sym, _∙_}
 use borrow.Author.Needs.{needs}
 use Rattle.step.proofs.dispatch.run_instruction.Statement.{statement}
 use Rattle.step.proofs.dispatch.run_instruction.Tie as tie
 
-enum-known-x : tie.Need-enum-known-x
-enum-known-x c = search needs
+request-of-requires : tie.Need-request-of-requires
+request-of-requires c κs = search needs
 
-step-sethi-requires : tie.Need-step-sethi-requires
-step-sethi-requires c κs = search needs
+enum-known-a : tie.Need-enum-known-a
+enum-known-a c = search needs
 
-enum-known-x-2 : tie.Need-enum-known-x-2
-enum-known-x-2 c = search needs
-
-branch-requires : tie.Need-branch-requires
-branch-requires c κs = search needs
-
-enum-known-x-3 : tie.Need-enum-known-x-3
-enum-known-x-3 c = search needs
-
-step-alu-requires : tie.Need-step-alu-requires
-step-alu-requires c κs = search needs
-
-enum-known-x-4 : tie.Need-enum-known-x-4
-enum-known-x-4 c = search needs
-
-step-shift-requires : tie.Need-step-shift-requires
-step-shift-requires c κs = search needs
-
-enum-known-x-5 : tie.Need-enum-known-x-5
-enum-known-x-5 c = search needs
-
-step-load-requires : tie.Need-step-load-requires
-step-load-requires c κs = search needs
-
-enum-known-x-6 : tie.Need-enum-known-x-6
-enum-known-x-6 c = search needs
-
-step-store-requires : tie.Need-step-store-requires
-step-store-requires c κs = search needs
+step-access-requires : tie.Need-step-access-requires
+step-access-requires c κs = search needs
 
 enum-told : tie.Need-enum-told
 enum-told c = search needs
 
-leave-requires : tie.Need-leave-requires
-leave-requires c κs = search needs
-
-returns : tie.Need-returns
-returns c = rw (c .before .before .before .before .x .given .1) (c .step-sethi .ensures _)
-
-returns-2 : tie.Need-returns-2
-returns-2 c = rw (c .before .before .x2 .given .1) (c .branch .ensures _ _ _)
-
-returns-3 : tie.Need-returns-3
-returns-3 c = rw (c .before .before .before .before .x3 .given .1) (c .step-alu .ensures _)
-
-returns-4 : tie.Need-returns-4
-returns-4 c = rw (c .before .before .before .before .x4 .given .1) (c .step-shift .ensures _)
+run-plain-requires : tie.Need-run-plain-requires
+run-plain-requires c κs = (c .before .before .before .before .before .before .before .pre .0, rw (sym (c .before .before .before .before .request-of .ensures) ∙ c .before .before .enum-told .given .1) tt)
 
 same-length : tie.Need-same-length
 same-length c = search needs
 
-returns-5 : tie.Need-returns-5
-returns-5 c = rw (c .before .before .before .before .before .x5 .given .1) (c .step-load .ensures)
+returns : tie.Need-returns
+returns c = let s = c .before .before .before .before .before .before .before .before .before .before .before .before .args in
+    let l = layoutFrom (s .regions) (now (s .sizes)) (now (s .bases)) (now (s .fields)) (now (s .elements)) (now (s .permissions)) (now (s .offsets)) (now (s .counts)) in
+    let before = coreOf (now (s .values)) (now (s .marks)) (s .codes) (s .coded) (now (s .memory)) in
+    asked l (s .returns) (record { control = s .control; core = before }) _ (s .x) _ _ _ _ (sym (c .before .before .before .before .before .before .before .before .before .request-of .ensures) ∙ c .before .before .before .before .before .before .before .a .given .1) (c .before .before .step-access .ensures)
 
-same-length-2 : tie.Need-same-length-2
-same-length-2 c = search needs
-
-returns-6 : tie.Need-returns-6
-returns-6 c = rw (c .before .before .before .before .before .before .before .x6 .given .1) (c .before .before .step-store .ensures)
-
-returns-7 : tie.Need-returns-7
-returns-7 c = rw (c .before .before .before .enum-told .given .1) (c .leave .ensures _)
+returns-2 : tie.Need-returns-2
+returns-2 c = c .run-plain .ensures _ _
 
 pub run-instruction-spec : {M : Type 1} → statement M
 run-instruction-spec =
     tie.close
     (tie.spec
-    enum-known-x
-    step-sethi-requires
-    enum-known-x-2
-    branch-requires
-    enum-known-x-3
-    step-alu-requires
-    enum-known-x-4
-    step-shift-requires
-    enum-known-x-5
-    step-load-requires
-    enum-known-x-6
-    step-store-requires
+    request-of-requires
+    enum-known-a
+    step-access-requires
     enum-told
-    leave-requires
-    returns
-    returns-2
-    returns-3
-    returns-4
+    run-plain-requires
     same-length
-    returns-5
-    same-length-2
-    returns-6
-    returns-7)
+    returns
+    returns-2)

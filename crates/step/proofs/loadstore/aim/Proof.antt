@@ -6,24 +6,18 @@ use borrow.Author.Needs.{needs}
 use Rattle.step.proofs.loadstore.aim.Statement.{statement}
 use Rattle.step.proofs.loadstore.aim.Tie as tie
 
+register-requires : tie.Need-register-requires
+register-requires c κs = search needs
+
 addend-of-requires : tie.Need-addend-of-requires
 addend-of-requires c κs = search needs
 
-is-set-requires : tie.Need-is-set-requires
-is-set-requires c κs = search needs
-
-operand-set-requires : tie.Need-operand-set-requires
-operand-set-requires c κs = search needs
+operand-requires : tie.Need-operand-requires
+operand-requires c κs = search needs
 
 returns : tie.Need-returns
 unfolding aimIn
-returns c = rw (← c .before .before .before .addend-of .ensures, ← c .before .before .is-set .ensures, ← c .before .operand-set .ensures, not-true (c .before .before .is-set .result && c .before .operand-set .result && c .before .before .before .before .args .others) (c .if1 .taken))
-
-value-requires : tie.Need-value-requires
-value-requires c κs = search needs
-
-operand-value-requires : tie.Need-operand-value-requires
-operand-value-requires c κs = search needs
+returns c = let unset = rw (c .before .before .before .before .before .register .ensures, c .before .before .before .operand .ensures, c .before .before .before .before .addend-of .ensures) at (not-true (c .before .before .before .before .before .register .result .set && c .before .before .before .operand .result .set && c .before .before .before .before .before .before .args .others) (c .if1 .taken)) in rw unset
 
 sum-requires : tie.Need-sum-requires
 sum-requires c κs = search needs
@@ -33,22 +27,24 @@ rem-if2 c = search needs
 
 returns-2 : tie.Need-returns-2
 unfolding aimIn
-returns-2 c = rw (← c .before .before .before .before .before .before .before .addend-of .ensures, ← c .before .before .before .before .before .before .is-set .ensures, ← c .before .before .before .before .before .operand-set .ensures, not-false (c .before .before .before .before .before .before .is-set .result && c .before .before .before .before .before .operand-set .result && c .before .before .before .before .before .before .before .before .args .others) (c .before .before .before .before .if1 .left), ← c .before .before .before .value .ensures, ← c .before .before .operand-value .ensures, ← c .before .sum .ensures, eq-eqb _ 0 (c .if2 .taken))
+returns-2 c = let ready = rw (c .before .before .before .before .before .before .before .register .ensures, c .before .before .before .before .before .operand .ensures, c .before .before .before .before .before .before .addend-of .ensures) at (not-false (c .before .before .before .before .before .before .before .register .result .set && c .before .before .before .before .before .operand .result .set && c .before .before .before .before .before .before .before .before .args .others) (c .before .before .if1 .left)) in
+    let address = rw (c .before .before .before .before .before .before .before .register .ensures, c .before .before .before .before .before .operand .ensures, c .before .before .before .before .before .before .addend-of .ensures) at (c .before .sum .ensures) in
+    rw (ready, ← address, eq-eqb _ 0 (c .if2 .taken))
 
 returns-3 : tie.Need-returns-3
 unfolding aimIn
-returns-3 c = rw (← c .before .before .before .before .before .before .before .addend-of .ensures, ← c .before .before .before .before .before .before .is-set .ensures, ← c .before .before .before .before .before .operand-set .ensures, not-false (c .before .before .before .before .before .before .is-set .result && c .before .before .before .before .before .operand-set .result && c .before .before .before .before .before .before .before .before .args .others) (c .before .before .before .before .if1 .left), ← c .before .before .before .value .ensures, ← c .before .before .operand-value .ensures, ← c .before .sum .ensures, ne-eqb _ 0 (c .if2 .left))
+returns-3 c = let ready = rw (c .before .before .before .before .before .before .before .register .ensures, c .before .before .before .before .before .operand .ensures, c .before .before .before .before .before .before .addend-of .ensures) at (not-false (c .before .before .before .before .before .before .before .register .result .set && c .before .before .before .before .before .operand .result .set && c .before .before .before .before .before .before .before .before .args .others) (c .before .before .if1 .left)) in
+    let address = rw (c .before .before .before .before .before .before .before .register .ensures, c .before .before .before .before .before .operand .ensures, c .before .before .before .before .before .before .addend-of .ensures) at (c .before .sum .ensures) in
+    rw (ready, ← address, ne-eqb _ 0 (c .if2 .left))
 
 pub aim-spec : {M : Type 1} → statement M
 aim-spec =
     tie.close
     (tie.spec
+    register-requires
     addend-of-requires
-    is-set-requires
-    operand-set-requires
+    operand-requires
     returns
-    value-requires
-    operand-value-requires
     sum-requires
     rem-if2
     returns-2

@@ -1,0 +1,62 @@
+-- An access, by where it aims and where it lies.
+use Rattle.step.proofs.Requests.{aims, misses}
+use Rattle.step.specs.Lent.{coreOf, layoutFrom}
+use denote.Ref.{now}
+use borrow.Author.Needs.{needs}
+use Rattle.step.proofs.loadstore.step_access.Statement.{statement}
+use Rattle.step.proofs.loadstore.step_access.Tie as tie
+
+width-of-requires : tie.Need-width-of-requires
+width-of-requires c κs = search needs
+
+moved-set-requires : tie.Need-moved-set-requires
+moved-set-requires c κs = search needs
+
+aim-requires : tie.Need-aim-requires
+aim-requires c κs = search needs
+
+enum-known-address : tie.Need-enum-known-address
+enum-known-address c = search needs
+
+locate-access-requires : tie.Need-locate-access-requires
+locate-access-requires c κs = search needs
+
+access-at-requires : tie.Need-access-at-requires
+access-at-requires c κs = (c .before .before .before .before .before .before .before .before .before .before .before .before .before .before .before .pre .0, rw (c .before .before .before .locate-access .ensures) (c .before .before .before .before .before .before .before .before .before .before .before .before .before .before .before .pre .3 _ _))
+
+enum-known-n : tie.Need-enum-known-n
+enum-known-n c = search needs
+
+stop-requires : tie.Need-stop-requires
+stop-requires c κs = search needs
+
+same-length : tie.Need-same-length
+same-length c = search needs
+
+returns : tie.Need-returns
+returns c = let s = c .before .before .before .before .before .before .before .before .before .before .before .before .before .before .before .before .before .before .args in
+    let l = layoutFrom (s .regions) (now (s .sizes)) (now (s .bases)) (now (s .fields)) (now (s .elements)) (now (s .permissions)) (now (s .offsets)) (now (s .counts)) in
+    let before = coreOf (now (s .values)) (now (s .marks)) (s .codes) (s .coded) (now (s .memory)) in
+    aims l before (s .control) (s .rd) (s .rs1) (s .d) _ (s .a) _ (rw (c .before .before .before .before .before .before .before .before .before .before .before .before .before .moved-set .ensures, c .before .before .before .before .before .before .before .before .before .before .before .before .before .before .before .width-of .ensures .0, c .before .before .before .before .before .before .before .before .address .given .1) at (c .before .before .before .before .before .before .before .before .before .before .aim .ensures)) (rw (c .before .before .before .before .before .before .locate-access .ensures) at (c .before .before .access-at .ensures))
+
+returns-2 : tie.Need-returns-2
+returns-2 c = let s = c .before .before .before .before .before .before .before .before .before .before .before .before .args in
+    let l = layoutFrom (s .regions) (now (s .sizes)) (now (s .bases)) (now (s .fields)) (now (s .elements)) (now (s .permissions)) (now (s .offsets)) (now (s .counts)) in
+    let before = coreOf (now (s .values)) (now (s .marks)) (s .codes) (s .coded) (now (s .memory)) in
+    misses l before (s .control) (s .rd) (s .rs1) (s .d) _ (s .a) _ (rw (c .before .before .before .before .before .before .before .moved-set .ensures, c .before .before .before .before .before .before .before .before .before .width-of .ensures .0, c .before .before .n .given .1) at (c .before .before .before .before .aim .ensures)) (rw (c .stop .ensures))
+
+pub step-access-spec : {M : Type 1} → statement M
+step-access-spec =
+    tie.close
+    (tie.spec
+    width-of-requires
+    moved-set-requires
+    aim-requires
+    enum-known-address
+    locate-access-requires
+    access-at-requires
+    enum-known-n
+    stop-requires
+    same-length
+    returns
+    returns-2)
