@@ -51,22 +51,9 @@ pub fn write(values: &mut [u32; 32], marks: &mut [bool; 32], r: u8, v: u32)
 pub fn register(values: &[u32; 32], marks: &[bool; 32], r: u8) -> Marked
     ensures { λ v. ⌜ v ≡ registerIn (now (values .entry)) (now (marks .entry)) r ⌝ }
 {
-    let i = r as usize;
-    if i == 0 {
-        return Marked {
-            value: 0,
-            set: true,
-        };
-    }
-    if i < 32 {
-        return Marked {
-            value: values[i],
-            set: marks[i],
-        };
-    }
     Marked {
-        value: 0,
-        set: false,
+        value: value(values, r),
+        set: is_set(marks, r),
     }
 }
 

@@ -1,32 +1,16 @@
--- A register with its mark, by the tests of the definitions.
-use Rattle.step.specs.Registers.{valueIn, setIn}
-use borrow.Author.Tests.{eq-eqb, ne-eqb, lt-ltb, le-ltb}
+-- A register with its mark is its value and its mark.
 use borrow.Author.Needs.{needs}
 use Rattle.step.proofs.regs.register.Statement.{statement}
 use Rattle.step.proofs.regs.register.Tie as tie
 
+value-requires : tie.Need-value-requires
+value-requires c κs = search needs
+
+is-set-requires : tie.Need-is-set-requires
+is-set-requires c κs = search needs
+
 returns : tie.Need-returns
-unfolding valueIn setIn
-returns c = simp (eq-eqb _ 0 (c .if1 .taken))
-
-mul-t6 : tie.Need-mul-t6
-mul-t6 c = search needs
-
-element-copy-out-t9 : tie.Need-element-copy-out-t9
-element-copy-out-t9 c = search needs
-
-element-copy-out-t12 : tie.Need-element-copy-out-t12
-element-copy-out-t12 c = search needs
-
-returns-2 : tie.Need-returns-2
-unfolding valueIn setIn
-returns-2 c = simp (ne-eqb _ 0 (c .before .before .before .if1 .left), lt-ltb _ 32 (c .before .before .if2 .taken))
-
-returns-3 : tie.Need-returns-3
-unfolding valueIn setIn
-returns-3 c = simp (ne-eqb _ 0 (c .before .if1 .left), le-ltb _ 32 (c .if2 .left))
+returns c = rw (c .before .value .ensures, c .is-set .ensures)
 
 pub register-spec : {M : Type 1} → statement M
-register-spec =
-    tie.close
-    (tie.spec returns mul-t6 element-copy-out-t9 element-copy-out-t12 returns-2 returns-3)
+register-spec = tie.close (tie.spec value-requires is-set-requires returns)
