@@ -1,0 +1,32 @@
+// Registers and codes as data made outside gives them, for the programs that compare.
+use alu::Codes;
+use step::Registers;
+
+// The codes NZVC of the lowest four bits, N the highest of them.
+pub fn codes_of(number: u32) -> Codes {
+    Codes {
+        n: number / 8 % 2 == 1,
+        z: number / 4 % 2 == 1,
+        v: number / 2 % 2 == 1,
+        c: number % 2 == 1,
+    }
+}
+
+pub fn same_codes(a: Codes, b: Codes) -> bool {
+    (a.n == b.n) & (a.z == b.z) & (a.v == b.v) & (a.c == b.c)
+}
+
+// Whether the registers hold the same, with the same marks; those that are unset too.
+pub fn same_registers(a: Registers, b: Registers) -> bool {
+    let mut r = 0;
+    while r < 32 {
+        if a.values[r] != b.values[r] {
+            return false;
+        }
+        if a.marks[r] != b.marks[r] {
+            return false;
+        }
+        r += 1;
+    }
+    true
+}
