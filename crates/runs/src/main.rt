@@ -1,0 +1,11 @@
+// Holds the machine against runs of an independent implementation, with policies, memory, unset
+// registers, refusals and faults. Standard input has a record for each run. Prints each run that is
+// wrong, then counts.
+mod judge;
+mod record;
+mod report;
+mod start;
+
+fn main() {
+    report::check_runs();
+}

@@ -1,0 +1,162 @@
+#!/usr/bin/env python3
+"""runs.py RUNS: writes the data of the program crates/runs to standard output.
+
+RUNS has runs of the machine as text, a blank line between two. A line is a name and what stands for it:
+  policy N             the number of regions; for each of them
+    region SIZE N      its size and the number of its fields; for each of them
+      field ELEMENT PERMISSION TARGET OFFSET COUNT LO HI
+  words W ..           the routine, in hexadecimal
+  bases B ..           where the regions begin, in hexadecimal
+  return R             the return address, in hexadecimal
+  regs V+ V- ..        the 32 registers in hexadecimal, + set, - unset
+  codes D+             NZVC as a hexadecimal digit, and its mark
+  memory BYTES         in hexadecimal
+  allowance N
+and what the run gives: end (0 returned, 1 spent, else the number of the refusal or fault), steps,
+regs, codes, and memory (`same`, or whole).
+
+Of the runs that fit the program's room a sample is taken: EACH runs at most of every end with the memory
+changed and of every end with it unchanged, evenly over the sizes of memory. After them come runs refused
+with 20: one run of the sample again and again, each time with its policy changed so that it breaks one
+rule of document 01. By that document such a run changes nothing, which needs no implementation to tell.
+How many runs there are of each end is written to standard error.
+
+A record of the data is numbers of 32 bits, big-endian, and then bytes. The first number says how many come
+after it; these are
+    0  end                     5  number of words W           10  sizes of 8 regions
+    1  steps                   6  number of bases             18  numbers of fields of 8 regions
+    2  allowance               7  number of fields F          26  8 bases
+    3  return address          8  length of memory            34  the state before, 34 numbers
+    4  number of regions       9  1 if memory is changed      68  the state after, 34 numbers
+  102  W words, and F fields, 4 numbers each
+A state is 32 registers, their marks (bit r that of register r, set 1), and the codes NZVC with 16 added
+if they are set. A field is its place (16 times the region, plus its number there), element, permission and
+target, a byte each; offset and count, 16 bits each; lo and hi, 2^31 added. The bytes are memory before, and
+memory after if it is changed.
+"""
+import collections
+import copy
+import struct
+import sys
+
+# The program's room: bytes of memory, words.
+MEMORY, WORDS = 2048, 132
+EACH = 35
+REGIONS, FIELDS = 8, 16
+EXCESS = 2 ** 31
+# The width of each element, by its number.
+WIDTHS = (1, 1, 1, 2, 2, 4, 4, 4)
+Field = collections.namedtuple("Field", "place element permission target offset count lo hi")
+
+
+def state(registers, codes):
+    values = [int(register[:-1], 16) for register in registers]
+    marks = sum(2 ** r for r, register in enumerate(registers) if register[-1] == "+")
+    (digit, mark), = codes
+    return values + [marks, int(digit, 16) + (16 if mark == "+" else 0)]
+
+
+def padded(numbers):
+    return numbers + [0] * (REGIONS - len(numbers))
+
+
+class Run:
+    def __init__(self, text):
+        lines = collections.defaultdict(list)
+        for line in text.splitlines():
+            name, *rest = line.split()
+            lines[name].append(rest)
+        self.end, self.steps, self.allowance = (int(lines[name][0][0]) for name in ("end", "steps", "allowance"))
+        self.returns = int(lines["return"][0][0], 16)
+        self.words, self.bases = ([int(number, 16) for number in lines[name][0]] for name in ("words", "bases"))
+        self.sizes, self.counts = ([int(region[k]) for region in lines["region"]] for k in (0, 1))
+        self.regions = len(self.sizes)
+        places = [FIELDS * region + k for region, count in enumerate(self.counts) for k in range(count)]
+        self.fields = [Field(place, *map(int, rest)) for place, rest in zip(places, lines["field"], strict=True)]
+        self.before, self.after = map(state, lines["regs"], lines["codes"])
+        self.changed = lines["memory"][1] != ["same"]
+        self.memory, self.left = (bytes.fromhex("".join(rest)) for rest in (lines["memory"][0], lines["memory"][1] * self.changed))
+
+    def fits(self):
+        return len(self.memory) <= MEMORY and len(self.words) <= WORDS and len(self.bases) <= REGIONS
+
+    def record(self):
+        numbers = [self.end, self.steps, self.allowance, self.returns, self.regions]
+        numbers += [len(self.words), len(self.bases), len(self.fields), len(self.memory), self.changed]
+        numbers += padded(self.sizes) + padded(self.counts) + padded(self.bases) + self.before + self.after + self.words
+        fields = [field._replace(lo=field.lo + EXCESS, hi=field.hi + EXCESS) for field in self.fields]
+        parts = [struct.pack(f">{len(numbers) + 1}I", len(numbers) + 4 * len(fields), *numbers)]
+        parts += [struct.pack(">4B2H2I", *field) for field in fields]
+        return b"".join(parts) + self.memory + self.left
+
+
+def sample(runs):
+    classes = collections.defaultdict(list)
+    for run in runs:
+        if run.fits():
+            classes[run.end, run.changed].append(run)
+    for _, members in sorted(classes.items()):
+        members.sort(key=lambda run: len(run.memory))
+        taken = min(EACH, len(members))
+        for k in range(taken):
+            yield members[k * len(members) // taken]
+
+
+def kinds(run):
+    """Which fields are addresses, and which are signed halves: two at least, the last field of their region and not the first."""
+    addresses = [k for k, field in enumerate(run.fields) if field.element in (6, 7)]
+    last = [FIELDS * region + count - 1 for region, count in enumerate(run.counts) if 2 <= count]
+    return addresses, [k for k, field in enumerate(run.fields) if field.element == 4 and 2 <= field.count and field.place in last]
+
+
+def refused(run):
+    """Runs that are refused with 20, each because of one rule that its policy breaks."""
+    (address, *_), (half, *_) = kinds(run)
+    field, earlier = run.fields[half], run.fields[half - 1]
+    region = field.place // FIELDS
+    end = earlier.offset + WIDTHS[earlier.element] * earlier.count
+    byte = {"element": 1, "lo": 0, "hi": 0}
+    sizes, counts = run.sizes, run.counts
+
+    def with_region(size, number, fields):
+        added = [Field(FIELDS * run.regions + k, 1, 3, 0, k, 1, 0, 255) for k in range(fields)]
+        return {"regions": run.regions + number, "sizes": sizes + [size] * min(number, REGIONS - run.regions), "fields": run.fields + added,
+                "counts": counts + [fields] + [0] * (REGIONS - run.regions - 1)}
+
+    def with_size(size):
+        return {"sizes": sizes[:region] + [size] + sizes[region + 1:]}
+
+    def with_field(k, **parts):
+        return {"fields": run.fields[:k] + [run.fields[k]._replace(**parts)] + run.fields[k + 1:]}
+
+    changes = [
+        with_region(8, REGIONS + 1 - run.regions, 0),
+        with_region(24, 1, FIELDS + 1),
+        with_region(0, 1, 0), with_size(sizes[region] + 4), with_size(4104),
+        with_field(half, element=0), with_field(half, element=8),
+        with_field(half, permission=0), with_field(half, permission=4),
+        with_field(half, offset=field.offset + 1, count=1), with_field(half, count=0),
+        with_field(half, **byte, count=sizes[region] - field.offset + 1), with_field(half, **byte, offset=end - 1, count=1),
+        with_field(half, lo=field.hi + 1), with_field(half, lo=-32769), with_field(half, hi=32768), with_field(half, target=1),
+        with_field(address, target=run.regions), with_field(address, lo=-1), with_field(address, hi=1),
+        {"fields": [*run.fields[:half - 1], field._replace(place=earlier.place), earlier._replace(place=field.place), *run.fields[half + 1:]]},
+    ]
+    for change in changes:
+        broken = copy.copy(run)
+        vars(broken).update(change, end=20, steps=0, after=run.before, changed=False, left=b"")
+        yield broken
+
+
+def main():
+    if len(sys.argv) != 2:
+        sys.exit(__doc__)
+    with open(sys.argv[1]) as text:
+        runs = list(sample(Run(each) for each in text.read().split("\n\n") if each.strip()))
+    runs += refused(next(run for run in runs if run.end == 0 and all(kinds(run))))
+    for run in runs:
+        sys.stdout.buffer.write(run.record())
+    for end, count in sorted(collections.Counter(run.end for run in runs).items()):
+        print(f"end {end}: {count} runs", file=sys.stderr)
+
+
+main()
