@@ -4,9 +4,9 @@
 //   12 to 17   what the six registers hold before
 //   18 to 23   what they hold after
 // A place that is not needed names r0 and holds 0. Codes are NZVC, N the highest of four bits.
-use alu::Codes;
 use hex::Digits;
 use hex::word_of;
+use states::codes_of;
 use step::Registers;
 ghost use Prim.Native.Nat.{_+_, _≤_, _<_};
 ghost use lib.ListN.{length};
@@ -72,15 +72,6 @@ fn byte(fields: &[u32; 24], k: usize) -> u8
     (shifted % 256) as u8
 }
 
-fn codes_of(b: u8) -> Codes {
-    Codes {
-        n: b / 8 % 2 == 1,
-        z: b / 4 % 2 == 1,
-        v: b / 2 % 2 == 1,
-        c: b % 2 == 1,
-    }
-}
-
 // The registers with the six words from `from` on in those that the case names, the return address
 // in r15, zero in r0 and all others unset; and the codes of byte `k`.
 fn registers_of(fields: &[u32; 24], from: usize, k: usize) -> Registers
@@ -99,7 +90,7 @@ fn registers_of(fields: &[u32; 24], from: usize, k: usize) -> Registers
         marks[r] = true;
         i += 1;
     }
-    let codes = codes_of(byte(fields, k));
+    let codes = codes_of(byte(fields, k) as u32);
     Registers {
         values,
         marks,

@@ -3,10 +3,11 @@ use crate::case::RETURNS;
 use crate::case::after;
 use crate::case::before;
 use crate::case::case_of;
-use alu::Codes;
 use machine::End;
 use machine::Outcome;
 use policy::Policy;
+use states::same_codes;
+use states::same_registers;
 use step::Registers;
 ghost use Prim.Native.Nat.{_≤_};
 ghost use lib.ListN.{length};
@@ -40,25 +41,6 @@ fn run_of(fields: &[u32], start: Registers) -> Outcome
         ALLOWANCE,
         &mut memory[..0],
     )
-}
-
-// Whether two sets of registers hold the same, with the same marks.
-fn same_registers(a: Registers, b: Registers) -> bool {
-    let mut r = 0;
-    while r < 32 {
-        if a.values[r] != b.values[r] {
-            return false;
-        }
-        if a.marks[r] != b.marks[r] {
-            return false;
-        }
-        r += 1;
-    }
-    true
-}
-
-fn same_codes(a: Codes, b: Codes) -> bool {
-    (a.n == b.n) & (a.z == b.z) & (a.v == b.v) & (a.c == b.c)
 }
 
 fn has_returned(end: End) -> bool {

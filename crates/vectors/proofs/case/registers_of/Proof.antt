@@ -60,6 +60,9 @@ loop-again c = search needs
 byte-requires-2 : tie.Need-byte-requires-2 Inv-loop μ-loop
 byte-requires-2 c κs = search needs
 
+cast-codes-of : tie.Need-cast-codes-of Inv-loop μ-loop
+cast-codes-of c = search needs
+
 codes-of-requires : tie.Need-codes-of-requires Inv-loop μ-loop
 codes-of-requires c κs = search needs
 
@@ -88,5 +91,6 @@ registers-of-spec =
     loop-less
     loop-again
     byte-requires-2
+    cast-codes-of
     codes-of-requires
     returns)
