@@ -44,8 +44,6 @@ MEMORY, WORDS = 2048, 132
 EACH = 35
 REGIONS, FIELDS = 8, 16
 EXCESS = 2 ** 31
-# The width of each element, by its number.
-WIDTHS = (1, 1, 1, 2, 2, 4, 4, 4)
 Field = collections.namedtuple("Field", "place element permission target offset count lo hi")
 
 
@@ -114,11 +112,11 @@ def refused(run):
     (address, *_), (half, *_) = kinds(run)
     field, earlier = run.fields[half], run.fields[half - 1]
     region = field.place // FIELDS
-    end = earlier.offset + WIDTHS[earlier.element] * earlier.count
-    byte = {"element": 1, "lo": 0, "hi": 0}
+    byte = {"element": 1, "target": 0, "lo": 0, "hi": 0}
     sizes, counts = run.sizes, run.counts
 
     def with_region(size, number, fields):
+        """So many regions more, the first of them with so many fields of one byte."""
         added = [Field(FIELDS * run.regions + k, 1, 3, 0, k, 1, 0, 255) for k in range(fields)]
         return {"regions": run.regions + number, "sizes": sizes + [size] * min(number, REGIONS - run.regions), "fields": run.fields + added,
                 "counts": counts + [fields] + [0] * (REGIONS - run.regions - 1)}
@@ -129,6 +127,9 @@ def refused(run):
     def with_field(k, **parts):
         return {"fields": run.fields[:k] + [run.fields[k]._replace(**parts)] + run.fields[k + 1:]}
 
+    def with_pair(first, second):
+        return {"fields": run.fields[:half - 1] + [first, second] + run.fields[half + 1:]}
+
     changes = [
         with_region(8, REGIONS + 1 - run.regions, 0),
         with_region(24, 1, FIELDS + 1),
@@ -136,10 +137,11 @@ def refused(run):
         with_field(half, element=0), with_field(half, element=8),
         with_field(half, permission=0), with_field(half, permission=4),
         with_field(half, offset=field.offset + 1, count=1), with_field(half, count=0),
-        with_field(half, **byte, count=sizes[region] - field.offset + 1), with_field(half, **byte, offset=end - 1, count=1),
+        with_field(half, **byte, count=sizes[region] - field.offset + 1),
         with_field(half, lo=field.hi + 1), with_field(half, lo=-32769), with_field(half, hi=32768), with_field(half, target=1),
         with_field(address, target=run.regions), with_field(address, lo=-1), with_field(address, hi=1),
-        {"fields": [*run.fields[:half - 1], field._replace(place=earlier.place), earlier._replace(place=field.place), *run.fields[half + 1:]]},
+        with_pair(earlier._replace(**byte, count=1), field._replace(**byte, offset=earlier.offset, count=1)),
+        with_pair(field._replace(place=earlier.place), earlier._replace(place=field.place)),
     ]
     for change in changes:
         broken = copy.copy(run)
@@ -152,7 +154,7 @@ def main():
         sys.exit(__doc__)
     with open(sys.argv[1]) as text:
         runs = list(sample(Run(each) for each in text.read().split("\n\n") if each.strip()))
-    runs += refused(next(run for run in runs if run.end == 0 and all(kinds(run))))
+    runs += refused(next(run for run in runs if run.end == 0 and run.regions < REGIONS and all(kinds(run))))
     for run in runs:
         sys.stdout.buffer.write(run.record())
     for end, count in sorted(collections.Counter(run.end for run in runs).items()):
