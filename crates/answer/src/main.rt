@@ -3,25 +3,14 @@
 // "Bundle".)
 use checker::Answer;
 use libc::STDIN_FILENO;
-use libc::STDOUT_FILENO;
+use output::print;
+use output::print_three;
 
 // One byte more than a bundle has at most, so that a longer input is seen to be longer.
 const ROOM: usize = 53181;
 
-fn print(text: &[u8]) {
-    io::write_all(STDOUT_FILENO, text);
-}
-
-fn print_number(n: u64) {
-    io::print_decimal(STDOUT_FILENO, n);
-}
-
 fn print_answer(a: Answer) {
-    print_number(a.number as u64);
-    print(b" ");
-    print_number(a.word.0 as u64);
-    print(b" ");
-    print_number(a.register as u64);
+    print_three(a.number as u64, a.word.0 as u64, a.register as u64);
     print(b"\n");
 }
 

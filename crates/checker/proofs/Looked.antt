@@ -20,7 +20,7 @@ use Rattle.checker.specs.declared.Answer.{Answer}
 use Rattle.checker.specs.Answer.{accepted, passes}
 use Rattle.checker.specs.Routine.{Routine, count, wordAt, rowAt, resultEntry, examined, hasTaken, hasOther}
 use Rattle.checker.specs.Passes.{landsAt, transferFlow, to, made, changeBy, edgeOf, ifLeft, branchEdge, branchEdges, oppositeOf, edgeMisfit, resultMisfit, resultRegister}
-use Rattle.checker.specs.Laws.{BranchFlows, After, WordMakes, BranchLooks, SlotApplied, SlotSkipped, ArrivesAt, ArrivesHome}
+use Rattle.checker.specs.Laws.{BranchFlows, After, WordMakes, BranchLooks, SlotApplied, SlotSkipped, ArrivesAt, ArrivesOut}
 use Rattle.checker.proofs.Accepted.{both-pass, need-holds, no-fault}
 
 pub branch-flows : BranchFlows
@@ -93,5 +93,5 @@ slot-skipped t w d row e = e
 pub arrives-at : ArrivesAt
 arrives-at t w i row e = no-fault edgeMisfit w (misfit row (rowAt t i)) refl e
 
-pub arrives-home : ArrivesHome
-arrives-home t w row e = need-holds (fits (entryAt row resultRegister) (resultEntry t)) resultMisfit w resultRegister refl e
+pub arrives-out : ArrivesOut
+arrives-out t w row e = need-holds (fits (entryAt row resultRegister) (resultEntry t)) resultMisfit w resultRegister refl e

@@ -89,6 +89,6 @@ SlotSkipped = (t : Routine) (w : ℕ) (d : Destination) (row : Row) → passes (
 abbrev pub ArrivesAt : Type 0
 ArrivesAt = (t : Routine) (w i : ℕ) (row : Row) → passes (arrive t w (to i) row) ≡ true → places ≤ misfit row (rowAt t i)
 
-abbrev pub ArrivesHome : Type 0
-ArrivesHome =
+abbrev pub ArrivesOut : Type 0
+ArrivesOut =
     (t : Routine) (w : ℕ) (row : Row) → passes (arrive t w caller row) ≡ true → fits (entryAt row resultRegister) (resultEntry t) ≡ true

@@ -3,38 +3,24 @@ use crate::record::Answers;
 use crate::record::Record;
 use crate::record::next_record;
 use checker::Answer;
-use libc::STDOUT_FILENO;
+use output::print;
+use output::print_number;
+use output::print_three;
+use output::print_wrong;
 ghost use Prim.Native.Nat.{_≤_};
 
 // The most bundles that are read.
 const MOST_BUNDLES: u64 = 100000;
 
-fn print(text: &[u8]) {
-    io::write_all(STDOUT_FILENO, text);
-}
-
-fn print_number(n: u64) {
-    io::print_decimal(STDOUT_FILENO, n);
-}
-
 // Number, word and register, as the bundle program prints them.
 fn print_answer(a: Answer) {
-    print_number(a.number as u64);
-    print(b" ");
-    print_number(a.word.0 as u64);
-    print(b" ");
-    print_number(a.register as u64);
+    print_three(a.number as u64, a.word.0 as u64, a.register as u64);
 }
 
 fn print_bundle(bundle: u64) {
     print(b"bundle ");
     print_number(bundle);
     print(b": ");
-}
-
-fn print_bad(bundle: u64) {
-    print_bundle(bundle);
-    print(b"bad data\n");
 }
 
 fn same(a: Answer, b: Answer) -> bool {
@@ -73,7 +59,7 @@ pub fn check_bundles() {
             Record::Bad => {
                 bundles += 1;
                 wrong += 1;
-                print_bad(bundles);
+                print_wrong(b"bundle", bundles, b"bad data");
                 break;
             }
             Record::End => {

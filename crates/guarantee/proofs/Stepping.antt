@@ -48,7 +48,7 @@ use Rattle.checker.specs.Answer.{passes}
 use Rattle.checker.specs.Routine.{Routine, count, wordAt, rowAt, resultEntry, transfers, isSlot, examined, hasTaken, hasOther}
 use Rattle.checker.specs.Passes.{isRead, landsAt, plainFlow, transferFlow, branchFlow, flowOf, Destination, to, caller, arrive, changeBy, applied, edgeOf, branchEdges, edges, oppositeOf, resultRegister}
 use Rattle.checker.specs.Laws.{Checked, Flows, After}
-use Rattle.checker.proofs.Looked.{branch-flows, word-makes, branch-looks, slot-applied, slot-skipped, arrives-at, arrives-home}
+use Rattle.checker.proofs.Looked.{branch-flows, word-makes, branch-looks, slot-applied, slot-skipped, arrives-at, arrives-out}
 use Rattle.guarantee.specs.Safe.{InstructionSafe, ReadingSafe}
 use Rattle.guarantee.specs.Guarantee.{hostOf, heldOf}
 use Rattle.guarantee.specs.Invariant.{CoreOk, Fitted, Kept, Good, Covers, At, Arrived, Due, Ready, Invariant, StepGood}
@@ -179,7 +179,7 @@ module _ (t : Routine) (bases : List ℕ) (returns : ℕ) (wf : WellFormed (t .p
   arrive-sound w caller row lands e c ck f =
       fits-matches h (t .policy .regions) (t .policy .sizes) (entryAt row resultRegister) (resultEntry t) (isSet (c .registers) resultRegister)
       (valueOf (c .registers) resultRegister) (read-small (c .registers) (ck .words) resultRegister) (f .rules .entries resultRegister) result
-      (arrives-home t w row e) (f .matches .entries resultRegister)
+      (arrives-out t w row e) (f .matches .entries resultRegister)
 
   -- every instruction that is no transfer is covered
   covered : (x : Instruction) → isTransfer x ≡ false → InstructionSmall x → (row : Row) (c : Core) → CoreOk (t .policy) h c → Fitted (t .policy) h row c

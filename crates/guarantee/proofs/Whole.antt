@@ -13,7 +13,7 @@ use Rattle.policy.specs.declared.Policy.{Policy}
 use Rattle.policy.specs.Laws.{WellFormed}
 use Rattle.policy.proofs.WellFormed.{obeys}
 use Rattle.step.specs.declared.Registers.{Registers}
-use Rattle.step.specs.Registers.{valueIn, setIn, valueOf, isSet, grounded}
+use Rattle.step.specs.Registers.{valueIn, setIn, valueOf, isSet, withZero}
 use Rattle.step.specs.Setting.{readingsOf}
 use Rattle.machine.specs.Run.{Run, settingOf, startState, refusalOf, runOf, runFrom, traceFrom}
 use Rattle.rows.specs.declared.Row.{Row}
@@ -45,25 +45,25 @@ read-count (x ∷ xs) = ap suc (read-count xs)
 
 -- r0 reads as a set zero whether or not it is one
 module _ (g : Registers) where
-  ground-value : (r : ℕ) → valueOf (grounded g) r ≡ valueOf g r
+  zero-value : (r : ℕ) → valueOf (withZero g) r ≡ valueOf g r
   unfolding valueIn
-  ground-value r = at (eqb r 0) refl
+  zero-value r = at (eqb r 0) refl
     where
       at : (t : Bool) → eqb r 0 ≡ t → cond (eqb r 0) 0 (cond (ltb r 32) (getD (set (g .values) 0 0) r 0) 0) ≡ cond (eqb r 0) 0 (cond (ltb r 32) (getD (g .values) r 0) 0)
       at true t = rw t
       at false t = rw (getD-set-other (g .values) 0 r 0 0 (eqb-false r 0 t))
 
-  ground-mark : (r : ℕ) → isSet (grounded g) r ≡ isSet g r
+  zero-mark : (r : ℕ) → isSet (withZero g) r ≡ isSet g r
   unfolding setIn
-  ground-mark r = at (eqb r 0) refl
+  zero-mark r = at (eqb r 0) refl
     where
       at : (t : Bool) → eqb r 0 ≡ t
           → cond (eqb r 0) true (cond (ltb r 32) (getD (set (g .marks) 0 true) r false) false) ≡ cond (eqb r 0) true (cond (ltb r 32) (getD (g .marks) r false) false)
       at true t = rw t
       at false t = rw (getD-set-other (g .marks) 0 r true false (eqb-false r 0 t))
 
-  ground-words : Words g → Words (grounded g)
-  ground-words w =
+  zero-words : Words g → Words (withZero g)
+  zero-words w =
       record {
         values = length-set (g .values) 0 0 ∙ w .values;
         marks = length-set (g .marks) 0 true ∙ w .marks;
@@ -74,11 +74,11 @@ module _ (g : Registers) where
       at r true t = rw (eqb-true r 0 t, getD-set-same (g .values) 0 0 0 (subst (λ (k : ℕ). 0 < k) (sym (w .values)) (omega arith))) (omega arith)
       at r false t = rw (getD-set-other (g .values) 0 r 0 0 (eqb-false r 0 t)) (w .small r)
 
-  ground-matches : (h : Host) (row : Row) → RowMatches h row (heldOf g) → RowMatches h row (heldOf (grounded g))
-  ground-matches h row m =
+  zero-matches : (h : Host) (row : Row) → RowMatches h row (heldOf g) → RowMatches h row (heldOf (withZero g))
+  zero-matches h row m =
       record {
-        entries = λ r u. let k = m .entries r u in (ground-mark r ∙ k .0, subst (Holds h (entryAt row r)) (sym (ground-value r)) (k .1));
-        note = record { coded = m .note .coded; compared = λ c. m .note .compared c ∙ rw (ground-value (row .note .register)) };
+        entries = λ r u. let k = m .entries r u in (zero-mark r ∙ k .0, subst (Holds h (entryAt row r)) (sym (zero-value r)) (k .1));
+        note = record { coded = m .note .coded; compared = λ c. m .note .compared c ∙ rw (zero-value (row .note .register)) };
       }
 
 module _ (p : Policy) (words rows entry result : List ℕ) (e : checkOf p words rows entry result ≡ accepted) where
@@ -122,7 +122,7 @@ module _ (p : Policy) (words rows entry result : List ℕ) (e : checkOf p words 
     core-ok : CoreOk p (hostOf bases returns) (startState g memory .core)
     core-ok =
         record {
-          words = ground-words g (start .words);
+          words = zero-words g (start .words);
           bytes = start .bytes;
           long = memory-long (p .regions) (p .sizes) bases returns memory (start .placed);
           declared = start .fields;
@@ -143,9 +143,9 @@ module _ (p : Policy) (words rows entry result : List ℕ) (e : checkOf p words 
                 fitted =
                     record {
                       rules = row-rules;
-                      matches = row-fits (hostOf bases returns) (p .regions) (p .sizes) (entryRow t) (rowAt t 0) (heldOf (grounded g))
-                          (read-small (grounded g) (ground-words g (start .words))) (row-obeys (p .regions) (p .sizes) entry 0 (checked .entry-formed)) row-rules
-                          (checked .entry) (ground-matches g (hostOf bases returns) (entryRow t) (start .row));
+                      matches = row-fits (hostOf bases returns) (p .regions) (p .sizes) (entryRow t) (rowAt t 0) (heldOf (withZero g))
+                          (read-small (withZero g) (zero-words g (start .words))) (row-obeys (p .regions) (p .sizes) entry 0 (checked .entry-formed)) row-rules
+                          (checked .entry) (zero-matches g (hostOf bases returns) (entryRow t) (start .row));
                     };
               };
         }

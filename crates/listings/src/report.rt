@@ -1,7 +1,9 @@
 // A whole listing, judged line by line, and what is printed of it.
 use crate::line::Verdict;
 use crate::line::judge;
-use libc::STDOUT_FILENO;
+use output::print;
+use output::print_number;
+use output::print_wrong;
 ghost use Prim.Native.Nat.{_≤_};
 ghost use lib.ListN.{length};
 ghost use Rattle.listings.specs.Counts.{Below, Grown};
@@ -14,32 +16,16 @@ struct Tally {
     wrong: u64,
 }
 
-fn print(text: &[u8]) {
-    io::write_all(STDOUT_FILENO, text);
-}
-
-fn print_number(n: u64) {
-    io::print_decimal(STDOUT_FILENO, n);
-}
-
-fn print_wrong(line: u64, text: &[u8]) {
-    print(b"line ");
-    print_number(line);
-    print(b": ");
-    print(text);
-    print(b"\n");
-}
-
 // Prints a line's number and what is wrong with it, if anything is.
 fn print_verdict(line: u64, verdict: Verdict) {
     match verdict {
         Verdict::Kept => {}
         Verdict::Refused => {}
-        Verdict::Malformed => print_wrong(line, b"not a word and its text"),
-        Verdict::NotRead => print_wrong(line, b"not read"),
-        Verdict::ReadOtherwise => print_wrong(line, b"read as something else"),
-        Verdict::NotWrittenBack => print_wrong(line, b"not written back"),
-        Verdict::ReadOutside => print_wrong(line, b"read, but outside the subset"),
+        Verdict::Malformed => print_wrong(b"line", line, b"not a word and its text"),
+        Verdict::NotRead => print_wrong(b"line", line, b"not read"),
+        Verdict::ReadOtherwise => print_wrong(b"line", line, b"read as something else"),
+        Verdict::NotWrittenBack => print_wrong(b"line", line, b"not written back"),
+        Verdict::ReadOutside => print_wrong(b"line", line, b"read, but outside the subset"),
     }
 }
 

@@ -11,7 +11,7 @@ use Rattle.step.specs.declared.Registers.{Registers}
 use Rattle.machine.specs.declared.End.{End}
 use Rattle.machine.specs.declared.End.the-variants.{Returned, Spent, Fault, Refused}
 use Rattle.machine.specs.declared.Outcome.{Outcome}
-use Rattle.step.specs.Registers.{grounded}
+use Rattle.step.specs.Registers.{withZero}
 use Rattle.access.specs.Layout.{layoutOf}
 use Rattle.step.specs.Setting.{Setting, readingsOf}
 use Rattle.machine.specs.Placement.{placedIn}
@@ -74,7 +74,7 @@ module _ (s : Setting) where
 
 -- "It starts at word 0"; "r0 counts as a set zero"
 abbrev pub startState : Registers → List ℕ → State
-startState g memory = record { control = goTo 0; core = record { registers = grounded g; memory = memory } }
+startState g memory = record { control = goTo 0; core = record { registers = withZero g; memory = memory } }
 
 -- the refusals: "20, 21 (word count), 22 if bases, return address or memory length are wrong"; 0 for none
 unfoldable pub refusalOf : Policy → List ℕ → List ℕ → ℕ → List ℕ → ℕ

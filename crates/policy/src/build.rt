@@ -1,4 +1,5 @@
-// The three operations that build a policy, each giving the next one (specs/Build.antt).
+// The three operations that build a policy, each giving the next one (specs/Build.antt), and the adds
+// behind their first test, for a policy that is known to obey the rules.
 ghost use mathlib.Core.Path.{_≡_};
 ghost use mathlib.Core.Bool.{true};
 ghost use Rattle.policy.specs.Policy.{policyOk};

@@ -1,8 +1,7 @@
 // The search for the field of a region that holds some bytes (specs/Find.antt).
 ghost use mathlib.Core.Path.{_≡_};
-ghost use Rattle.policy.specs.Find.{findIn, findField};
+ghost use Rattle.policy.specs.Find.{findIn};
 use crate::Found;
-use crate::Policy;
 use crate::form::end_of;
 use v8::ByteOffset;
 
@@ -38,21 +37,4 @@ pub fn find_in<'a>(
         place += 1;
     }
     Found::Nothing
-}
-
-impl Policy {
-    // The same search in a policy by value: the lowest field of the region that holds the bytes.
-    pub fn find(self, region: u8, low: ByteOffset, end: ByteOffset) -> Found
-        ensures { λ r. ⌜ r ≡ findField self region (low .0) (end .0) ⌝ }
-    {
-        find_in(
-            &self.fields,
-            &self.elements,
-            &self.offsets,
-            &self.counts,
-            region,
-            low,
-            end,
-        )
-    }
 }

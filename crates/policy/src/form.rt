@@ -1,7 +1,7 @@
 // The rules that a policy obeys (specs/Policy.antt).
 ghost use mathlib.Core.Path.{_≡_};
 ghost use Prim.Native.Nat.{_<_, _≤_};
-ghost use Rattle.policy.specs.Policy.{endOf, sizeOk, valuesOk, fieldOk, fieldIn, fieldAt, endIn, fieldFollows, regionOk, policyOk};
+ghost use Rattle.policy.specs.Policy.{endOf, sizeOk, valuesOk, fieldOk, fieldIn, endIn, fieldFollows, regionOk, policyOk};
 use crate::Field;
 use crate::Policy;
 use crate::element::LEASTS;
@@ -156,41 +156,6 @@ fn region_ok(p: Policy, r: usize) -> bool
 }
 
 impl Policy {
-    // The field at a place; all zero where there is no such place.
-    pub fn field(self, place: usize) -> Field
-        ensures { λ r. ⌜ r ≡ fieldAt self place ⌝ }
-    {
-        if 128 <= place {
-            let offset = ByteOffset(0);
-            return Field {
-                element: 0,
-                permission: 0,
-                target: 0,
-                offset,
-                count: 0,
-                lo: 0,
-                hi: 0,
-            };
-        }
-        let element = self.elements[place];
-        let permission = self.permissions[place];
-        let target = self.targets[place];
-        let start = self.offsets[place];
-        let offset = ByteOffset(start);
-        let count = self.counts[place];
-        let lo = self.lows[place];
-        let hi = self.highs[place];
-        Field {
-            element,
-            permission,
-            target,
-            offset,
-            count,
-            lo,
-            hi,
-        }
-    }
-
     // Whether the policy obeys every rule.
     pub fn well_formed(self) -> bool
         ensures { λ b. ⌜ b ≡ policyOk self ⌝ }

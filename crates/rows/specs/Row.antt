@@ -62,14 +62,14 @@ unfoldable pub rowOf : List ℕ → ℕ → Row
 rowOf bytes at = record { entries = entriesFrom bytes at 32; note = noteOf bytes (notePlace at) }
 
 -- "r0 is the single number 0"
-abbrev pub groundOk : ℕ → Entry → Bool
-groundOk r e = not (eqb r 0) || isZero e
+abbrev pub r0Ok : ℕ → Entry → Bool
+r0Ok r e = not (eqb r 0) || isZero e
 
 -- register r of the row at a place is well formed; the note counts as register 32
 unfoldable pub formedAt : ℕ → List ℕ → List ℕ → ℕ → ℕ → Bool
 formedAt regions sizes bytes at r =
     cond (ltb r 32)
-    (entryFormed regions sizes bytes (entryPlace at r) && groundOk r (entryOf bytes (entryPlace at r)))
+    (entryFormed regions sizes bytes (entryPlace at r) && r0Ok r (entryOf bytes (entryPlace at r)))
     (noteFormed bytes (notePlace at))
 
 abbrev pub brokenAt : ℕ → List ℕ → List ℕ → ℕ → ℕ → Bool

@@ -3,27 +3,13 @@ use crate::judge::Verdict;
 use crate::judge::judge;
 use crate::record::Found;
 use crate::record::next_record;
-use libc::STDOUT_FILENO;
+use output::print;
+use output::print_number;
+use output::print_wrong;
 ghost use Prim.Native.Nat.{_≤_};
 
 // The most runs that are read.
 const MOST_RUNS: u64 = 100000;
-
-fn print(text: &[u8]) {
-    io::write_all(STDOUT_FILENO, text);
-}
-
-fn print_number(n: u64) {
-    io::print_decimal(STDOUT_FILENO, n);
-}
-
-fn print_wrong(run: u64, text: &[u8]) {
-    print(b"run ");
-    print_number(run);
-    print(b": ");
-    print(text);
-    print(b"\n");
-}
 
 // Prints a run's number and what is wrong with it, and answers 1; or answers 0 where nothing is.
 fn print_verdict(run: u64, verdict: Verdict) -> u64
@@ -33,12 +19,12 @@ fn print_verdict(run: u64, verdict: Verdict) -> u64
         Verdict::Same => {
             return 0;
         }
-        Verdict::Malformed => print_wrong(run, b"not a run"),
-        Verdict::OtherEnd => print_wrong(run, b"other end"),
-        Verdict::OtherSteps => print_wrong(run, b"other steps"),
-        Verdict::OtherRegisters => print_wrong(run, b"other registers"),
-        Verdict::OtherCodes => print_wrong(run, b"other codes"),
-        Verdict::OtherMemory => print_wrong(run, b"other memory"),
+        Verdict::Malformed => print_wrong(b"run", run, b"not a run"),
+        Verdict::OtherEnd => print_wrong(b"run", run, b"other end"),
+        Verdict::OtherSteps => print_wrong(b"run", run, b"other steps"),
+        Verdict::OtherRegisters => print_wrong(b"run", run, b"other registers"),
+        Verdict::OtherCodes => print_wrong(b"run", run, b"other codes"),
+        Verdict::OtherMemory => print_wrong(b"run", run, b"other memory"),
     }
     1
 }

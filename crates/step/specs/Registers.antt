@@ -43,8 +43,8 @@ abbrev pub withCodes : Registers → Codes → Registers
 withCodes g f = record { values = g .values; marks = g .marks; codes = f; coded = true }
 
 -- the registers with r0 a set zero
-abbrev pub grounded : Registers → Registers
-grounded g = record { values = set (g .values) 0 0; marks = set (g .marks) 0 true; codes = g .codes; coded = g .coded }
+abbrev pub withZero : Registers → Registers
+withZero g = record { values = set (g .values) 0 0; marks = set (g .marks) 0 true; codes = g .codes; coded = g .coded }
 
 -- what a second operand gives
 abbrev pub operandIn : List ℕ → Operand → ℕ

@@ -2,27 +2,13 @@
 use crate::judge::Verdict;
 use crate::judge::judge;
 use libc::STDIN_FILENO;
-use libc::STDOUT_FILENO;
+use output::print;
+use output::print_number;
+use output::print_wrong;
 ghost use Prim.Native.Nat.{_≤_};
 
 // The most cases that are read.
 const MOST_CASES: u64 = 1000000;
-
-fn print(text: &[u8]) {
-    io::write_all(STDOUT_FILENO, text);
-}
-
-fn print_number(n: u64) {
-    io::print_decimal(STDOUT_FILENO, n);
-}
-
-fn print_wrong(number: u64, text: &[u8]) {
-    print(b"case ");
-    print_number(number);
-    print(b": ");
-    print(text);
-    print(b"\n");
-}
 
 // Prints a case's number and what is wrong with it, and answers 1; or answers 0 where nothing is.
 fn print_verdict(number: u64, verdict: Verdict) -> u64
@@ -32,10 +18,10 @@ fn print_verdict(number: u64, verdict: Verdict) -> u64
         Verdict::Kept => {
             return 0;
         }
-        Verdict::Malformed => print_wrong(number, b"not a case"),
-        Verdict::NotReturned => print_wrong(number, b"not returned"),
-        Verdict::OtherRegisters => print_wrong(number, b"other registers"),
-        Verdict::OtherCodes => print_wrong(number, b"other codes"),
+        Verdict::Malformed => print_wrong(b"case", number, b"not a case"),
+        Verdict::NotReturned => print_wrong(b"case", number, b"not returned"),
+        Verdict::OtherRegisters => print_wrong(b"case", number, b"other registers"),
+        Verdict::OtherCodes => print_wrong(b"case", number, b"other codes"),
     }
     1
 }
