@@ -23,6 +23,10 @@ fn print_bundle(bundle: u64) {
     print(b": ");
 }
 
+fn print_bad(bundle: u64) {
+    print_wrong(b"bundle", bundle, b"bad data");
+}
+
 fn same(a: Answer, b: Answer) -> bool {
     (a.number == b.number) & (a.word.0 == b.word.0) & (a.register == b.register)
 }
@@ -59,7 +63,7 @@ pub fn check_bundles() {
             Record::Bad => {
                 bundles += 1;
                 wrong += 1;
-                print_wrong(b"bundle", bundles, b"bad data");
+                print_bad(bundles);
                 break;
             }
             Record::End => {
