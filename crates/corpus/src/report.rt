@@ -3,18 +3,19 @@ use crate::record::Answers;
 use crate::record::Record;
 use crate::record::next_record;
 use checker::Answer;
+use output::line_of;
 use output::print;
+use output::print_line;
 use output::print_number;
-use output::print_three;
 use output::print_wrong;
 ghost use Prim.Native.Nat.{_≤_};
 
 // The most bundles that are read.
 const MOST_BUNDLES: u64 = 100000;
 
-// Number, word and register, as the bundle program prints them.
+// Number, word and register, on a line.
 fn print_answer(a: Answer) {
-    print_three(a.number as u64, a.word.0 as u64, a.register as u64);
+    print_line(line_of(a.number as u64, a.word.0 as u64, a.register as u64));
 }
 
 fn print_bundle(bundle: u64) {
@@ -43,9 +44,9 @@ fn print_difference(bundle: u64, answers: Answers) -> u64
     print_bundle(bundle);
     print(b"answered ");
     print_answer(answered);
-    print(b", expected ");
+    print_bundle(bundle);
+    print(b"expected ");
     print_answer(expected);
-    print(b"\n");
     1
 }
 

@@ -1,5 +1,12 @@
 // Text and numbers on standard output, for the programs.
+ghost use Rattle.io.specs.Counts.{Counts};
 use libc::STDOUT_FILENO;
+
+// A line of three numbers.
+pub mod line;
+
+pub use line::Line;
+pub use line::line_of;
 
 pub fn print(text: &[u8]) {
     io::write_all(STDOUT_FILENO, text);
@@ -10,13 +17,13 @@ pub fn print_number(n: u64) {
     io::print_decimal(STDOUT_FILENO, n);
 }
 
-// Three numbers in decimal, one space between.
-pub fn print_three(a: u64, b: u64, c: u64) {
-    print_number(a);
-    print(b" ");
-    print_number(b);
-    print(b" ");
-    print_number(c);
+// A line of numbers.
+pub fn print_line(line: Line)
+    requires { ⌜ Counts (line .count) (line .text) ⌝ }
+{
+    let text = line.text;
+    let count = line.count;
+    print(&text[..count]);
 }
 
 // What is wrong with one of the things counted, with its number, on a line.

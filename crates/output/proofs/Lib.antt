@@ -1,0 +1,3 @@
+pub mod Pushed
+pub mod Places
+pub mod Lined
