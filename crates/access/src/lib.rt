@@ -2,7 +2,7 @@
 // these alike. (Document 01, refusals 7, 8, 10 and 103.)
 
 // What an access needs of a field.
-pub mod serve;
+mod serve;
 // Where an access lies.
 pub mod locate;
 

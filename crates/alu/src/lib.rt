@@ -3,7 +3,7 @@
 // (V8, appendices B and C; document 01, "Words we read".)
 
 // Results.
-pub mod result;
+mod result;
 // Condition codes.
 pub mod codes;
 // Conditions.

@@ -3,19 +3,19 @@
 use v8::WordIndex;
 
 // Answers, and the numbers of the passes.
-pub mod answers;
+mod answers;
 // The words: what each is read as, and whether it is a slot.
-pub mod words;
+mod words;
 // The flow of a word.
-pub mod flow;
+mod flow;
 // Rows of words, and what is asked of a row that arrives.
-pub mod arrival;
+mod arrival;
 // The edges of a word.
-pub mod edges;
+mod edges;
 // The passes over the words.
-pub mod passes;
+mod passes;
 // The check.
-pub mod checking;
+mod checking;
 
 pub use checking::check;
 

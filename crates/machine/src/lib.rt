@@ -2,11 +2,11 @@
 // run".)
 
 // Where regions, return address and memory lie.
-pub mod place;
+mod place;
 // How a run begins.
-pub mod begin;
+mod begin;
 // The run, step after step.
-pub mod steps;
+mod steps;
 
 use alu::Codes;
 pub use begin::run;

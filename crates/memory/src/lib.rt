@@ -3,11 +3,11 @@
 // appendix B, load and store integer instructions; document 01, the machine's run.)
 
 // Loads and stores in a slice of bytes.
-pub mod big_endian;
+mod big_endian;
 // Where a region's part begins.
-pub mod place;
+mod place;
 // Loads and stores in a region's part, lent on.
-pub mod part;
+mod part;
 
 pub use big_endian::load;
 pub use part::load_in;

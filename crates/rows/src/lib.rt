@@ -7,11 +7,11 @@ pub mod entries;
 // What is known of the condition codes.
 pub mod notes;
 // Entries, notes and rows read from bytes.
-pub mod reading;
+mod reading;
 // The entry of a register in a row.
-pub mod registers;
+mod registers;
 // The form of a row in bytes, and whether one row fits another.
-pub mod passes;
+mod passes;
 
 pub use entries::field_entry;
 pub use entries::fits;

@@ -4,23 +4,20 @@ use rows::Entry;
 use rows::Note;
 
 // The conditions' numbers.
-pub mod conditions;
+mod conditions;
 // What an instruction makes of its operands.
-pub mod results;
+mod results;
 // Where an access lies.
-pub mod reaching;
+mod reaching;
 // The operands of a word.
 mod operand;
 // What each word does to a row.
-pub mod changes;
+mod changes;
 // What a comparison leaves of an entry.
-pub mod narrowing;
+mod narrowing;
 
 pub use changes::change_of;
 pub use narrowing::narrow_entry;
-pub use reaching::reach_of;
-pub use results::alu_result;
-pub use results::shift_result;
 
 // The operands of a word: the registers that it names, and their entries.
 pub struct Operands {

@@ -16,9 +16,9 @@ use Rattle.step.specs.declared.Aim.{Aim}
 use Rattle.step.specs.declared.Aim.the-variants.{Address, Missed}
 use Rattle.step.specs.declared.Request.{Request}
 use Rattle.step.specs.declared.Request.the-variants.{Memory, Nothing}
-use Rattle.step.specs.Effect.{Core, fault, outsideField, aimOf, loadAimed, storeAimed, movedSet, accessAt, accessEffect, requestOf}
+use Rattle.step.specs.Effect.{Core, fault, outsideField, aimOf, loadAimed, storeAimed}
 use Rattle.step.specs.Step.{State, Step, stopped, plainStep, execute}
-use Rattle.step.specs.Lent.{Stepped, leaving}
+use Rattle.step.specs.Lent.{Stepped, leaving, movedSet, accessAt, accessEffect, requestOf}
 
 -- the step of an instruction, by what it asks of memory
 abbrev byRequest : Layout → ℕ → State → Instruction → Request → Step

@@ -17,14 +17,11 @@ use Rattle.alu.specs.Codes.{codesOf}
 use Rattle.memory.specs.Memory.{loadOf, loadWidth, storeOf, storeWidth}
 use Rattle.memory.specs.Place.{startOf}
 use Rattle.step.specs.declared.Registers.{Registers}
-use Rattle.step.specs.declared.Request.{Request}
-use Rattle.step.specs.declared.Request.the-variants.{Memory, Nothing}
 use Rattle.step.specs.declared.Aim.{Aim}
 use Rattle.step.specs.declared.Aim.the-variants.{Address, Missed}
 use Rattle.access.specs.declared.Located.{Located}
 use Rattle.access.specs.declared.Located.the-variants.{At, Nowhere}
 use Rattle.step.specs.Registers.{valueIn, setIn, operandIn, operandSetIn, valueOf, isSet, written, withCodes, operandValue, operandSet}
-use Rattle.access.specs.declared.Access.{Access}
 use Rattle.access.specs.declared.Access.the-variants.{Loads, Stores}
 use Rattle.access.specs.Serve.{addend}
 use Rattle.access.specs.Layout.{Layout}
@@ -120,36 +117,6 @@ storeAimed l c op rd (Missed n) = fault n
 
 abbrev pub storeEffect : Layout → Core → StoreOp → ℕ → ℕ → Displacement → Effect
 storeEffect l c op rd rs1 d = storeAimed l c op rd (aimOf (c .registers) (isSet (c .registers) rd) rs1 d (storeWidth op))
-
--- whether what an access moves is set: a store reads its register, a load reads no other
-abbrev pub movedSet : List Bool → Access → ℕ → Bool
-movedSet marks (Loads op) rd = true
-movedSet marks (Stores op) rd = setIn marks rd
-
--- an access where it lies
-abbrev pub accessAt : List ℕ → Core → Access → ℕ → Located → Effect
-accessAt sizes c (Loads op) rd at = loadAt sizes c op rd at
-accessAt sizes c (Stores op) rd at = storeAt sizes c op rd at
-
--- the effect of an access
-abbrev pub accessEffect : Layout → Core → Access → ℕ → ℕ → Displacement → Effect
-accessEffect l c (Loads op) rd rs1 d = loadEffect l c op rd rs1 d
-accessEffect l c (Stores op) rd rs1 d = storeEffect l c op rd rs1 d
-
--- what an instruction asks of memory
-abbrev pub requestOf : Instruction → Request
-requestOf (Sethi rd imm22) = Nothing
-requestOf (Bicc annul cnd d) = Nothing
-requestOf (Alu op cc rd rs1 x) = Nothing
-requestOf (Shift op rd rs1 x) = Nothing
-requestOf (Load op rd rs1 d) = Memory (Loads op) rd rs1 d
-requestOf (Store op rd rs1 d) = Memory (Stores op) rd rs1 d
-requestOf Return = Nothing
-
--- nothing is asked
-abbrev pub AsksNothing : Request → Type 0
-AsksNothing (Memory a rd rs1 d) = ⊥
-AsksNothing Nothing = Unit {0}
 
 -- the effect of an instruction that is no transfer; transfers are control's (Step)
 abbrev pub effectOf : Layout → Core → Instruction → Effect

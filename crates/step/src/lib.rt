@@ -2,11 +2,11 @@
 // lent memory. (Document 01, "Machine run".)
 
 // Registers in lent arrays.
-pub mod regs;
+mod regs;
 // Instructions that change registers and codes alone.
-pub mod compute;
+mod compute;
 // Loads and stores.
-pub mod loadstore;
+mod loadstore;
 // One step.
 pub mod dispatch;
 // Control: what follows a word, branches and the return.
