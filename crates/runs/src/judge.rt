@@ -16,9 +16,9 @@ use crate::record::words_end;
 use crate::start::after;
 use crate::start::before;
 use crate::start::policy_of;
-use machine::End;
 use machine::Outcome;
 use policy::Policy;
+use states::end_number;
 use states::same_codes;
 use states::same_registers;
 use step::Registers;
@@ -41,16 +41,6 @@ fn wide(number: u32) -> u64 {
     number as u64
 }
 
-// Document 01's number of an end; 0 for returned and 1 for spent.
-fn number_of(end: End) -> u32 {
-    match end {
-        End::Returned => 0,
-        End::Spent => 1,
-        End::Fault(n) => n as u32,
-        End::Refused(n) => n as u32,
-    }
-}
-
 fn same_memory(a: &[u8; MOST_BYTES], b: &[u8; MOST_BYTES]) -> bool {
     let mut i = 0;
     while i < MOST_BYTES {
@@ -67,7 +57,7 @@ fn judge_outcome(numbers: &[u32; MOST_NUMBERS], outcome: Outcome, kept: bool) ->
     let end = outcome.end;
     let left = outcome.registers;
     let expected = after(numbers);
-    if number_of(end) != numbers[END] {
+    if end_number(end) != wide(numbers[END]) {
         return Verdict::OtherEnd;
     }
     if outcome.steps != wide(numbers[STEPS]) {

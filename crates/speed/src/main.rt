@@ -4,10 +4,10 @@
 use alu::Codes;
 use libc::STDIN_FILENO;
 use libc::STDOUT_FILENO;
-use machine::End;
 use machine::Outcome;
 use policy::Field;
 use policy::Policy;
+use states::end_number;
 use step::Registers;
 use v8::ByteOffset;
 
@@ -72,16 +72,6 @@ fn start() -> Registers {
     }
 }
 
-// How a run ended, as a number: 0 returned, 1 spent, else the fault or the refusal.
-fn number_of(e: End) -> u64 {
-    match e {
-        End::Returned => 0,
-        End::Spent => 1,
-        End::Fault(n) => n as u64,
-        End::Refused(n) => n as u64,
-    }
-}
-
 fn wide(x: u32) -> u64 {
     x as u64
 }
@@ -90,7 +80,7 @@ fn report(o: Outcome) {
     let end = o.end;
     let r = o.registers;
     let values = r.values;
-    io::print_decimal(STDOUT_FILENO, number_of(end));
+    io::print_decimal(STDOUT_FILENO, end_number(end));
     io::write_all(STDOUT_FILENO, b" ");
     io::print_decimal(STDOUT_FILENO, o.steps);
     io::write_all(STDOUT_FILENO, b" ");

@@ -1,6 +1,17 @@
-// Registers and codes as data made outside gives them, for the programs that compare.
+// Ends, registers and codes as data made outside gives them, for the programs that compare.
 use alu::Codes;
+use machine::End;
 use step::Registers;
+
+// How a run ended, as a number: 0 returned, 1 spent, else the fault's or the refusal's.
+pub fn end_number(end: End) -> u64 {
+    match end {
+        End::Returned => 0,
+        End::Spent => 1,
+        End::Fault(n) => n as u64,
+        End::Refused(n) => n as u64,
+    }
+}
 
 // The codes NZVC of the lowest four bits, N the highest of them.
 pub fn codes_of(number: u32) -> Codes {
