@@ -9,7 +9,7 @@ use Rattle.v8.specs.Search.{first}
 use Rattle.policy.specs.declared.Found.{Found}
 use Rattle.policy.specs.declared.Found.the-variants as Found·
 use Rattle.policy.specs.Find.{findIn}
-use Rattle.access.specs.declared.Access.{Access}
+use Rattle.v8.specs.declared.Access.{Access}
 use Rattle.access.specs.declared.Located.{Located}
 use Rattle.access.specs.declared.Located.the-variants.{At, Nowhere}
 use Rattle.access.specs.Serve.{accessWidth, serves, allows}

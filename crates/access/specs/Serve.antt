@@ -12,8 +12,8 @@ use Rattle.v8.specs.declared.LoadOp.the-variants.{Ld, Ldub, Lduh, Ldsb, Ldsh}
 use Rattle.v8.specs.declared.StoreOp.{StoreOp}
 use Rattle.v8.specs.declared.StoreOp.the-variants.{St, Stb, Sth}
 use Rattle.memory.specs.Memory.{loadWidth, storeWidth}
-use Rattle.access.specs.declared.Access.{Access}
-use Rattle.access.specs.declared.Access.the-variants.{Loads, Stores}
+use Rattle.v8.specs.declared.Access.{Access}
+use Rattle.v8.specs.declared.Access.the-variants.{Loads, Stores}
 
 -- how many bytes an access touches
 abbrev pub accessWidth : Access → ℕ

@@ -12,14 +12,6 @@ pub use serve::allowed;
 pub use serve::serves_element;
 pub use serve::width_of;
 use v8::ByteOffset;
-use v8::LoadOp;
-use v8::StoreOp;
-
-// An access to memory.
-pub enum Access {
-    Loads(LoadOp),
-    Stores(StoreOp),
-}
 
 // Where an access lies: at an offset of a region, in a field that allows it, or nowhere.
 pub enum Located {

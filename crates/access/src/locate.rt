@@ -4,12 +4,12 @@ ghost use Prim.Native.Nat.{_≤_, _<_};
 ghost use lib.ListN.{length, getD};
 ghost use Rattle.access.specs.Serve.{accessWidth};
 ghost use Rattle.access.specs.Locate.{Near, regionIn, locateIn, locate};
-use crate::Access;
 use crate::Located;
 use crate::serve::allowed;
 use crate::serve::serves_element;
 use policy::Found;
 use policy::find_in;
+use v8::Access;
 use v8::ByteOffset;
 
 // A size as a number of bytes to add to a base.

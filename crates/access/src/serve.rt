@@ -2,7 +2,7 @@
 ghost use mathlib.Core.Path.{_≡_};
 ghost use Prim.Native.Nat.{_≤_};
 ghost use Rattle.access.specs.Serve.{accessWidth, serves, allows, addend};
-use crate::Access;
+use v8::Access;
 use v8::Displacement;
 use v8::LoadOp;
 use v8::Operand;

@@ -1,7 +1,7 @@
 -- The sixteen conditions of Bicc by their four-bit number: V8's formulas over the codes, and the table of document 01 that
 -- gives each condition's rule and narrowing class (V8, appendix B, "Branch on Integer Condition Codes"; document 01, "The
 -- sixteen conditions").
-use Prim.Native.Nat.{ℕ, _%_}
+use Prim.Native.Nat.{ℕ, _+_, _%_}
 use mathlib.Core.Bool.{Bool, true, false, not, xor, _||_, cond}
 use mathlib.Core.List.{List, [], _∷_}
 use lib.Dec.{ltb, leb, eqb}
@@ -81,6 +81,10 @@ conditionOf k = getD conditions (k % 16) (row Never false Unrelated)
 -- whether the codes meet a row of the table
 abbrev pub meets : Codes → Condition → Bool
 meets f r = cond (r .negated) (not (ruleHolds (r .rule) f)) (ruleHolds (r .rule) f)
+
+-- the condition that holds exactly where condition k does not
+abbrev pub oppositeOf : ℕ → ℕ
+oppositeOf k = (k + 8) % 16
 
 -- what a narrowing class says of the number a compared with b, and `other` where it says nothing
 abbrev pub compares : Narrowing → ℕ → ℕ → Bool → Bool

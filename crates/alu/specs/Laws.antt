@@ -12,7 +12,7 @@ use Rattle.v8.specs.Signed.{excess}
 use Rattle.alu.specs.declared.codes.Codes.{Codes}
 use Rattle.alu.specs.Result.{aluOf, shiftOf, sethiOf}
 use Rattle.alu.specs.Codes.{codesOf}
-use Rattle.alu.specs.Condition.{condHolds, conditionOf, meets, compares}
+use Rattle.alu.specs.Condition.{condHolds, conditionOf, meets, compares, oppositeOf}
 
 -- what holds of every two words
 abbrev pub OfWords : (ℕ → ℕ → Type 0) → Type 0
@@ -72,7 +72,7 @@ RowsHold = (k : ℕ) (f : Codes) → meets f (conditionOf k) ≡ condHolds k f
 
 -- The opposite condition holds exactly where the condition does not.
 abbrev pub OppositeHolds : Type 0
-OppositeHolds = (k : ℕ) (f : Codes) → condHolds ((k + 8) % 16) f ≡ not (condHolds k f)
+OppositeHolds = (k : ℕ) (f : Codes) → condHolds (oppositeOf k) f ≡ not (condHolds k f)
 
 -- After SUBcc, a condition whose narrowing class is not Unrelated holds exactly where the signed numbers compare as the class says.
 abbrev pub Narrows : Type 0

@@ -1,8 +1,7 @@
 // The sixteen conditions of a branch. (V8, appendix B, "Branch on Integer Condition Codes"; document
 // 01, "The sixteen conditions".)
 ghost use mathlib.Core.Path.{_≡_};
-ghost use Prim.Native.Nat.{_+_, _%_};
-ghost use Rattle.alu.specs.Condition.{ruleHolds, conditionOf, condHolds};
+ghost use Rattle.alu.specs.Condition.{ruleHolds, conditionOf, condHolds, oppositeOf};
 use crate::codes::Codes;
 
 // The eight rules of the codes, of which the sixteen conditions are these and their opposites.
@@ -157,7 +156,7 @@ pub fn holds(k: u8, f: Codes) -> bool
 
 // The condition that holds exactly where condition `k` does not.
 pub fn opposite(k: u8) -> u8
-    ensures { λ r. ⌜ r ≡ (k + 8) % 16 ⌝ }
+    ensures { λ r. ⌜ r ≡ oppositeOf k ⌝ }
 {
     (k % 16 + 8) % 16
 }

@@ -4,6 +4,7 @@ use mathlib.Core.Bool.{cond}
 use mathlib.Core.List.{List, [], _∷_}
 use lib.Dec.{eqb}
 use lib.ListN.{take, drop}
+use Rattle.v8.specs.Numbers.{badBundle}
 use Rattle.memory.specs.Memory.{wordAt}
 use Rattle.policy.specs.declared.Policy.{Policy}
 use Rattle.policy.specs.declared.Field.{Field}
@@ -13,10 +14,6 @@ use Rattle.checker.specs.declared.Answer.{Answer}
 use Rattle.checker.specs.Answer.{refuse}
 use Rattle.checker.specs.Passes.{checkOf}
 use Rattle.bundle.specs.Layout.{regionCount, wordCount, regionSize, fieldCount, fieldsBefore, fieldRead, entryPlace, resultPlace, wordsPlace, rowsPlace, bundleOk, rowBytes, entryBytes, wordBytes}
-
--- "23"
-abbrev pub badBundle : ℕ
-badBundle = 23
 
 -- an add, unless an earlier one was refused
 unfoldable pub regionTo : Built → ℕ → Built

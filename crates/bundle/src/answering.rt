@@ -16,11 +16,10 @@ use crate::reading::word_at;
 use checker::Answer;
 use checker::check;
 use policy::Policy;
-use policy::build::ACCEPTED;
 use v8::WordIndex;
+use v8::numbers::ACCEPTED;
+use v8::numbers::BAD_BUNDLE;
 
-// The bytes are no bundle.
-const BAD_BUNDLE: u8 = 23;
 // No bundle has more words.
 const MOST_WORDS: usize = 133;
 

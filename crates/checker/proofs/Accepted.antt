@@ -1,18 +1,20 @@
 -- What an accepted check shows: of passes in a row each accepts, of a pass over the words each word does.
-use Prim.Native.Nat.{ℕ, _*_, _≤_, _<_}
+use Prim.Native.Nat.{ℕ, _+_, _*_, _≤_, _<_}
 use mathlib.Core.Path.{_≡_, refl, sym, ap, _∙_}
 use mathlib.Core.Bool.{Bool, true, false, not, cond, and-false}
 use native.Mathlib.Omega.{arith}
 use lib.Dec.{ltb, eqb}
 use borrow.Author.Tests.{ltb-true, ltb-false, not-false}
+use Rattle.v8.specs.Numbers.{badPolicy, badShape, badRow, badFlow, entryMisfit, mostWords}
 use Rattle.v8.specs.Search.{first, first-passes, first-least, needed, needed-le, needed-eq}
+use Rattle.flow.specs.Readings.{readingAt, examined}
 use Rattle.policy.specs.Policy.{policyOk}
 use Rattle.rows.specs.Row.{entryFormed, formFault, misfit, places}
 use Rattle.rows.proofs.Tests.{false-true}
 use Rattle.checker.specs.declared.Answer.{Answer}
 use Rattle.checker.specs.Answer.{accepted, refuse, passes, andThen, need, refuses, passOf}
-use Rattle.checker.specs.Routine.{Routine, routineOf, count, wordAt, rowAt, entryRow, examined, rowBytes}
-use Rattle.checker.specs.Passes.{unlessFault, policyPass, shapeOk, shapePass, rowPass, isRead, readPass, flowOf, flowPass, entryPass, applied, edges, wordPass, answerOf, checkOf, badPolicy, badShape, badRow, unreadWord, badFlow, entryMisfit}
+use Rattle.checker.specs.Routine.{Routine, routineOf, count, rowAt, entryRow, rowBytes}
+use Rattle.checker.specs.Passes.{unlessFault, policyPass, shapeOk, shapePass, rowPass, readPass, flowOf, flowPass, entryPass, look, wordPass, answerOf, checkOf}
 use Rattle.checker.specs.Laws.{Checked, Accepts}
 
 -- both of two passes accept
@@ -50,63 +52,65 @@ each-passes f n e w l = at (ltb (first (refuses f) 0 n) n) refl e
     at false t e = not-false (passes (f w)) (first-least (refuses f) 0 n w (omega arith) (omega (arith, ltb-false (first (refuses f) 0 n) n t)))
 
 module _ (t : Routine) where
-  row-formed : (w : ℕ) → passes (rowPass t w) ≡ true → places ≤ formFault (t .policy .regions) (t .policy .sizes) (t .rows) (rowBytes * w)
+  row-formed : (w : ℕ) → passes (rowPass (t .policy) (t .rows) w) ≡ true
+      → places ≤ formFault (t .policy .regions) (t .policy .sizes) (t .rows) (rowBytes * w)
   unfolding rowPass
   row-formed w e = no-fault badRow w (formFault (t .policy .regions) (t .policy .sizes) (t .rows) (rowBytes * w)) refl e
 
-  word-read : (w : ℕ) → passes (readPass t w) ≡ true → isRead t (wordAt t w) ≡ true
-  unfolding readPass
-  word-read w e = need-holds (isRead t (wordAt t w)) unreadWord w 0 refl e
-
-  word-flows : (w : ℕ) → passes (flowPass t w) ≡ true → flowOf t w (wordAt t w) ≡ true
+  pub word-flows : (w : ℕ) → passes (flowPass (t .readings) w) ≡ true → flowOf (t .readings) w (readingAt (t .readings) w) ≡ true
   unfolding flowPass
-  word-flows w e = need-holds (flowOf t w (wordAt t w)) badFlow w 0 refl e
+  word-flows w e = need-holds (flowOf (t .readings) w (readingAt (t .readings) w)) badFlow w 0 refl e
 
-  entry-fits : passes (entryPass t) ≡ true → places ≤ misfit (entryRow t) (rowAt t 0)
+  entry-fits : passes (entryPass (t .rows) (t .entry)) ≡ true → places ≤ misfit (entryRow (t .entry)) (rowAt (t .rows) 0)
   unfolding entryPass
-  entry-fits e = no-fault entryMisfit 0 (misfit (entryRow t) (rowAt t 0)) refl e
+  entry-fits e = no-fault entryMisfit 0 (misfit (entryRow (t .entry)) (rowAt (t .rows) 0)) refl e
 
-  word-passes : (w : ℕ) → passes (wordPass t w) ≡ true → examined t w ≡ true → passes (applied t w (rowAt t w) (edges t w (wordAt t w))) ≡ true
+  word-passes : (w : ℕ) → passes (wordPass (t .policy) (t .readings) (t .rows) (t .result) w) ≡ true → examined (t .readings) w ≡ true
+      → passes (look (t .policy) (t .rows) (t .result) w (readingAt (t .readings) w) (readingAt (t .readings) (w + 1))) ≡ true
   unfolding wordPass
   word-passes w e x = rw x at e
 
+  abbrev shapes : Bool
+  shapes = shapeOk (t .policy) (count t) (t .rows) (t .entry) (t .result)
+
   record Shape : Type 0 where
     some : 1 ≤ count t
-    most : count t ≤ 128
+    most : count t ≤ mostWords
     entry : formFault (t .policy .regions) (t .policy .sizes) (t .entry) 0 ≡ places
     result : entryFormed (t .policy .regions) (t .policy .sizes) (t .result) 0 ≡ true
 
-  shape : shapeOk t ≡ true → Shape
+  shape : shapes ≡ true → Shape
   unfolding shapeOk
   shape e =
       record {
-        some = needed-le (shapeOk t) 1 (count t) e (λ f. simp f);
-        most = needed-le (shapeOk t) (count t) 128 e (λ f. simp (f, and-false));
-        entry = needed-eq (shapeOk t) (formFault (t .policy .regions) (t .policy .sizes) (t .entry) 0) places e (λ f. simp (f, and-false));
-        result = needed (shapeOk t) (entryFormed (t .policy .regions) (t .policy .sizes) (t .result) 0) e (λ f. rw (f, and-false));
+        some = needed-le shapes 1 (count t) e (λ f. simp f);
+        most = needed-le shapes (count t) mostWords e (λ f. simp (f, and-false));
+        entry = needed-eq shapes (formFault (t .policy .regions) (t .policy .sizes) (t .entry) 0) places e (λ f. simp (f, and-false));
+        result = needed shapes (entryFormed (t .policy .regions) (t .policy .sizes) (t .result) 0) e (λ f. rw (f, and-false));
       }
 
   pub checked : passes (answerOf t) ≡ true → Checked t
   unfolding answerOf
   checked e =
-      let a = both-pass (policyPass t) _ e in
-      let b = both-pass (shapePass t) _ (a .1) in
-      let c = both-pass (passOf (rowPass t) (count t)) _ (b .1) in
-      let d = both-pass (passOf (readPass t) (count t)) _ (c .1) in
-      let f = both-pass (passOf (flowPass t) (count t)) _ (d .1) in
-      let g = both-pass (entryPass t) (passOf (wordPass t) (count t)) (f .1) in
-      let s = shape (need-holds (shapeOk t) badShape 0 0 refl (b .0)) in
+      let a = both-pass (policyPass (t .policy)) _ e in
+      let b = both-pass (shapePass (t .policy) (count t) (t .rows) (t .entry) (t .result)) _ (a .1) in
+      let c = both-pass (passOf (rowPass (t .policy) (t .rows)) (count t)) _ (b .1) in
+      let d = both-pass (passOf (readPass (t .readings)) (count t)) _ (c .1) in
+      let f = both-pass (passOf (flowPass (t .readings)) (count t)) _ (d .1) in
+      let words = wordPass (t .policy) (t .readings) (t .rows) (t .result) in
+      let g = both-pass (entryPass (t .rows) (t .entry)) (passOf words (count t)) (f .1) in
+      let s = shape (need-holds shapes badShape 0 0 refl (b .0)) in
       record {
         policy = need-holds (policyOk (t .policy)) badPolicy 0 0 refl (a .0);
         some = s .some;
         most = s .most;
         entry-formed = omega (arith, s .entry);
         result-formed = s .result;
-        rows-formed = λ w l. row-formed w (each-passes (rowPass t) (count t) (c .0) w l);
-        reads = λ w l. word-read w (each-passes (readPass t) (count t) (d .0) w l);
-        flows = λ w l. word-flows w (each-passes (flowPass t) (count t) (f .0) w l);
+        rows-formed = λ w l. row-formed w (each-passes (rowPass (t .policy) (t .rows)) (count t) (c .0) w l);
+        reads = each-passes (readPass (t .readings)) (count t) (d .0);
+        flows = λ w l. word-flows w (each-passes (flowPass (t .readings)) (count t) (f .0) w l);
         entry = entry-fits (g .0);
-        words = λ w l x. word-passes w (each-passes (wordPass t) (count t) (g .1) w l) x;
+        words = λ w l x. word-passes w (each-passes words (count t) (g .1) w l) x;
       }
 
 pub accepts : Accepts

@@ -1,6 +1,6 @@
 pub mod Accepted
 pub mod Looked
+pub mod Inside
 pub mod Parts
-pub mod Landing
 pub mod Passing
 pub mod Stages

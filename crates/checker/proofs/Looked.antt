@@ -2,12 +2,22 @@
 use Prim.Native.Nat.{ℕ, _+_}
 use mathlib.Core.Path.{_≡_, refl, sym, ap, _∙_, subst}
 use mathlib.Core.Bool.{Bool, true, false, not, cond, _&&_, _||_}
+use mathlib.Core.List.{List}
 use lib.Dec.{ltb}
+use lib.ListN.{length}
 use borrow.Author.Tests.{ltb-true}
+use Rattle.v8.specs.Numbers.{edgeMisfit, resultMisfit}
+use Rattle.v8.specs.declared.Instruction.{Instruction}
 use Rattle.v8.specs.declared.Reading.{Reading}
 use Rattle.v8.specs.declared.Reading.the-variants.{Read, Unread}
-use Rattle.alu.specs.Condition.{conditionOf}
-use Rattle.step.specs.Transfer.{slotRuns, targetOf, landing}
+use Rattle.v8.specs.Laws.{ReadingSound}
+use Rattle.flow.specs.declared.Destination.{Destination}
+use Rattle.flow.specs.declared.Destination.the-variants.{To, Caller}
+use Rattle.flow.specs.declared.Edge.{Edge}
+use Rattle.flow.specs.Transfer.{isTransfer}
+use Rattle.flow.specs.Edge.{edgeOf}
+use Rattle.flow.specs.Readings.{examined}
+use Rattle.policy.specs.declared.Policy.{Policy}
 use Rattle.rows.specs.declared.Row.{Row}
 use Rattle.rows.specs.Entry.{fits}
 use Rattle.rows.specs.Row.{entryAt, rowWith, misfit}
@@ -18,80 +28,99 @@ use Rattle.rules.specs.Narrow.{RowLeft, left, narrowRow}
 use Rattle.rules.proofs.Numbered.{Numbered, change-numbered}
 use Rattle.checker.specs.declared.Answer.{Answer}
 use Rattle.checker.specs.Answer.{accepted, passes}
-use Rattle.checker.specs.Routine.{Routine, count, wordAt, rowAt, resultEntry, examined, hasTaken, hasOther}
-use Rattle.checker.specs.Passes.{landsAt, transferFlow, to, made, changeBy, edgeOf, ifLeft, branchEdge, branchEdges, oppositeOf, edgeMisfit, resultMisfit, resultRegister}
-use Rattle.checker.specs.Laws.{BranchFlows, After, WordMakes, BranchLooks, SlotApplied, SlotSkipped, ArrivesAt, ArrivesOut}
+use Rattle.checker.specs.Routine.{rowAt, resultEntry}
+use Rattle.checker.specs.Passes.{inCode, offSlots, takenFlow, otherFlow, transferFlow, edgeFlow, made, changeBy, cross, ifLeft, narrowedEdge, edgePass, resultRegister}
+use Rattle.checker.specs.Laws.{InCode, InstructionFlows, After, WordMakes, EdgesLooked, SlotApplied, SlotSkipped, Arrives}
 use Rattle.checker.proofs.Accepted.{both-pass, need-holds, no-fault}
 
-pub branch-flows : BranchFlows
-branch-flows t w cnd distance e =
-    let p = and-went (transferFlow t w && (not (hasOther cnd) || ltb (w + 2) (count t))) (not (hasTaken cnd) || landsAt t (targetOf w distance)) e in
-    let q = and-went (transferFlow t w) (not (hasOther cnd) || ltb (w + 2) (count t)) (p .0) in
+-- a test that is asked only where another passes
+asked : (a b : Bool) → not a || b ≡ true → a ≡ true → b ≡ true
+asked true b e t = e
+asked false b e t = false-true t
+
+module _ (readings : List Reading) where
+  in-code : (d : Destination) → inCode readings d ≡ true → InCode readings d
+  in-code (To w) e = ltb-true (w .0) (length readings) e
+  in-code Caller e = tt
+
+  taken-lands : (e : Edge) → takenFlow readings e ≡ true → e .exists ≡ true → InCode readings (e .to) × (offSlots readings (e .to) ≡ true)
+  taken-lands e f t =
+      let p = and-went (inCode readings (e .to)) (offSlots readings (e .to)) (asked (e .exists) (inCode readings (e .to) && offSlots readings (e .to)) f t) in
+      (in-code (e .to) (p .0), p .1)
+
+  other-lands : (e : Edge) → otherFlow readings e ≡ true → e .exists ≡ true → InCode readings (e .to)
+  other-lands e f t = in-code (e .to) (asked (e .exists) (inCode readings (e .to)) f t)
+
+pub instruction-flows : InstructionFlows
+instruction-flows readings w x e =
     record {
-      slot = ltb-true (w + 1) (count t) (and-went (ltb (w + 1) (count t)) (examined t w) (q .0) .0);
-      other = λ o. or-went (not (hasOther cnd)) (ltb (w + 2) (count t)) (q .1) (λ n. false-true (sym (ap not o) ∙ n)) (ltb-true (w + 2) (count t));
-      inside = λ o. ltb-true (targetOf w distance) (count t) (lands (p .1) o .0);
-      free = λ o. lands (p .1) o .1;
+      slot = λ t. ltb-true (w + 1) (length readings) (own t .0);
+      free = λ t. own t .1;
+      ends = at;
+      lands = λ f t. taken-lands readings (edgeOf w x true) (both f .0) t .1;
     }
   where
-    lands : not (hasTaken cnd) || landsAt t (targetOf w distance) ≡ true → hasTaken cnd ≡ true
-        → (ltb (targetOf w distance) (count t) ≡ true) × (examined t (targetOf w distance) ≡ true)
-    lands e o =
-        or-went (not (hasTaken cnd)) (landsAt t (targetOf w distance)) e (λ n. false-true (sym (ap not o) ∙ n))
-        (and-went (ltb (targetOf w distance) (count t)) (examined t (targetOf w distance)))
+    parts : (not (isTransfer x) || transferFlow readings w ≡ true) × (not (examined readings w) || edgeFlow readings w x ≡ true)
+    parts = and-went (not (isTransfer x) || transferFlow readings w) (not (examined readings w) || edgeFlow readings w x) e
+
+    own : isTransfer x ≡ true → (ltb (w + 1) (length readings) ≡ true) × (examined readings w ≡ true)
+    own t = and-went (ltb (w + 1) (length readings)) (examined readings w) (asked (isTransfer x) (transferFlow readings w) (parts .0) t)
+
+    both : examined readings w ≡ true → (takenFlow readings (edgeOf w x true) ≡ true) × (otherFlow readings (edgeOf w x false) ≡ true)
+    both f = and-went (takenFlow readings (edgeOf w x true)) (otherFlow readings (edgeOf w x false)) (asked (examined readings w) (edgeFlow readings w x) (parts .1) f)
+
+    at : examined readings w ≡ true → (taken : Bool) → edgeOf w x taken .exists ≡ true → InCode readings (edgeOf w x taken .to)
+    at f true t = taken-lands readings (edgeOf w x true) (both f .0) t .0
+    at f false t = other-lands readings (edgeOf w x false) (both f .1) t
 
 -- what breaks a condition has a number
-numbered-by : (t : Routine) (row : Row) (x : Reading) → Numbered (changeBy t row x)
-numbered-by t row (Read x) = change-numbered (t .policy) row x
-numbered-by t row Unread = refl
+numbered-by : (p : Policy) (row : Row) (x : Reading) → ReadingSound x → Numbered (changeBy p row x)
+numbered-by p row (Read x) s = change-numbered p row x
+numbered-by p row (Unread n) s = s
 
 record Passed (row : Row) (rest : Row → Answer) (ch : Change) : Type 0 where
   after : Row
   change : After row ch after
   passed : passes (rest after) ≡ true
 
-made-passes : (t : Routine) (w : ℕ) (row : Row) (rest : Row → Answer) (ch : Change) → Numbered ch → passes (made t w row rest ch) ≡ true → Passed row rest ch
-made-passes t w row rest (Writes r e n) k q = record { after = rowWith row r e n; change = refl; passed = q }
-made-passes t w row rest Keeps k q = record { after = row; change = refl; passed = q }
-made-passes t w row rest (Breaks n r) k q = false-true (sym k ∙ q)
+made-passes : (w : ℕ) (row : Row) (rest : Row → Answer) (ch : Change) → Numbered ch → passes (made w row rest ch) ≡ true → Passed row rest ch
+made-passes w row rest (Writes r e n) k q = record { after = rowWith row r e n; change = refl; passed = q }
+made-passes w row rest Keeps k q = record { after = row; change = refl; passed = q }
+made-passes w row rest (Breaks n r) k q = false-true (sym k ∙ q)
 
 pub word-makes : WordMakes
-word-makes t w row rest e =
-    let m = made-passes t w row rest (changeBy t row (wordAt t w)) (numbered-by t row (wordAt t w)) e in
+word-makes p w x row rest s e =
+    let m = made-passes w row rest (changeBy p row x) (numbered-by p row x s) e in
     record { after = m .after; change = m .change; passed = m .passed }
 
--- the edge taken, or the other
-edge-looks : (t : Routine) (w : ℕ) (annul : Bool) (cnd distance : ℕ) (row : Row) (taken : Bool) → passes (branchEdge t w annul cnd distance taken row) ≡ true
-    → (narrowed : Row) → narrowRow (conditionOf (cond taken cnd (oppositeOf cnd)) .narrowing) row ≡ left narrowed
-    → passes (edgeOf t w (slotRuns annul cnd taken) (to (landing w distance taken)) narrowed) ≡ true
-unfolding branchEdge
-edge-looks t w annul cnd distance row taken e narrowed q =
-    subst (λ (n : RowLeft). passes (ifLeft t (edgeOf t w (slotRuns annul cnd taken) (to (landing w distance taken))) n) ≡ true) q e
+module _ (p : Policy) (rows result : List ℕ) where
+  -- an edge that there is, and that narrowing leaves a row of
+  edge-looked : (w : ℕ) (slot : Reading) (e : Edge) (row : Row) → passes (edgePass p rows result w slot e row) ≡ true → e .exists ≡ true
+      → (narrowed : Row) → narrowRow (e .narrowing) row ≡ left narrowed → passes (cross p rows result w slot e narrowed) ≡ true
+  unfolding narrowedEdge
+  edge-looked w slot e row q t narrowed n =
+      subst (λ (x : RowLeft). passes (ifLeft (cross p rows result w slot e) x) ≡ true) n
+      (subst (λ (b : Bool). passes (cond b (narrowedEdge p rows result w slot e row) accepted) ≡ true) t q)
 
-pub branch-looks : BranchLooks
-unfolding branchEdges
-branch-looks t w annul cnd distance row e =
-    let b = both-pass (cond (hasTaken cnd) (branchEdge t w annul cnd distance true row) accepted) (cond (hasOther cnd) (branchEdge t w annul cnd distance false row) accepted) e in
-    at (b .0) (b .1)
+pub edges-looked : EdgesLooked
+edges-looked p rows result w x slot row e taken =
+    let b = both-pass (edgePass p rows result w slot (edgeOf w x true) row) (edgePass p rows result w slot (edgeOf w x false) row) e in
+    at taken (b .0) (b .1)
   where
-    at : passes (cond (hasTaken cnd) (branchEdge t w annul cnd distance true row) accepted) ≡ true
-        → passes (cond (hasOther cnd) (branchEdge t w annul cnd distance false row) accepted) ≡ true
-        → (taken : Bool) → cond taken (hasTaken cnd) (hasOther cnd) ≡ true
-        → (narrowed : Row) → narrowRow (conditionOf (cond taken cnd (oppositeOf cnd)) .narrowing) row ≡ left narrowed
-        → passes (edgeOf t w (slotRuns annul cnd taken) (to (landing w distance taken)) narrowed) ≡ true
-    at p q true o = edge-looks t w annul cnd distance row true (rw o at p)
-    at p q false o = edge-looks t w annul cnd distance row false (rw o at q)
+    at : (taken : Bool) → passes (edgePass p rows result w slot (edgeOf w x true) row) ≡ true → passes (edgePass p rows result w slot (edgeOf w x false) row) ≡ true
+        → edgeOf w x taken .exists ≡ true → (narrowed : Row) → narrowRow (edgeOf w x taken .narrowing) row ≡ left narrowed
+        → passes (cross p rows result w slot (edgeOf w x taken) narrowed) ≡ true
+    at true q r = edge-looked p rows result w slot (edgeOf w x true) row q
+    at false q r = edge-looked p rows result w slot (edgeOf w x false) row r
 
 pub slot-applied : SlotApplied
-unfolding edgeOf
-slot-applied t w d row e = e
+unfolding cross
+slot-applied p rows result w slot e row q t = rw t at q
 
 pub slot-skipped : SlotSkipped
-unfolding edgeOf
-slot-skipped t w d row e = e
+unfolding cross
+slot-skipped p rows result w slot e row q t = rw t at q
 
-pub arrives-at : ArrivesAt
-arrives-at t w i row e = no-fault edgeMisfit w (misfit row (rowAt t i)) refl e
-
-pub arrives-out : ArrivesOut
-arrives-out t w row e = need-holds (fits (entryAt row resultRegister) (resultEntry t)) resultMisfit w resultRegister refl e
+pub arrives : Arrives
+arrives rows result w (To i) row e = no-fault edgeMisfit w (misfit row (rowAt rows (i .0))) refl e
+arrives rows result w Caller row e = need-holds (fits (entryAt row resultRegister) (resultEntry result)) resultMisfit w resultRegister refl e

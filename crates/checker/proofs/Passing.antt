@@ -1,15 +1,29 @@
 -- A pass over the words, from a word on: what a loop cites.
 use Prim.Native.Nat.{ℕ, _+_, _*_, _≤_, _<_}
 use mathlib.Core.Path.{_≡_, refl, sym, ap, _∙_}
-use mathlib.Core.Bool.{cond, not}
+use mathlib.Core.Bool.{Bool, true, false, cond, not}
+use mathlib.Core.List.{List}
+use native.Mathlib.Omega.{arith}
 use lib.Dec.{ltb}
+use lib.ListN.{length, getD}
 use borrow.Author.Tests.{lt-ltb, le-ltb, eq-eqb, ne-eqb}
+use Rattle.v8.specs.Numbers.{badRow, badFlow, mostWords}
+use Rattle.v8.specs.declared.Operation.the-variants.{Sethi}
+use Rattle.v8.specs.declared.Instruction.the-variants.{Plain}
+use Rattle.v8.specs.declared.Reading.{Reading}
+use Rattle.v8.specs.declared.Reading.the-variants.{Read}
+use Rattle.flow.specs.Readings.{readingsOf, readingAt, Reads, Examines}
+use Rattle.flow.proofs.Fetched.{array-has}
 use Rattle.v8.specs.Search.{first, first-here, first-next, first-end}
+use Rattle.policy.specs.declared.Policy.{Policy}
 use Rattle.rows.specs.Row.{formFault, places}
 use Rattle.checker.specs.declared.Answer.{Answer}
-use Rattle.checker.specs.Answer.{accepted, refuse, passes, refuses, passOf}
-use Rattle.checker.specs.Routine.{Routine, rowBytes}
-use Rattle.checker.specs.Passes.{badRow, rowPass}
+use Rattle.checker.specs.Answer.{accepted, refuse, need, passes, refuses, passOf}
+use Rattle.checker.specs.Routine.{rowBytes}
+use Rattle.checker.specs.Passes.{rowPass, ifRead, readPass, flowOf, flowPass, look, wordPass}
+use Rattle.checker.specs.Lent.{ReadingIn}
+use Rattle.checker.proofs.Accepted.{each-passes}
+use Rattle.checker.proofs.Inside.{word-in}
 
 -- the answer at the first word from w on, below n, that does not accept
 unfoldable pub passFrom : (ℕ → Answer) → ℕ → ℕ → Answer
@@ -38,15 +52,41 @@ module _ (f : ℕ → Answer) where
   unfolding passFrom
   pass-end w n l = rw (first-end (refuses f) w n l, le-ltb w n l)
 
-module _ (t : Routine) (w : ℕ) where
+module _ (p : Policy) (rows : List ℕ) (w : ℕ) where
   -- the lowest badly formed place of a row is named
-  pub row-broken : (place : ℕ) → formFault (t .policy .regions) (t .policy .sizes) (t .rows) (rowBytes * w) ≡ place → place < places
-      → refuse badRow w place ≡ rowPass t w
+  pub row-broken : (place : ℕ) → formFault (p .regions) (p .sizes) rows (rowBytes * w) ≡ place → place < places → refuse badRow w place ≡ rowPass p rows w
   unfolding rowPass
   row-broken place e l = rw (e, lt-ltb place places l)
 
   -- a well-formed row passes
-  pub row-formed : (place : ℕ) → formFault (t .policy .regions) (t .policy .sizes) (t .rows) (rowBytes * w) ≡ place → places ≤ place
-      → accepted ≡ rowPass t w
+  pub row-formed : (place : ℕ) → formFault (p .regions) (p .sizes) rows (rowBytes * w) ≡ place → places ≤ place → accepted ≡ rowPass p rows w
   unfolding rowPass
   row-formed place e l = rw (e, le-ltb place places l)
+
+-- What a loop finds at a word, with what the array has there, is what the pass answers.
+module _ (words : List ℕ) (readings : List Reading) (i : ℕ) (reads : Reads readings words) (l : i < length words) (most : length words ≤ mostWords) where
+  -- a reading as the array has it
+  abbrev pub taken-out : Reading
+  taken-out = getD readings i (Read (Plain (Sethi 0 0)))
+
+  here : taken-out ≡ readingAt (readingsOf words) i
+  here = array-has words readings i (Read (Plain (Sethi 0 0))) reads (omega arith)
+
+  pub read-here : (a : Answer) → a ≡ ifRead i taken-out → a ≡ readPass (readingsOf words) i
+  unfolding readPass
+  read-here a e = e ∙ ap (ifRead i) here
+
+  pub flow-here : (a : Answer) → a ≡ need (flowOf (readingsOf words) i taken-out) badFlow i 0 → a ≡ flowPass (readingsOf words) i
+  unfolding flowPass
+  flow-here a e = e ∙ ap (λ (x : Reading). need (flowOf (readingsOf words) i x) badFlow i 0) here
+
+  pub word-here : (p : Policy) (rows result : List ℕ) (marks : List Bool) (slot : Reading) (a : Answer) → Examines marks words
+      → slot ≡ readingAt (readingsOf words) (i + 1) → a ≡ cond (getD marks i false) (look p rows result i taken-out slot) accepted
+      → a ≡ wordPass p (readingsOf words) rows result i
+  unfolding wordPass
+  word-here p rows result marks slot a x q e = e ∙ rw (x i l, here, q)
+
+  -- an examined word's edges end at rows that there are
+  pub rows-here : (n : ℕ) → rowBytes * length words ≡ n → (marks : List Bool) → Examines marks words
+      → passes (passOf (flowPass (readingsOf words)) (length words)) ≡ true → getD marks i false ≡ true → ReadingIn i taken-out n
+  rows-here n long marks x f t = word-in words n long i taken-out here (each-passes (flowPass (readingsOf words)) (length words) f i l) (sym (x i l) ∙ t)

@@ -1,17 +1,17 @@
 -- The check, pass by pass: what is left of it after each, and what the second pass tells of the lengths.
-use Prim.Native.Nat.{_*_, _≤_}
-use mathlib.Core.Path.{_≡_}
-use mathlib.Core.Bool.{true, false, and-false}
-use native.Mathlib.Omega.{arith}
-use lib.ListN.{length, length-map}
+use Prim.Native.Nat.{ℕ, _*_, _≤_}
+use mathlib.Core.Path.{_≡_, ap, _∙_}
+use mathlib.Core.Bool.{Bool, true, false, and-false}
+use lib.ListN.{length}
 use borrow.Author.Tests.{eq-eqb, ne-eqb}
-use Rattle.v8.specs.Read.{readingOf}
+use Rattle.v8.specs.Numbers.{badPolicy, badShape, mostWords}
+use Rattle.flow.proofs.Fetched.{read-count}
 use Rattle.v8.specs.Search.{needed-le, needed-eq}
 use Rattle.policy.specs.Policy.{policyOk}
 use Rattle.checker.specs.declared.Answer.{Answer}
 use Rattle.checker.specs.Answer.{refuse, andThen, passOf}
 use Rattle.checker.specs.Routine.{count, rowBytes, entryBytes}
-use Rattle.checker.specs.Passes.{badPolicy, badShape, shapeOk, rowPass, readPass, flowPass, entryPass, wordPass, answerOf, checkOf}
+use Rattle.checker.specs.Passes.{shapeOk, rowPass, readPass, flowPass, entryPass, wordPass, answerOf, checkOf}
 use Rattle.checker.proofs.Parts.{Given, whole}
 
 -- a pass that accepts, and one that does not, with what follows it
@@ -24,7 +24,7 @@ stops a x y e h = rw (← e, ne-eqb (a .number) 0 h)
 -- what a right shape tells of the lengths
 pub record Shaped (g : Given) : Type 0 where
   pub some : 1 ≤ length (g .words)
-  pub most : length (g .words) ≤ 128
+  pub most : length (g .words) ≤ mostWords
   pub rows : length (g .rows) ≡ rowBytes * length (g .words)
   pub entry : length (g .entry) ≡ rowBytes
   pub result : length (g .result) ≡ entryBytes
@@ -35,40 +35,47 @@ module _ (g : Given) where
   answer = checkOf (g .policy) (g .words) (g .rows) (g .entry) (g .result)
 
   abbrev pub fromWords : Answer
-  fromWords = passOf (wordPass (whole g)) (count (whole g))
+  fromWords = passOf (wordPass (g .policy) (whole g .readings) (g .rows) (g .result)) (count (whole g))
 
   abbrev pub fromEntry : Answer
-  fromEntry = andThen (entryPass (whole g)) fromWords
+  fromEntry = andThen (entryPass (g .rows) (g .entry)) fromWords
 
   abbrev pub fromFlow : Answer
-  fromFlow = andThen (passOf (flowPass (whole g)) (count (whole g))) fromEntry
+  fromFlow = andThen (passOf (flowPass (whole g .readings)) (count (whole g))) fromEntry
 
   abbrev pub fromReads : Answer
-  fromReads = andThen (passOf (readPass (whole g)) (count (whole g))) fromFlow
+  fromReads = andThen (passOf (readPass (whole g .readings)) (count (whole g))) fromFlow
 
   abbrev pub fromRows : Answer
-  fromRows = andThen (passOf (rowPass (whole g)) (count (whole g))) fromReads
+  fromRows = andThen (passOf (rowPass (g .policy) (g .rows)) (count (whole g))) fromReads
 
   pub bad-policy : policyOk (g .policy) ≡ false → answer ≡ refuse badPolicy 0 0
   unfolding checkOf answerOf
   bad-policy e = rw e
 
-  pub bad-shape : policyOk (g .policy) ≡ true → shapeOk (whole g) ≡ false → answer ≡ refuse badShape 0 0
-  unfolding checkOf answerOf
-  bad-shape e s = rw (e, s)
+  abbrev pub shapes : ℕ → Bool
+  shapes n = shapeOk (g .policy) n (g .rows) (g .entry) (g .result)
 
-  pub from-rows : policyOk (g .policy) ≡ true → shapeOk (whole g) ≡ true → answer ≡ fromRows
-  unfolding checkOf answerOf
-  from-rows e s = rw (e, s)
+  -- the shape that the code tests is that of the definition, there being as many words as are read
+  as-read : {t : Bool} → shapes (length (g .words)) ≡ t → shapes (count (whole g)) ≡ t
+  as-read s = ap shapes (read-count (g .words)) ∙ s
 
-  pub shaped : shapeOk (whole g) ≡ true → Shaped g
+  pub bad-shape : policyOk (g .policy) ≡ true → shapes (length (g .words)) ≡ false → answer ≡ refuse badShape 0 0
+  unfolding checkOf answerOf
+  bad-shape e s = rw (e, as-read s)
+
+  pub from-rows : policyOk (g .policy) ≡ true → shapes (length (g .words)) ≡ true → answer ≡ fromRows
+  unfolding checkOf answerOf
+  from-rows e s = rw (e, as-read s)
+
+  pub shaped : shapes (length (g .words)) ≡ true → Shaped g
   unfolding shapeOk
   shaped e =
-      let same = length-map (g .words) readingOf in
+      let t = shapes (length (g .words)) in
       record {
-        some = omega (arith, same, needed-le (shapeOk (whole g)) 1 (count (whole g)) e (λ f. simp f));
-        most = omega (arith, same, needed-le (shapeOk (whole g)) (count (whole g)) 128 e (λ f. simp (f, and-false)));
-        rows = omega (arith, same, needed-eq (shapeOk (whole g)) (length (g .rows)) (rowBytes * count (whole g)) e (λ f. simp (f, and-false)));
-        entry = needed-eq (shapeOk (whole g)) (length (g .entry)) rowBytes e (λ f. simp (f, and-false));
-        result = needed-eq (shapeOk (whole g)) (length (g .result)) entryBytes e (λ f. simp (f, and-false));
+        some = needed-le t 1 (length (g .words)) e (λ f. simp f);
+        most = needed-le t (length (g .words)) mostWords e (λ f. simp (f, and-false));
+        rows = needed-eq t (length (g .rows)) (rowBytes * length (g .words)) e (λ f. simp (f, and-false));
+        entry = needed-eq t (length (g .entry)) rowBytes e (λ f. simp (f, and-false));
+        result = needed-eq t (length (g .result)) entryBytes e (λ f. simp (f, and-false));
       }

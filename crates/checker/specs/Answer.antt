@@ -3,12 +3,13 @@
 use Prim.Native.Nat.{ℕ}
 use mathlib.Core.Bool.{Bool, cond, not}
 use lib.Dec.{ltb, eqb}
+use Rattle.v8.specs.Numbers.{acceptance}
 use Rattle.v8.specs.Search.{first}
 use Rattle.checker.specs.declared.Answer.{Answer}
 
 -- "acceptance is 0 0 0"
 abbrev pub accepted : Answer
-accepted = record { number = 0; word = record { 0 = 0 }; register = 0 }
+accepted = record { number = acceptance; word = record { 0 = 0 }; register = 0 }
 
 -- the number of a broken condition, the word and the register that it names
 abbrev pub refuse : ℕ → ℕ → ℕ → Answer
@@ -16,7 +17,7 @@ refuse number word register = record { number = number; word = record { 0 = word
 
 -- an answer accepts
 abbrev pub passes : Answer → Bool
-passes a = eqb (a .number) 0
+passes a = eqb (a .number) acceptance
 
 -- one pass, and the next where it accepts
 abbrev pub andThen : Answer → Answer → Answer

@@ -2,12 +2,22 @@
 -- use these and not the definition of the check. The proofs are in proofs/.
 use Prim.Native.Nat.{ℕ, _+_, _*_, _≤_, _<_}
 use mathlib.Core.Path.{_≡_}
-use mathlib.Core.Bool.{Bool, true, false, cond}
+use mathlib.Core.Bool.{Bool, true, false}
 use mathlib.Core.List.{List}
+use lib.ListN.{length}
+use Rattle.v8.specs.Numbers.{mostWords}
+use Rattle.v8.specs.declared.Instruction.{Instruction}
+use Rattle.v8.specs.declared.Reading.{Reading}
+use Rattle.v8.specs.declared.Reading.the-variants.{Read}
+use Rattle.v8.specs.Laws.{ReadingSound}
+use Rattle.flow.specs.declared.Destination.{Destination}
+use Rattle.flow.specs.declared.Destination.the-variants.{To, Caller}
+use Rattle.flow.specs.declared.Edge.{Edge}
+use Rattle.flow.specs.Transfer.{isTransfer}
+use Rattle.flow.specs.Edge.{edgeOf}
+use Rattle.flow.specs.Readings.{readingAt, examined}
 use Rattle.policy.specs.declared.Policy.{Policy}
 use Rattle.policy.specs.Policy.{policyOk}
-use Rattle.alu.specs.Condition.{conditionOf}
-use Rattle.step.specs.Transfer.{slotRuns, targetOf, landing}
 use Rattle.rows.specs.declared.Row.{Row}
 use Rattle.rows.specs.Entry.{fits}
 use Rattle.rows.specs.Row.{entryAt, rowWith, entryFormed, formFault, misfit, places}
@@ -16,43 +26,49 @@ use Rattle.rules.specs.declared.Change.the-variants.{Writes, Keeps, Breaks}
 use Rattle.rules.specs.Narrow.{left, narrowRow}
 use Rattle.checker.specs.declared.Answer.{Answer}
 use Rattle.checker.specs.Answer.{accepted, passes}
-use Rattle.checker.specs.Routine.{Routine, routineOf, count, wordAt, rowAt, entryRow, resultEntry, examined, hasTaken, hasOther, rowBytes}
-use Rattle.checker.specs.Passes.{isRead, branchFlow, flowOf, Destination, to, caller, arrive, changeBy, applied, edgeOf, branchEdges, edges, oppositeOf, resultRegister, checkOf}
+use Rattle.checker.specs.Routine.{Routine, routineOf, count, rowAt, entryRow, resultEntry, rowBytes}
+use Rattle.checker.specs.Passes.{readPass, offSlots, flowOf, arrive, changeBy, applied, cross, edges, look, resultRegister, checkOf}
 
 pub record Checked (t : Routine) : Type 0 where
   -- 20
   pub policy : policyOk (t .policy) ≡ true
   -- 21
   pub some : 1 ≤ count t
-  pub most : count t ≤ 128
+  pub most : count t ≤ mostWords
   pub entry-formed : places ≤ formFault (t .policy .regions) (t .policy .sizes) (t .entry) 0
   pub result-formed : entryFormed (t .policy .regions) (t .policy .sizes) (t .result) 0 ≡ true
   -- 1
   pub rows-formed : (w : ℕ) → w < count t → places ≤ formFault (t .policy .regions) (t .policy .sizes) (t .rows) (rowBytes * w)
   -- 2
-  pub reads : (w : ℕ) → w < count t → isRead t (wordAt t w) ≡ true
+  pub reads : (w : ℕ) → w < count t → passes (readPass (t .readings) w) ≡ true
   -- 3
-  pub flows : (w : ℕ) → w < count t → flowOf t w (wordAt t w) ≡ true
+  pub flows : (w : ℕ) → w < count t → flowOf (t .readings) w (readingAt (t .readings) w) ≡ true
   -- 15
-  pub entry : places ≤ misfit (entryRow t) (rowAt t 0)
+  pub entry : places ≤ misfit (entryRow (t .entry)) (rowAt (t .rows) 0)
   -- each word outside slots
-  pub words : (w : ℕ) → w < count t → examined t w ≡ true → passes (applied t w (rowAt t w) (edges t w (wordAt t w))) ≡ true
+  pub words : (w : ℕ) → w < count t → examined (t .readings) w ≡ true
+      → passes (look (t .policy) (t .rows) (t .result) w (readingAt (t .readings) w) (readingAt (t .readings) (w + 1))) ≡ true
 
 -- An accepted check has passed every pass.
 abbrev pub Accepts : Type 0
 Accepts = (p : Policy) (words rows entry result : List ℕ) → checkOf p words rows entry result ≡ accepted → Checked (routineOf p words rows entry result)
 
--- where a branch's edges go: its slot is in the code, the word two on where the branch may not be taken, and its target, which is no slot, where
--- it may be
-pub record Flows (t : Routine) (w cnd distance : ℕ) : Type 0 where
-  pub slot : w + 1 < count t
-  pub other : hasOther cnd ≡ true → w + 2 < count t
-  pub inside : hasTaken cnd ≡ true → targetOf w distance < count t
-  pub free : hasTaken cnd ≡ true → examined t (targetOf w distance) ≡ true
+-- an edge ends at a word of the code, or at the caller
+abbrev pub InCode : List Reading → Destination → Type 0
+InCode readings (To w) = w .0 < length readings
+InCode readings Caller = Unit {0}
 
--- A branch that passed 3 flows so.
-abbrev pub BranchFlows : Type 0
-BranchFlows = (t : Routine) (w cnd distance : ℕ) → branchFlow t w cnd distance ≡ true → Flows t w cnd distance
+-- where an instruction goes: a transfer's slot is in the code and it stands in none; outside slots each edge ends in the code, the taken one at
+-- no slot
+pub record Flows (readings : List Reading) (w : ℕ) (x : Instruction) : Type 0 where
+  pub slot : isTransfer x ≡ true → w + 1 < length readings
+  pub free : isTransfer x ≡ true → examined readings w ≡ true
+  pub ends : examined readings w ≡ true → (taken : Bool) → edgeOf w x taken .exists ≡ true → InCode readings (edgeOf w x taken .to)
+  pub lands : examined readings w ≡ true → edgeOf w x true .exists ≡ true → offSlots readings (edgeOf w x true .to) ≡ true
+
+-- An instruction that passed 3 flows so.
+abbrev pub InstructionFlows : Type 0
+InstructionFlows = (readings : List Reading) (w : ℕ) (x : Instruction) → flowOf readings w (Read x) ≡ true → Flows readings w x
 
 -- a row after a change
 abbrev pub After : Row → Change → Row → Type 0
@@ -61,34 +77,38 @@ After row Keeps after = after ≡ row
 After row (Breaks number r) after = ⊥
 
 -- a word that was applied to a row made another, of which the rest passed
-pub record Made (t : Routine) (row : Row) (w : ℕ) (rest : Row → Answer) : Type 0 where
+pub record Made (p : Policy) (row : Row) (x : Reading) (rest : Row → Answer) : Type 0 where
   pub after : Row
-  pub change : After row (changeBy t row (wordAt t w)) after
+  pub change : After row (changeBy p row x) after
   pub passed : passes (rest after) ≡ true
 
 abbrev pub WordMakes : Type 0
-WordMakes = (t : Routine) (w : ℕ) (row : Row) (rest : Row → Answer) → passes (applied t w row rest) ≡ true → Made t row w rest
+WordMakes =
+    (p : Policy) (w : ℕ) (x : Reading) (row : Row) (rest : Row → Answer) → ReadingSound x → passes (applied p w x row rest) ≡ true → Made p row x rest
 
--- Each edge that a branch can take was looked at: narrowed by the condition that then holds, and then its slot applied if it runs.
-abbrev pub BranchLooks : Type 0
-BranchLooks =
-    (t : Routine) (w : ℕ) (annul : Bool) (cnd distance : ℕ) (row : Row) → passes (branchEdges t w annul cnd distance row) ≡ true
-    → (taken : Bool) → cond taken (hasTaken cnd) (hasOther cnd) ≡ true
-    → (narrowed : Row) → narrowRow (conditionOf (cond taken cnd (oppositeOf cnd)) .narrowing) row ≡ left narrowed
-    → passes (edgeOf t w (slotRuns annul cnd taken) (to (landing w distance taken)) narrowed) ≡ true
+-- Each edge that there is was looked at, from the row that its class narrows to.
+abbrev pub EdgesLooked : Type 0
+EdgesLooked =
+    (p : Policy) (rows result : List ℕ) (w : ℕ) (x : Instruction) (slot : Reading) (row : Row) → passes (edges p rows result w (Read x) slot row) ≡ true
+    → (taken : Bool) → edgeOf w x taken .exists ≡ true
+    → (narrowed : Row) → narrowRow (edgeOf w x taken .narrowing) row ≡ left narrowed
+    → passes (cross p rows result w slot (edgeOf w x taken) narrowed) ≡ true
 
 -- An edge whose slot runs applied it; one whose slot does not run arrives as it is.
 abbrev pub SlotApplied : Type 0
 SlotApplied =
-    (t : Routine) (w : ℕ) (d : Destination) (row : Row) → passes (edgeOf t w true d row) ≡ true → passes (applied t (w + 1) row (arrive t w d)) ≡ true
+    (p : Policy) (rows result : List ℕ) (w : ℕ) (slot : Reading) (e : Edge) (row : Row) → passes (cross p rows result w slot e row) ≡ true
+    → e .slot ≡ true → passes (applied p (w + 1) slot row (arrive rows result w (e .to))) ≡ true
 
 abbrev pub SlotSkipped : Type 0
-SlotSkipped = (t : Routine) (w : ℕ) (d : Destination) (row : Row) → passes (edgeOf t w false d row) ≡ true → passes (arrive t w d row) ≡ true
+SlotSkipped =
+    (p : Policy) (rows result : List ℕ) (w : ℕ) (slot : Reading) (e : Edge) (row : Row) → passes (cross p rows result w slot e row) ≡ true
+    → e .slot ≡ false → passes (arrive rows result w (e .to) row) ≡ true
 
 -- A row that arrived at a word fits that word's row; at the caller its r8 fits the result entry.
-abbrev pub ArrivesAt : Type 0
-ArrivesAt = (t : Routine) (w i : ℕ) (row : Row) → passes (arrive t w (to i) row) ≡ true → places ≤ misfit row (rowAt t i)
+abbrev pub FitsThere : List ℕ → List ℕ → Destination → Row → Type 0
+FitsThere rows result (To i) row = places ≤ misfit row (rowAt rows (i .0))
+FitsThere rows result Caller row = fits (entryAt row resultRegister) (resultEntry result) ≡ true
 
-abbrev pub ArrivesOut : Type 0
-ArrivesOut =
-    (t : Routine) (w : ℕ) (row : Row) → passes (arrive t w caller row) ≡ true → fits (entryAt row resultRegister) (resultEntry t) ≡ true
+abbrev pub Arrives : Type 0
+Arrives = (rows result : List ℕ) (w : ℕ) (d : Destination) (row : Row) → passes (arrive rows result w d row) ≡ true → FitsThere rows result d row

@@ -1,30 +1,32 @@
--- A routine of which a part is handed over: what reads only that part gives the same for the whole routine.
-use Prim.Native.Nat.{ℕ}
-use mathlib.Core.List.{List, []}
-use Rattle.policy.specs.declared.Policy.{Policy}
-use Rattle.policy.specs.Build.{emptyPolicy}
-use Rattle.checker.specs.Routine.{Routine, routineOf}
+-- What the code needs of the rows that are lent: those that it reads lie in them.
+use Prim.Native.Nat.{ℕ, _+_, _*_, _≤_}
+use mathlib.Core.Path.{_≡_}
+use mathlib.Core.Bool.{Bool, true}
+use Rattle.flow.specs.declared.Destination.{Destination}
+use Rattle.flow.specs.declared.Destination.the-variants.{To, Caller}
+use Rattle.flow.specs.declared.Edge.{Edge}
+use Rattle.flow.specs.Edge.{edgeOf}
+use Rattle.v8.specs.declared.Instruction.{Instruction}
+use Rattle.v8.specs.declared.Reading.{Reading}
+use Rattle.v8.specs.declared.Reading.the-variants.{Read, Unread}
+use Rattle.checker.specs.Routine.{rowBytes}
 
--- the words
-abbrev pub codeOf : List ℕ → Routine
-codeOf words = routineOf emptyPolicy words [] [] []
+-- row w lies in n bytes
+abbrev pub RowIn : ℕ → ℕ → Type 0
+RowIn w n = rowBytes * w + rowBytes ≤ n
 
--- the rows
-abbrev pub rowsOf : List ℕ → Routine
-rowsOf rows = routineOf emptyPolicy [] rows [] []
+-- the row where an edge ends, if it ends at a word, lies in n bytes
+abbrev pub EndIn : Destination → ℕ → Type 0
+EndIn (To w) n = RowIn (w .0) n
+EndIn Caller n = Unit {0}
 
--- the rows and the entry row
-abbrev pub startOf : List ℕ → List ℕ → Routine
-startOf rows entry = routineOf emptyPolicy [] rows entry []
+abbrev pub EdgeIn : Edge → ℕ → Type 0
+EdgeIn e n = e .exists ≡ true → EndIn (e .to) n
 
--- the result entry
-abbrev pub resultOf : List ℕ → Routine
-resultOf result = routineOf emptyPolicy [] [] [] result
+-- the rows where the edges of a word end lie in n bytes
+abbrev pub EdgesIn : ℕ → Instruction → ℕ → Type 0
+EdgesIn w x n = (taken : Bool) → EdgeIn (edgeOf w x taken) n
 
--- the policy and the rows
-abbrev pub formOf : Policy → List ℕ → Routine
-formOf p rows = routineOf p [] rows [] []
-
--- all but the entry row
-abbrev pub bodyOf : Policy → List ℕ → List ℕ → List ℕ → Routine
-bodyOf p words rows result = routineOf p words rows [] result
+abbrev pub ReadingIn : ℕ → Reading → ℕ → Type 0
+ReadingIn w (Read x) n = EdgesIn w x n
+ReadingIn w (Unread number) n = Unit {0}

@@ -1,26 +1,10 @@
-// Answers (specs/Answer.antt), and the numbers of the passes.
+// Answers (specs/Answer.antt).
 ghost use mathlib.Core.Path.{_≡_};
 ghost use Rattle.checker.specs.Answer.{accepted, refuse, need};
 ghost use Rattle.checker.specs.Passes.{unlessFault};
 use crate::Answer;
 use v8::WordIndex;
-
-// The policy breaks a rule.
-pub const BAD_POLICY: u8 = 20;
-// Words, rows, entry row or result entry are too few, too many or badly formed.
-pub const BAD_SHAPE: u8 = 21;
-// A row is badly formed.
-pub const BAD_ROW: u8 = 1;
-// A word is not read.
-pub const UNREAD_WORD: u8 = 2;
-// The flow is broken.
-pub const BAD_FLOW: u8 = 3;
-// The entry row does not fit row 0.
-pub const ENTRY_MISFIT: u8 = 15;
-// An edge's row does not fit the next row.
-pub const EDGE_MISFIT: u8 = 12;
-// r8 does not fit the result entry.
-pub const RESULT_MISFIT: u8 = 14;
+use v8::numbers::ACCEPTED;
 
 // How many places of a row are named: its registers and its note.
 pub const PLACES: u8 = 33;
@@ -30,7 +14,7 @@ pub fn accept() -> Answer
     ensures { λ r. ⌜ r ≡ accepted ⌝ }
 {
     Answer {
-        number: 0,
+        number: ACCEPTED,
         word: WordIndex(0),
         register: 0,
     }

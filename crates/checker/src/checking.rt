@@ -1,32 +1,34 @@
 // The check: the passes in their order (specs/Passes.antt).
 ghost use mathlib.Core.Path.{_≡_};
-ghost use Rattle.checker.specs.Routine.{routineOf};
+ghost use lib.ListN.{length};
 ghost use Rattle.checker.specs.Passes.{shapeOk, checkOf};
 use crate::Answer;
-use crate::answers::BAD_POLICY;
-use crate::answers::BAD_SHAPE;
 use crate::answers::PLACES;
 use crate::answers::refuse;
 use crate::arrival::ROW_BYTES;
+use crate::looking::word_pass;
 use crate::passes::entry_pass;
 use crate::passes::flow_pass;
 use crate::passes::read_pass;
 use crate::passes::row_pass;
-use crate::passes::word_pass;
+use flow::readings::examine_all;
+use flow::readings::read_all;
 use policy::Policy;
 use rows::entry_formed;
 use rows::form_fault;
 use v8::WordIndex;
+use v8::numbers::ACCEPTED;
+use v8::numbers::BAD_POLICY;
+use v8::numbers::BAD_SHAPE;
+use v8::numbers::MOST_WORDS;
 
-// The most words that a routine has.
-const MOST_WORDS: usize = 128;
 // How many bytes an entry has.
 const ENTRY_BYTES: usize = 12;
 
 // Whether words, rows, entry row and result entry are as many as they must be, and the last two
 // well formed.
 fn shape_ok(policy: Policy, words: &[u32], rows: &[u8], entry: &[u8], result: &[u8]) -> bool
-    ensures { λ r. ⌜ r ≡ shapeOk (routineOf policy (now (words .entry)) (now (rows .entry)) (now (entry .entry)) (now (result .entry))) ⌝ }
+    ensures { λ r. ⌜ r ≡ shapeOk policy (length (now (words .entry))) (now (rows .entry)) (now (entry .entry)) (now (result .entry)) ⌝ }
 {
     let count = words.len();
     if count < 1 {
@@ -63,20 +65,22 @@ pub fn check(policy: Policy, words: &[u32], rows: &[u8], entry: &[u8], result: &
     let length = words.len() as u32;
     let count = WordIndex(length);
     let formed = row_pass(policy, rows, count);
-    if formed.number != 0 {
+    if formed.number != ACCEPTED {
         return formed;
     }
-    let read = read_pass(words, count);
-    if read.number != 0 {
+    let readings = read_all(words);
+    let read = read_pass(words, readings);
+    if read.number != ACCEPTED {
         return read;
     }
-    let flows = flow_pass(words, count);
-    if flows.number != 0 {
+    let marks = examine_all(words, readings);
+    let flows = flow_pass(words, readings, &marks);
+    if flows.number != ACCEPTED {
         return flows;
     }
     let entered = entry_pass(rows, entry);
-    if entered.number != 0 {
+    if entered.number != ACCEPTED {
         return entered;
     }
-    word_pass(policy, words, rows, result, count)
+    word_pass(policy, words, readings, &marks, rows, result)
 }

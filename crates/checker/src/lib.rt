@@ -2,18 +2,18 @@
 // of the check, and its numbers".)
 use v8::WordIndex;
 
-// Answers, and the numbers of the passes.
+// Answers.
 mod answers;
-// The words: what each is read as, and whether it is a slot.
-mod words;
 // The flow of a word.
-mod flow;
+mod landing;
 // Rows of words, and what is asked of a row that arrives.
 mod arrival;
 // The edges of a word.
 mod edges;
 // The passes over the words.
 mod passes;
+// The words' pass.
+mod looking;
 // The check.
 mod checking;
 

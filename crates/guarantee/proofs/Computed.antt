@@ -12,7 +12,7 @@ use Rattle.v8.specs.declared.AluOp.{AluOp}
 use Rattle.v8.specs.declared.ShiftOp.{ShiftOp}
 use Rattle.v8.specs.declared.Operand.{Operand}
 use Rattle.v8.specs.declared.Operand.the-variants.{Reg, Imm}
-use Rattle.v8.specs.declared.Instruction.the-variants.{Sethi, Alu, Shift}
+use Rattle.v8.specs.declared.Operation.the-variants.{Sethi, Alu, Shift}
 use Rattle.v8.specs.Laws.{OperandSmall}
 use Rattle.alu.specs.Result.{aluOf, shiftOf, sethiOf}
 use Rattle.alu.specs.Codes.{codesOf}
@@ -36,7 +36,7 @@ use Rattle.rules.specs.declared.Result.{Result}
 use Rattle.rules.specs.declared.Result.the-variants.{Gives, Fails}
 use Rattle.rules.specs.declared.Change.{Change}
 use Rattle.rules.specs.Result.{aluResult, shiftResult, isSub}
-use Rattle.rules.specs.Change.{operandEntry, noteAfter, codesNote, writing, aluChange, shiftChange, changeOf}
+use Rattle.rules.specs.Change.{operandEntry, noteAfter, codesNote, writing, aluChange, shiftChange, operationChange}
 use Rattle.rules.specs.Laws.{Laid, Right, Wrote}
 use Rattle.rules.proofs.RightResult.{alu-right, shift-right}
 use Rattle.rules.proofs.Writes.{writes-row, keeps-note, makes-note}
@@ -135,7 +135,7 @@ module _ (p : Policy) (h : Host) (row : Row) (c : Core) (ck : CoreOk p h c) (f :
 
   module _ (bases : List ℕ) where
     pub sethi-covers : (rd imm22 : ℕ)
-        → Covers p h row c (Sethi rd imm22) (effectOf (layoutOf p bases) c (Sethi rd imm22)) (changeOf p row (Sethi rd imm22))
+        → Covers p h row c (Sethi rd imm22) (effectOf (layoutOf p bases) c (Sethi rd imm22)) (operationChange p row (Sethi rd imm22))
     sethi-covers rd imm22 = (
       tt,
       written-kept rd (sethiOf imm22) (constant (sethiOf imm22)) (sethi-small imm22)
@@ -164,7 +164,7 @@ module _ (p : Policy) (h : Host) (row : Row) (c : Core) (ck : CoreOk p h c) (f :
     alu-made op cc rd rs1 x l ua ub (Fails n) g = tt
 
     pub alu-covers : Laid (p .regions) (p .sizes) h → (op : AluOp) (cc : Bool) (rd rs1 : ℕ) (x : Operand) → OperandSmall x
-        → Covers p h row c (Alu op cc rd rs1 x) (effectOf (layoutOf p bases) c (Alu op cc rd rs1 x)) (changeOf p row (Alu op cc rd rs1 x))
+        → Covers p h row c (Alu op cc rd rs1 x) (effectOf (layoutOf p bases) c (Alu op cc rd rs1 x)) (operationChange p row (Alu op cc rd rs1 x))
     unfolding aluChange
     alu-covers laid op cc rd rs1 x l =
         cond-both K (isUnset (entryAt row rs1)) (λ _. tt)
@@ -191,7 +191,7 @@ module _ (p : Policy) (h : Host) (row : Row) (c : Core) (ck : CoreOk p h c) (f :
     shift-made op rd rs1 x ua ub (Fails n) g = tt
 
     pub shift-covers : (op : ShiftOp) (rd rs1 : ℕ) (x : Operand) → OperandSmall x
-        → Covers p h row c (Shift op rd rs1 x) (effectOf (layoutOf p bases) c (Shift op rd rs1 x)) (changeOf p row (Shift op rd rs1 x))
+        → Covers p h row c (Shift op rd rs1 x) (effectOf (layoutOf p bases) c (Shift op rd rs1 x)) (operationChange p row (Shift op rd rs1 x))
     unfolding shiftChange
     shift-covers op rd rs1 x l =
         cond-both K (isUnset (entryAt row rs1)) (λ _. tt)

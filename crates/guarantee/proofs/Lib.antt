@@ -5,6 +5,7 @@ pub mod Computed
 pub mod Elements
 pub mod Stored
 pub mod Accessed
+pub mod Covered
 pub mod Stepping
 pub mod Running
 pub mod Whole

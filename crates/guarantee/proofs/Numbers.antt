@@ -1,18 +1,20 @@
--- The number that an instruction of a routine adds is a word, since the words are read.
+-- What follows for the words of a routine from their reading: the numbers that their instructions add are words, and a word that is not read has
+-- a number.
 use Prim.Native.Nat.{ℕ, zero, suc}
+use mathlib.Core.Path.{refl}
 use mathlib.Core.List.{List, [], _∷_}
 use Rattle.v8.specs.declared.Displacement.{Displacement}
 use Rattle.v8.specs.declared.Displacement.the-variants.{Index, Bytes}
-use Rattle.v8.specs.Laws.{OperandSmall, DisplacementSmall, ReadingSmall}
-use Rattle.v8.proofs.Small.{reads-small}
+use Rattle.v8.specs.Laws.{OperandSmall, DisplacementSmall, ReadingSound}
+use Rattle.v8.proofs.Sound.{reads-sound}
+use Rattle.flow.specs.Readings.{readingsOf, readingAt}
 use Rattle.access.specs.Serve.{addend}
-use Rattle.step.specs.Setting.{readingsOf, readingAt}
 
 pub addend-small : (d : Displacement) → DisplacementSmall d → OperandSmall (addend d)
 addend-small (Index r) l = l
 addend-small (Bytes n) l = l
 
-pub readings-small : (words : List ℕ) (w : ℕ) → ReadingSmall (readingAt (readingsOf words) w)
-readings-small [] w = tt
-readings-small (x ∷ xs) zero = reads-small x
-readings-small (x ∷ xs) (suc w) = readings-small xs w
+pub readings-sound : (words : List ℕ) (w : ℕ) → ReadingSound (readingAt (readingsOf words) w)
+readings-sound [] w = refl
+readings-sound (x ∷ xs) zero = reads-sound x
+readings-sound (x ∷ xs) (suc w) = readings-sound xs w

@@ -12,6 +12,8 @@ use borrow.Author.Tests.{ltb-true, ltb-false, eqb-true, eqb-false}
 use Rattle.v8.specs.Signed.{excess}
 use Rattle.v8.specs.declared.LoadOp.{LoadOp}
 use Rattle.v8.specs.declared.StoreOp.{StoreOp}
+use Rattle.v8.specs.declared.Access.{Access}
+use Rattle.v8.specs.declared.Access.the-variants.{Loads, Stores}
 use Rattle.policy.specs.declared.Policy.{Policy}
 use Rattle.policy.specs.declared.Field.{Field}
 use Rattle.policy.specs.Element.{widthOf}
@@ -22,8 +24,6 @@ use Rattle.memory.specs.Place.{startOf, lengthOf}
 use Rattle.memory.specs.Laws.{Apart, lowOf}
 use Rattle.memory.proofs.Memory.{store-keeps-length, store-keeps-others, load-kept, load-after-store}
 use Rattle.memory.proofs.Starts.{part-ends}
-use Rattle.access.specs.declared.Access.{Access}
-use Rattle.access.specs.declared.Access.the-variants.{Loads, Stores}
 use Rattle.access.specs.Serve.{accessWidth}
 use Rattle.sets.specs.Sets.{ended, Member}
 use Rattle.sets.proofs.Ends.{ended-only}

@@ -2,10 +2,15 @@
 -- the start alone.
 use Prim.Native.Nat.{ℕ, _<_}
 use mathlib.Core.Path.{_≡_}
-use mathlib.Core.Bool.{true, false}
+use mathlib.Core.Bool.{true}
 use lib.ListN.{length}
-use Rattle.v8.specs.declared.Instruction.{Instruction}
+use Rattle.v8.specs.declared.Operation.{Operation}
+use Rattle.v8.specs.declared.Instruction.the-variants.{Plain}
 use Rattle.v8.specs.declared.Reading.{Reading}
+use Rattle.v8.specs.declared.Reading.the-variants.{Read}
+use Rattle.flow.specs.declared.Destination.{Destination}
+use Rattle.flow.specs.declared.Destination.the-variants.{To, Caller}
+use Rattle.flow.specs.Readings.{readingAt, examined}
 use Rattle.policy.specs.declared.Policy.{Policy}
 use Rattle.memory.specs.Memory.{Bytes}
 use Rattle.memory.specs.Place.{lengthOf}
@@ -20,11 +25,12 @@ use Rattle.rows.specs.Matches.{Host, Matches, RowMatches}
 use Rattle.rows.specs.Laws.{RowRules}
 use Rattle.rules.specs.declared.Change.{Change}
 use Rattle.rules.specs.declared.Change.the-variants.{Writes, Keeps, Breaks}
-use Rattle.checker.specs.Routine.{Routine, count, wordAt, rowAt, resultEntry, transfers, examined}
-use Rattle.checker.specs.Passes.{Destination, to, caller, resultRegister, changeBy}
+use Rattle.rules.specs.Change.{operationChange}
+use Rattle.checker.specs.Routine.{Routine, count, rowAt, resultEntry}
+use Rattle.checker.specs.Passes.{resultRegister}
 use Rattle.checker.specs.Laws.{After}
 use Rattle.guarantee.specs.Fields.{Declared, Framed}
-use Rattle.guarantee.specs.Safe.{InstructionSafe}
+use Rattle.guarantee.specs.Safe.{OperationSafe}
 use Rattle.guarantee.specs.Guarantee.{heldOf, Words}
 
 -- registers and memory are what they are meant to be, and readable fields hold declared values
@@ -39,7 +45,7 @@ pub record Fitted (p : Policy) (h : Host) (row : Row) (c : Core) : Type 0 where
   pub rules : RowRules (p .regions) (p .sizes) row
   pub matches : RowMatches h row (heldOf (c .registers))
 
--- what an instruction leaves: its row matches, and memory outside writable fields is as it was
+-- what an operation leaves: its row matches, and memory outside writable fields is as it was
 pub record Kept (p : Policy) (h : Host) (row : Row) (c c′ : Core) : Type 0 where
   pub fitted : Fitted p h row c′
   pub core : CoreOk p h c′
@@ -50,38 +56,42 @@ abbrev pub Good : Policy → Host → Row → Core → Effect → Type 0
 Good p h row c (fault n) = ⊥
 Good p h row c (done c′) = Kept p h row c c′
 
--- what a word does to a row covers what it does to the machine, unless it breaks a condition
-abbrev pub Covers : Policy → Host → Row → Core → Instruction → Effect → Change → Type 0
-Covers p h row c x e (Writes r entry note) = InstructionSafe p h (c .registers) x × Good p h (rowWith row r entry note) c e
-Covers p h row c x e Keeps = InstructionSafe p h (c .registers) x × Good p h row c e
+-- what an operation does to a row covers what it does to the machine, unless it breaks a condition
+abbrev pub Covers : Policy → Host → Row → Core → Operation → Effect → Change → Type 0
+Covers p h row c x e (Writes r entry note) = OperationSafe p h (c .registers) x × Good p h (rowWith row r entry note) c e
+Covers p h row c x e Keeps = OperationSafe p h (c .registers) x × Good p h row c e
 Covers p h row c x e (Breaks number r) = Unit {0}
 
 -- at word w, outside slots, with its row
 pub record At (t : Routine) (h : Host) (w : ℕ) (c : Core) : Type 0 where
   pub inside : w < count t
-  pub free : examined t w ≡ true
-  pub fitted : Fitted (t .policy) h (rowAt t w) c
+  pub free : examined (t .readings) w ≡ true
+  pub fitted : Fitted (t .policy) h (rowAt (t .rows) w) c
 
 -- where an edge ends, with what the check wants there
 abbrev pub Arrived : Routine → Host → Destination → Core → Type 0
-Arrived t h (to w) c = At t h w c
-Arrived t h caller c = Matches h (resultEntry t) (isSet (c .registers) resultRegister) (valueOf (c .registers) resultRegister)
+Arrived t h (To w) c = At t h (w .0) c
+Arrived t h Caller c = Matches h (resultEntry (t .result)) (isSet (c .registers) resultRegister) (valueOf (c .registers) resultRegister)
 
--- a word that is about to run, and where control then goes: some row matches, the word makes another of it, and what matches that one has
--- arrived
-pub record Due (t : Routine) (h : Host) (x : Reading) (d : Destination) (c : Core) : Type 0 where
-  pub plain : transfers x ≡ false
+-- an operation that is about to run, and where control then goes: some row matches, the operation makes another of it, and what matches that
+-- one has arrived
+pub record Due (t : Routine) (h : Host) (x : Operation) (d : Destination) (c : Core) : Type 0 where
   pub row : Row
   pub fitted : Fitted (t .policy) h row c
   pub after : Row
-  pub change : After row (changeBy t row x) after
+  pub change : After row (operationChange (t .policy) row x) after
   pub arrives : (c′ : Core) → CoreOk (t .policy) h c′ → Fitted (t .policy) h after c′ → Arrived t h d c′
+
+-- a slot that is about to run is read as an operation
+pub record SlotDue (t : Routine) (h : Host) (x : Reading) (d : Destination) (c : Core) : Type 0 where
+  pub operation : Operation
+  pub is : x ≡ Read (Plain operation)
+  pub due : Due t h operation d c
 
 -- what is pending: nothing, outside slots; or in a slot, where the transfer goes
 abbrev pub Ready : Routine → Host → ℕ → Core → Pending → Type 0
 Ready t h w c Pending·.Nothing = At t h w c
-Ready t h w c (Pending·.Jump i) = Due t h (wordAt t w) (to (i .0)) c
-Ready t h w c Pending·.Leave = Due t h (wordAt t w) caller c
+Ready t h w c (Pending·.Due d) = SlotDue t h (readingAt (t .readings) w) d c
 
 -- the invariant
 pub record Invariant (t : Routine) (h : Host) (st : State) : Type 0 where
@@ -96,7 +106,7 @@ pub record Stepped (t : Routine) (h : Host) (c : Core) (st : State) : Type 0 whe
 pub record Left (t : Routine) (h : Host) (c c′ : Core) : Type 0 where
   pub core : CoreOk (t .policy) h c′
   pub framed : Framed (t .policy) (c .memory) (c′ .memory)
-  pub result : Arrived t h caller c′
+  pub result : Arrived t h Caller c′
 
 abbrev pub StepGood : Routine → Host → Core → Step → Type 0
 StepGood t h c (stopped n) = ⊥

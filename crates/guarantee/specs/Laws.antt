@@ -7,13 +7,13 @@ use mathlib.Core.List.{List}
 use lib.ListN.{length}
 use Rattle.v8.specs.declared.LoadOp.{LoadOp}
 use Rattle.v8.specs.declared.StoreOp.{StoreOp}
+use Rattle.v8.specs.declared.Access.{Access}
+use Rattle.v8.specs.declared.Access.the-variants.{Loads, Stores}
 use Rattle.policy.specs.declared.Policy.{Policy}
 use Rattle.policy.specs.Policy.{countOf, fieldEnd}
 use Rattle.policy.specs.Laws.{WellFormed}
 use Rattle.memory.specs.Memory.{loadOf, storeOf}
 use Rattle.memory.specs.Place.{lengthOf}
-use Rattle.access.specs.declared.Access.{Access}
-use Rattle.access.specs.declared.Access.the-variants.{Loads, Stores}
 use Rattle.access.specs.Serve.{accessWidth, serves}
 use Rattle.rows.specs.Entry.{fieldEntry}
 use Rattle.rows.specs.Matches.{Host, Holds}

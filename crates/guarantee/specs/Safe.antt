@@ -6,20 +6,21 @@ use mathlib.Core.Path.{_≡_}
 use mathlib.Core.Logic.{_⊎_}
 use mathlib.Core.Bool.{true}
 use Rattle.v8.specs.declared.Displacement.{Displacement}
+use Rattle.v8.specs.declared.Access.{Access}
+use Rattle.v8.specs.declared.Operation.{Operation}
+use Rattle.v8.specs.declared.Operation.the-variants.{Sethi, Alu, Shift, Memory}
 use Rattle.v8.specs.declared.Instruction.{Instruction}
-use Rattle.v8.specs.declared.Instruction.the-variants.{Sethi, Bicc, Alu, Shift, Load, Store, Return}
+use Rattle.v8.specs.declared.Instruction.the-variants.{Plain, Branch, Return}
 use Rattle.v8.specs.declared.Reading.{Reading}
 use Rattle.v8.specs.declared.Reading.the-variants.{Read, Unread}
 use Rattle.alu.specs.Result.{add32}
+use Rattle.flow.specs.Transfer.{readsCodes, link}
 use Rattle.policy.specs.declared.Policy.{Policy}
 use Rattle.policy.specs.Policy.{sizeOf, countOf, fieldEnd}
-use Rattle.access.specs.declared.Access.{Access}
-use Rattle.access.specs.declared.Access.the-variants.{Loads, Stores}
 use Rattle.access.specs.Serve.{accessWidth, serves, allows, addend}
 use Rattle.step.specs.declared.Registers.{Registers}
 use Rattle.step.specs.Registers.{valueOf, isSet, operandValue, operandSet}
-use Rattle.step.specs.Transfer.{readsCodes}
-use Rattle.step.specs.Step.{link}
+use Rattle.step.specs.Effect.{movedSet}
 use Rattle.rows.specs.Matches.{Host, baseOf}
 use Rattle.guarantee.specs.Fields.{fieldOf}
 
@@ -48,17 +49,20 @@ abbrev pub AccessSafe : Policy → Host → Access → Registers → ℕ → Dis
 AccessSafe p h a g rs1 d =
     (isSet g rs1 ≡ true) × (operandSet g (addend d) ≡ true) × SafeAccess p h a (valueOf g rs1) (operandValue g (addend d))
 
--- an instruction that reads what is set, and accesses memory as it may
+-- an operation that reads what is set, and accesses memory as it may
+abbrev pub OperationSafe : Policy → Host → Registers → Operation → Type 0
+OperationSafe p h g (Sethi rd imm22) = Unit {0}
+OperationSafe p h g (Alu op cc rd rs1 x) = (isSet g rs1 ≡ true) × (operandSet g x ≡ true)
+OperationSafe p h g (Shift op rd rs1 x) = (isSet g rs1 ≡ true) × (operandSet g x ≡ true)
+OperationSafe p h g (Memory a rd rs1 d) = (movedSet (g .marks) a rd ≡ true) × AccessSafe p h a g rs1 d
+
+-- .. and a transfer that does: a branch by codes that are set, the return to the caller
 abbrev pub InstructionSafe : Policy → Host → Registers → Instruction → Type 0
-InstructionSafe p h g (Sethi rd imm22) = Unit {0}
-InstructionSafe p h g (Bicc annul cnd d) = readsCodes cnd ≡ true → g .coded ≡ true
-InstructionSafe p h g (Alu op cc rd rs1 x) = (isSet g rs1 ≡ true) × (operandSet g x ≡ true)
-InstructionSafe p h g (Shift op rd rs1 x) = (isSet g rs1 ≡ true) × (operandSet g x ≡ true)
-InstructionSafe p h g (Load op rd rs1 d) = AccessSafe p h (Loads op) g rs1 d
-InstructionSafe p h g (Store op rd rs1 d) = (isSet g rd ≡ true) × AccessSafe p h (Stores op) g rs1 d
+InstructionSafe p h g (Plain x) = OperationSafe p h g x
+InstructionSafe p h g (Branch b) = readsCodes (b .cond) ≡ true → g .coded ≡ true
 InstructionSafe p h g Return = (isSet g link ≡ true) × (valueOf g link ≡ h .returns)
 
 -- a word that is read, and whose instruction is safe
 abbrev pub ReadingSafe : Policy → Host → Registers → Reading → Type 0
 ReadingSafe p h g (Read x) = InstructionSafe p h g x
-ReadingSafe p h g Unread = ⊥
+ReadingSafe p h g (Unread n) = ⊥

@@ -73,14 +73,14 @@ fn judge_inside(w: u32, text: &[u8]) -> Verdict {
             }
             Verdict::NotWrittenBack
         }
-        Reading::Unread => Verdict::NotRead,
+        Reading::Unread(_) => Verdict::NotRead,
     }
 }
 
 fn judge_outside(w: u32) -> Verdict {
     match read_word(w) {
         Reading::Read(_) => Verdict::ReadOutside,
-        Reading::Unread => Verdict::Refused,
+        Reading::Unread(_) => Verdict::Refused,
     }
 }
 

@@ -1,13 +1,15 @@
 // Instructions in the assembler's syntax. Each function puts its part into a lent buffer from an
 // index on, and answers the index after it. What does not fit is left out.
+use v8::Access;
 use v8::AluOp;
+use v8::Bicc;
 use v8::Displacement;
 use v8::Instruction;
 use v8::LoadOp;
 use v8::Operand;
+use v8::Operation;
 use v8::ShiftOp;
 use v8::StoreOp;
-use v8::WordIndex;
 ghost use Prim.Native.Nat.{_≤_};
 
 fn put(buf: &mut [u8; 64], at: usize, b: u8) -> usize {
@@ -191,10 +193,10 @@ fn put_annul(buf: &mut [u8; 64], at: usize, annul: bool) -> usize {
 }
 
 // A branch, whose distance is in bytes from the branch itself, as `bne,a .+16`.
-fn put_branch(buf: &mut [u8; 64], annul: bool, cond: u8, distance: WordIndex) -> usize {
-    let a = put_condition(buf, cond);
-    let b = put_annul(buf, a, annul);
-    put_distance(buf, b, negative(distance.0), 4 * size(distance.0))
+fn put_branch(buf: &mut [u8; 64], x: Bicc) -> usize {
+    let a = put_condition(buf, x.cond);
+    let b = put_annul(buf, a, x.annul);
+    put_distance(buf, b, negative(x.distance.0), 4 * size(x.distance.0))
 }
 
 fn put_sethi(buf: &mut [u8; 64], rd: u8, imm22: u32) -> usize {
@@ -230,35 +232,39 @@ fn put_store(buf: &mut [u8; 64], op: StoreOp, rd: u8, rs1: u8, x: Displacement) 
     put_address(buf, c, rs1, x)
 }
 
-// Puts an instruction at the start of the buffer, and answers how many bytes it takes.
-pub fn put_instruction(buf: &mut [u8; 64], x: Instruction) -> usize {
+// A load or a store, its destination last.
+fn put_access(buf: &mut [u8; 64], access: Access, rd: u8, rs1: u8, x: Displacement) -> usize {
+    match access {
+        Access::Loads(op) => put_load(buf, op, rd, rs1, x),
+        Access::Stores(op) => put_store(buf, op, rd, rs1, x),
+    }
+}
+
+fn put_operation(buf: &mut [u8; 64], x: Operation) -> usize {
     match x {
-        Instruction::Sethi { rd, imm22 } => put_sethi(buf, rd, imm22),
-        Instruction::Bicc {
-            annul,
-            cond,
-            distance,
-        } => put_branch(buf, annul, cond, distance),
-        Instruction::Alu {
+        Operation::Sethi { rd, imm22 } => put_sethi(buf, rd, imm22),
+        Operation::Alu {
             op,
             cc,
             rd,
             rs1,
             operand,
         } => put_alu(buf, op, cc, rs1, operand, rd),
-        Instruction::Shift { op, rd, rs1, count } => put_shift(buf, op, rs1, count, rd),
-        Instruction::Load {
-            op,
+        Operation::Shift { op, rd, rs1, count } => put_shift(buf, op, rs1, count, rd),
+        Operation::Memory {
+            access,
             rd,
             rs1,
             displacement,
-        } => put_load(buf, op, rd, rs1, displacement),
-        Instruction::Store {
-            op,
-            rd,
-            rs1,
-            displacement,
-        } => put_store(buf, op, rd, rs1, displacement),
+        } => put_access(buf, access, rd, rs1, displacement),
+    }
+}
+
+// Puts an instruction at the start of the buffer, and answers how many bytes it takes.
+pub fn put_instruction(buf: &mut [u8; 64], x: Instruction) -> usize {
+    match x {
+        Instruction::Plain(op) => put_operation(buf, op),
+        Instruction::Branch(b) => put_branch(buf, b),
         Instruction::Return => put_all(buf, 0, b"retl"),
     }
 }

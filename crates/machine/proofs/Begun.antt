@@ -8,6 +8,7 @@ use lib.Dec.{ltb}
 use lib.ListN.{length}
 use borrow.Author.Tests.{ltb-false}
 use Rattle.v8.specs.Choice.{cond-went}
+use Rattle.v8.specs.Numbers.{mostWords}
 use Rattle.policy.specs.declared.Policy.{Policy}
 use Rattle.policy.specs.Policy.{policyOk}
 use Rattle.step.specs.declared.Registers.{Registers}
@@ -18,7 +19,7 @@ use Rattle.machine.specs.Run.{Run, refusalOf, refused, runIf}
 pub record Begun (p : Policy) (words bases : List ℕ) (returns : ℕ) (memory : List ℕ) : Type 0 where
   pub ok : policyOk p ≡ true
   pub some : 1 ≤ length words
-  pub most : length words ≤ 128
+  pub most : length words ≤ mostWords
   pub placed : placedIn (p .regions) (p .sizes) bases returns memory ≡ true
 
 never : {A : Type 0} {n : ℕ} → suc n ≡ 0 → A
@@ -31,7 +32,7 @@ begun p words bases returns memory e =
     (λ ok q.
     cond-went (ltb (length words) 1) _ _ _ q (λ t q. never q)
     (λ some q.
-    cond-went (ltb 128 (length words)) _ _ _ q (λ t q. never q)
+    cond-went (ltb mostWords (length words)) _ _ _ q (λ t q. never q)
     (λ most q.
     cond-went (placedIn (p .regions) (p .sizes) bases returns memory) _ _ _ q
     (λ placed q. record { ok = ok; some = ltb-false _ _ some; most = ltb-false _ _ most; placed = placed })

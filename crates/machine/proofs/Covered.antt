@@ -20,7 +20,7 @@ use Rattle.policy.proofs.WellFormed.{obeys}
 use Rattle.policy.proofs.FoundField.{found-holds}
 use Rattle.memory.specs.Place.{lengthOf}
 use Rattle.memory.proofs.Starts.{part-ends}
-use Rattle.access.specs.declared.Access.{Access}
+use Rattle.v8.specs.declared.Access.{Access}
 use Rattle.access.specs.Layout.{layoutOf}
 use Rattle.access.specs.Serve.{accessWidth}
 use Rattle.access.specs.Locate.{touches, located, regionOf, locate}

@@ -1,6 +1,5 @@
 pub mod RunLaws
-pub mod Filled
-pub mod Fetched
+pub mod Within
 pub mod Loop
 pub mod Covered
 pub mod Begun

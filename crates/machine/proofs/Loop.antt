@@ -9,7 +9,8 @@ use Rattle.v8.specs.declared.Reading.{Reading}
 use Rattle.step.specs.declared.Went.{Went}
 use Rattle.step.specs.declared.Progress.{Progress}
 use Rattle.step.specs.declared.Progress.the-variants.{Goes, Returned, Stopped}
-use Rattle.step.specs.Setting.{Setting, readingAt}
+use Rattle.flow.specs.Readings.{readingAt}
+use Rattle.step.specs.Setting.{Setting}
 use Rattle.step.specs.Effect.{Core}
 use Rattle.step.specs.Step.{State, Step, stopped, next, returned, stepWith, stepOf}
 use Rattle.step.specs.Lent.{Stepped, coreOf, leaving, stepFrom, wentOf}

@@ -5,6 +5,7 @@ use mathlib.Core.Bool.{cond}
 use mathlib.Core.List.{List, [], _∷_}
 use lib.Dec.{ltb}
 use lib.ListN.{length}
+use Rattle.v8.specs.Numbers.{acceptance, badPolicy, badShape, badPlacement, mostWords}
 use Rattle.policy.specs.declared.Policy.{Policy}
 use Rattle.policy.specs.Policy.{policyOk}
 use Rattle.step.specs.declared.Registers.{Registers}
@@ -13,9 +14,10 @@ use Rattle.machine.specs.declared.End.the-variants.{Returned, Spent, Fau
 use Rattle.machine.specs.declared.Outcome.{Outcome}
 use Rattle.step.specs.Registers.{withZero}
 use Rattle.access.specs.Layout.{layoutOf}
-use Rattle.step.specs.Setting.{Setting, readingsOf}
+use Rattle.flow.specs.Readings.{readingsOf}
+use Rattle.step.specs.Setting.{Setting}
 use Rattle.machine.specs.Placement.{placedIn}
-use Rattle.step.specs.Transfer.{goTo}
+use Rattle.step.specs.Control.{goTo}
 use Rattle.step.specs.Effect.{Core}
 use Rattle.step.specs.Step.{State, Step, stopped, next, returned, stepOf}
 
@@ -80,10 +82,10 @@ startState g memory = record { control = goTo 0; core = record { registers = wit
 unfoldable pub refusalOf : Policy → List ℕ → List ℕ → ℕ → List ℕ → ℕ
 refusalOf p words bases returns memory =
     cond (policyOk p)
-    (cond (ltb (length words) 1) 21
-    (cond (ltb 128 (length words)) 21
-    (cond (placedIn (p .regions) (p .sizes) bases returns memory) 0 22)))
-    20
+    (cond (ltb (length words) 1) badShape
+    (cond (ltb mostWords (length words)) badShape
+    (cond (placedIn (p .regions) (p .sizes) bases returns memory) acceptance badPlacement)))
+    badPolicy
 
 -- "Refused, it changes nothing: 0 steps, registers and codes as handed in."
 abbrev pub refused : ℕ → Registers → List ℕ → Run

@@ -8,16 +8,11 @@ use crate::place::placed;
 use crate::steps::run_steps;
 use policy::Policy;
 use step::Registers;
-
-// The refusals of a run, by document 01's numbers.
-pub const BAD_POLICY: u8 = 20;
-
-pub const BAD_COUNT: u8 = 21;
-
-pub const BAD_PLACEMENT: u8 = 22;
-
-// The most words that a routine has.
-const MOST_WORDS: usize = 128;
+use v8::numbers::ACCEPTED;
+use v8::numbers::BAD_PLACEMENT;
+use v8::numbers::BAD_POLICY;
+use v8::numbers::BAD_SHAPE;
+use v8::numbers::MOST_WORDS;
 
 // The number that refuses a run, or 0.
 fn refusal(policy: Policy, words: &[u32], bases: &[u32], returns: u32, memory: &[u8]) -> u8
@@ -27,15 +22,15 @@ fn refusal(policy: Policy, words: &[u32], bases: &[u32], returns: u32, memory: &
         return BAD_POLICY;
     }
     if words.len() < 1 {
-        return BAD_COUNT;
+        return BAD_SHAPE;
     }
     if MOST_WORDS < words.len() {
-        return BAD_COUNT;
+        return BAD_SHAPE;
     }
     if !placed(policy.regions, &policy.sizes, bases, returns, memory) {
         return BAD_PLACEMENT;
     }
-    0
+    ACCEPTED
 }
 
 // Runs a routine: refused with 20, 21 or 22, or step after step from word 0 until it has returned, has
@@ -52,7 +47,7 @@ pub fn run(
     ensures { λ r. ⌜ leftBy r (now (memory .exit)) ≡ runOf policy (now (words .entry)) (now (bases .entry)) returns registers allowance (now (memory .entry)) ⌝ }
 {
     let number = refusal(policy, words, bases, returns, memory);
-    if number != 0 {
+    if number != ACCEPTED {
         return Outcome {
             end: End::Refused(number),
             steps: 0,

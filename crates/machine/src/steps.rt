@@ -2,37 +2,23 @@
 ghost use mathlib.Core.Path.{_≡_};
 ghost use Prim.Native.Nat.{_≤_};
 ghost use lib.ListN.{length};
-ghost use Rattle.step.specs.Setting.{Reads};
-ghost use Rattle.step.specs.Transfer.{goTo};
+ghost use Rattle.v8.specs.Numbers.{mostWords};
+ghost use Rattle.step.specs.Control.{goTo};
 ghost use Rattle.step.specs.Lent.{coreOf, layoutFrom, settingFrom, Covers};
 ghost use Rattle.machine.specs.Run.{runFrom};
 ghost use Rattle.machine.specs.Ended.{ranOf};
 use crate::End;
 use crate::Ended;
 use alu::Codes;
+use flow::readings::read_all;
 use step::Control;
 use step::Pending;
 use step::Progress;
 use step::dispatch::one_step;
 use v8::Reading;
 use v8::WordIndex;
-use v8::read_word;
-
-// Reads all words, once before a run: what no word stands at is not read.
-fn read_all(words: &[u32]) -> [Reading; 128]
-    requires { ⌜ length (now words) ≤ 128 ⌝ }
-    ensures { λ r. ⌜ Reads r (now (words .entry)) ⌝ }
-{
-    let none = Reading::Unread;
-    let mut readings = [none; 128];
-    let mut i: usize = 0;
-    while i < words.len() {
-        let x = read_word(words[i]);
-        readings[i] = x;
-        i += 1;
-    }
-    readings
-}
+use v8::numbers::MOST_WORDS;
+use v8::numbers::NOT_READ;
 
 // Runs from word 0 until the run has returned, has spent the allowance, or stops at a fault.
 pub fn run_steps<'a>(
@@ -53,7 +39,7 @@ pub fn run_steps<'a>(
     counts: &'a [u16; 128],
     allowance: u64,
 ) -> Ended
-    requires { ⌜ (length (now words) ≤ 128) × (regions ≤ 8) × (regions ≤ length (now bases)) × Covers (layoutFrom regions (now sizes) (now bases) (now fields) (now elements) (now permissions) (now offsets) (now counts)) (length (now memory)) ⌝ }
+    requires { ⌜ (length (now words) ≤ mostWords) × (regions ≤ 8) × (regions ≤ length (now bases)) × Covers (layoutFrom regions (now sizes) (now bases) (now fields) (now elements) (now permissions) (now offsets) (now counts)) (length (now memory)) ⌝ }
     ensures { λ r. ⌜ ranOf r (now (values .exit)) (now (marks .exit)) (now (memory .exit)) ≡ runFrom (settingFrom (layoutFrom regions (now (sizes .entry)) (now (bases .entry)) (now (fields .entry)) (now (elements .entry)) (now (permissions .entry)) (now (offsets .entry)) (now (counts .entry))) (now (words .entry)) returns) allowance 0 (record { control = goTo 0; core = (coreOf (now (values .entry)) (now (marks .entry)) codes coded (now (memory .entry))) }) ⌝ }
 {
     let readings = read_all(words);
@@ -67,8 +53,8 @@ pub fn run_steps<'a>(
     while steps < allowance {
         let at = control.at;
         let i = at.0 as usize;
-        let mut x = Reading::Unread;
-        if i < 128 {
+        let mut x = Reading::Unread(NOT_READ);
+        if i < MOST_WORDS {
             x = readings[i];
         }
         let r = one_step(

@@ -11,7 +11,8 @@ use lib.ListN.{length, getD, set, length-set}
 use lib.Seq.{getD-set-same, getD-set-other}
 use Rattle.v8.specs.Choice.{cond-both}
 use Rattle.policy.specs.Policy.{sizeOf, countOf, placeOf, fieldAt, fieldEnd}
-use Rattle.policy.specs.Build.{accepted, withField, fieldNumber, built}
+use Rattle.v8.specs.Numbers.{acceptance}
+use Rattle.policy.specs.Build.{withField, fieldNumber, built}
 use Rattle.policy.specs.Laws.{FieldRules, WellFormed, FieldAccepted, Sized, Sound, FieldSound}
 use Rattle.policy.specs.declared.Field.{Field}
 use Rattle.policy.specs.declared.Policy.{Policy}
@@ -156,6 +157,6 @@ module _ (p : Policy) (r : ℕ) (f : Field) (s : Sized p) (a : FieldAccepted p r
 pub field-sound : FieldSound
 unfolding built
 field-sound p r f s =
-    cond-both (λ (b : Built). Sound (b .policy)) (eqb (fieldNumber p r f) accepted)
+    cond-both (λ (b : Built). Sound (b .policy)) (eqb (fieldNumber p r f) acceptance)
     (λ t. field-next-sound p r f (s .sized) (accepts-field p r f (eqb-true _ _ t)))
     (λ t. s)

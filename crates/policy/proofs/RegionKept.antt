@@ -12,7 +12,8 @@ use lib.Seq.{getD-set-same, getD-set-other}
 use Rattle.v8.specs.Choice.{cond-both}
 use Rattle.v8.specs.Search.{all}
 use Rattle.policy.specs.Policy.{sizeOf, countOf, placeOf, fieldAt, fieldEnd, policyOk}
-use Rattle.policy.specs.Build.{accepted, withRegion, regionNumber, built}
+use Rattle.v8.specs.Numbers.{acceptance}
+use Rattle.policy.specs.Build.{withRegion, regionNumber, built}
 use Rattle.policy.specs.Laws.{SizeRules, FieldRules, WellFormed, RegionAccepted, Sized, Sound, EmptySound, RegionSound}
 use Rattle.policy.specs.declared.Field.{Field}
 use Rattle.policy.specs.declared.Policy.{Policy}
@@ -138,6 +139,6 @@ module _ (p : Policy) (size : ℕ) (s : Sized p) (a : RegionAccepted p size) whe
 pub region-sound : RegionSound
 unfolding built
 region-sound p size s =
-    cond-both (λ (b : Built). Sound (b .policy)) (eqb (regionNumber p size) accepted)
+    cond-both (λ (b : Built). Sound (b .policy)) (eqb (regionNumber p size) acceptance)
     (λ t. region-next p size (s .sized) (accepts-region p size (eqb-true _ _ t)))
     (λ t. s)

@@ -4,26 +4,11 @@ use Prim.Native.Nat.{ℕ, _+_}
 use mathlib.Core.Bool.{cond}
 use lib.Dec.{leb, eqb}
 use lib.ListN.{set, replicate}
+use Rattle.v8.specs.Numbers.{acceptance, full, badSize, badPolicy}
 use Rattle.policy.specs.Policy.{countOf, placeOf, sizeOk, fieldFits, policyOk}
 use Rattle.policy.specs.declared.Field.{Field}
 use Rattle.policy.specs.declared.Policy.{Policy}
 use Rattle.policy.specs.declared.Built.{Built}
-
--- accepted
-abbrev pub accepted : ℕ
-accepted = 0
-
--- "18 full"
-abbrev pub full : ℕ
-full = 18
-
--- "19 size"
-abbrev pub badSize : ℕ
-badSize = 19
-
--- "20 policy breaks a rule", "20 no such region", "20 any other rule"
-abbrev pub brokenRule : ℕ
-brokenRule = 20
 
 -- "empty": no regions, and 0 at every place
 abbrev pub emptyPolicy : Policy
@@ -82,24 +67,24 @@ unfoldable pub regionNumber : Policy → ℕ → ℕ
 regionNumber p size =
     cond (policyOk p)
     (cond (leb 8 (p .regions)) full
-    (cond (sizeOk size) accepted
+    (cond (sizeOk size) acceptance
     badSize))
-    brokenRule
+    badPolicy
 
 -- ".. add a field, 20 no such region, 18 full, 20 any other rule"
 unfoldable pub fieldNumber : Policy → ℕ → Field → ℕ
 fieldNumber p r f =
     cond (policyOk p)
-    (cond (leb (p .regions) r) brokenRule
+    (cond (leb (p .regions) r) badPolicy
     (cond (leb 16 (countOf p r)) full
-    (cond (fieldFits p r (countOf p r) f) accepted
-    brokenRule)))
-    brokenRule
+    (cond (fieldFits p r (countOf p r) f) acceptance
+    badPolicy)))
+    badPolicy
 
 -- the next policy; "A refusal gives back the policy given."
 unfoldable pub built : Policy → ℕ → Policy → Built
 built given number next =
-    cond (eqb number accepted) (record { policy = next; number = accepted }) (record { policy = given; number = number })
+    cond (eqb number acceptance) (record { policy = next; number = acceptance }) (record { policy = given; number = number })
 
 -- "add a region"
 abbrev pub addRegionOf : Policy → ℕ → Built

@@ -6,7 +6,8 @@ use mathlib.Core.Bool.{true}
 use lib.ListN.{length}
 use Rattle.policy.specs.Element.{nought, widthOf, leastOf, mostOf}
 use Rattle.policy.specs.Policy.{sizeOf, countOf, placeOf, fieldAt, fieldEnd, sizeOk, fieldFits, policyOk}
-use Rattle.policy.specs.Build.{emptyPolicy, accepted, regionNumber, fieldNumber, addRegionOf, addFieldOf}
+use Rattle.v8.specs.Numbers.{acceptance}
+use Rattle.policy.specs.Build.{emptyPolicy, regionNumber, fieldNumber, addRegionOf, addFieldOf}
 use Rattle.policy.specs.Find.{findField}
 use Rattle.policy.specs.declared.Field.{Field}
 use Rattle.policy.specs.declared.Policy.{Policy}
@@ -131,11 +132,11 @@ pub record FieldAccepted (p : Policy) (r : ℕ) (f : Field) : Type 0 where
 
 -- A region is accepted only so.
 abbrev pub AcceptsRegion : Type 0
-AcceptsRegion = (p : Policy) (size : ℕ) → regionNumber p size ≡ accepted → RegionAccepted p size
+AcceptsRegion = (p : Policy) (size : ℕ) → regionNumber p size ≡ acceptance → RegionAccepted p size
 
 -- A field is accepted only so.
 abbrev pub AcceptsField : Type 0
-AcceptsField = (p : Policy) (r : ℕ) (f : Field) → fieldNumber p r f ≡ accepted → FieldAccepted p r f
+AcceptsField = (p : Policy) (r : ℕ) (f : Field) → fieldNumber p r f ≡ acceptance → FieldAccepted p r f
 
 -- the lists are as long as the arrays that they stand for
 pub record Sized (p : Policy) : Type 0 where

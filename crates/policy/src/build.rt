@@ -10,15 +10,10 @@ use crate::Policy;
 use crate::form::end_before;
 use crate::form::field_follows;
 use crate::form::size_ok;
-
-// The add is accepted.
-pub const ACCEPTED: u8 = 0;
-// There is no room for one more region, or one more field in the region.
-pub const FULL: u8 = 18;
-// The region's size is none that is allowed.
-pub const BAD_SIZE: u8 = 19;
-// The policy handed in or the field to be added breaks a rule, or there is no such region.
-pub const BROKEN_RULE: u8 = 20;
+use v8::numbers::ACCEPTED;
+use v8::numbers::BAD_POLICY;
+use v8::numbers::BAD_SIZE;
+use v8::numbers::FULL;
 
 impl Policy {
     // The policy with no regions.
@@ -76,7 +71,7 @@ impl Policy {
         if self.regions <= region {
             return Built {
                 policy: self,
-                number: BROKEN_RULE,
+                number: BAD_POLICY,
             };
         }
         let r = region as usize;
@@ -97,7 +92,7 @@ impl Policy {
         if !field_follows(self.regions, self.sizes[r], end, f) {
             return Built {
                 policy: self,
-                number: BROKEN_RULE,
+                number: BAD_POLICY,
             };
         }
         let place = 16 * r + count as usize;
@@ -120,7 +115,7 @@ impl Policy {
     pub fn add_region(mut self, size: u16) -> Built
         ensures { λ r. ⌜ r ≡ addRegionOf self size ⌝ }
     {
-        let mut number = BROKEN_RULE;
+        let mut number = BAD_POLICY;
         if self.well_formed() {
             let built = self.push_region(size);
             self = built.policy;
@@ -137,7 +132,7 @@ impl Policy {
     pub fn add_field(mut self, region: u8, f: Field) -> Built
         ensures { λ r. ⌜ r ≡ addFieldOf self region f ⌝ }
     {
-        let mut number = BROKEN_RULE;
+        let mut number = BAD_POLICY;
         if self.well_formed() {
             let built = self.push_field(region, f);
             self = built.policy;

@@ -1,5 +1,5 @@
 -- Narrowing never drops what is there. The codes are those of the comparison, so a condition that holds says how the register's number
--- compares (alu's `narrows`); the sets' law keeps that number, and a kind 3 is 0 or its region's start.
+-- compares (alu's `narrows`); the sets' law keeps that number, and a kind 3 is 0 or its region's start. A row that is not narrowed stays.
 use Prim.Native.Nat.{ℕ, _+_, _-_, _<_}
 use mathlib.Core.Path.{_≡_, refl, sym, ap, _∙_, subst}
 use mathlib.Core.Logic.{_⊎_, ⊎-elim}
@@ -15,7 +15,7 @@ use Rattle.alu.specs.Codes.{codesOf}
 use Rattle.alu.specs.Condition.{condHolds, conditionOf, compares}
 use Rattle.alu.specs.declared.condition.Narrowing.{Narrowing}
 use Rattle.alu.specs.declared.condition.Narrowing.the-variants.{Unrelated, EqualTo, NotEqualTo, LessThan, AtLeast, AtMost, GreaterThan}
-use Rattle.alu.proofs.Conditions.{narrows}
+use Rattle.alu.proofs.Conditions as Conditions·
 use Rattle.sets.specs.declared.Narrowed.{Narrowed}
 use Rattle.sets.specs.declared.Narrowed.the-variants as Set·
 use Rattle.sets.specs.Sets.{nought, single, Member}
@@ -33,7 +33,7 @@ use Rattle.rows.proofs.Tests.{and-went, false-true, other-kind}
 use Rattle.rows.proofs.ByKind.{holds-number, holds-address, number-rules, address-rules, unset-rules}
 use Rattle.rules.specs.declared.Remainder.{Remainder}
 use Rattle.rules.specs.declared.Remainder.the-variants.{Left, Nothing}
-use Rattle.rules.specs.Narrow.{leftOf, narrowStart, narrowEntry, RowLeft, rowLeft, narrowRow}
+use Rattle.rules.specs.Narrow.{narrows, leftOf, narrowStart, narrowEntry, RowLeft, rowLeft, narrowRow}
 use Rattle.rules.specs.Laws.{LeftMatches, NarrowsRow}
 use Rattle.rules.proofs.Writes.{entry-after}
 
@@ -133,11 +133,12 @@ module _ (regions : ℕ) (sizes : List ℕ) (h : Host) (row : Row) (g : Held) (s
 pub narrows-row : NarrowsRow
 unfolding narrowRow
 narrows-row regions sizes h cnd row g small rules m holds =
-    cond-both (λ (x : RowLeft). LeftMatches regions sizes h x g) (isComparison (row .note))
+    cond-both (λ (x : RowLeft). LeftMatches regions sizes h x g) (narrows (conditionOf cnd .narrowing) && isComparison (row .note))
     (λ t. row-kept regions sizes h row g small rules m
     (narrowEntry (conditionOf cnd .narrowing) (entryAt row (row .note .register)) (row .note .number))
     (entry-kept regions sizes h row g small rules m (conditionOf cnd .narrowing) (entryAt row (row .note .register)) (row .note .number)
-    (rules .entries (row .note .register)) (m .entries (row .note .register)) (obeyed t)))
+    (rules .entries (row .note .register)) (m .entries (row .note .register))
+    (obeyed (and-went (narrows (conditionOf cnd .narrowing)) (isComparison (row .note)) t .1))))
     (λ _. (rules, m))
   where
     back : (n : ℕ) → n < 4294967296 → excess (excess n) ≡ n
@@ -146,7 +147,7 @@ narrows-row regions sizes h cnd row g small rules m holds =
     obeyed : isComparison (row .note) ≡ true → compares (conditionOf cnd .narrowing) (excess (g .value (row .note .register))) (row .note .number) true ≡ true
     obeyed t =
         let h₁ : condHolds cnd (codesOf Sub (g .value (row .note .register)) (excess (row .note .number))) ≡ true = rw (← m .note .compared t) holds in
-        let l = narrows cnd (g .value (row .note .register)) (excess (row .note .number)) (small (row .note .register)) (omega arith) in
+        let l = Conditions·.narrows cnd (g .value (row .note .register)) (excess (row .note .number)) (small (row .note .register)) (omega arith) in
         let k : compares (conditionOf cnd .narrowing) (excess (g .value (row .note .register))) (excess (excess (row .note .number))) true ≡ true =
         subst (λ (b : Bool). compares (conditionOf cnd .narrowing) (excess (g .value (row .note .register))) (excess (excess (row .note .number))) b ≡ true) h₁ (sym l ∙ h₁) in
         subst (λ (i : ℕ). compares (conditionOf cnd .narrowing) (excess (g .value (row .note .register))) i true ≡ true) (back (row .note .number) (rules .number)) k

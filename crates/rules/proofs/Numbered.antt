@@ -1,22 +1,25 @@
 -- A condition that is broken has a number: what refuses is no 0, which stands for acceptance.
 use Prim.Native.Nat.{ℕ}
 use mathlib.Core.Path.{_≡_, refl}
-use mathlib.Core.Bool.{false, cond, not, _&&_}
-use mathlib.Core.List.{List}
+use mathlib.Core.Bool.{Bool, false, not, _&&_}
+use mathlib.Core.List.{List, []}
 use lib.Dec.{leb, ltb, eqb}
 use Rattle.v8.specs.Choice.{cond-both}
 use Rattle.v8.specs.declared.AluOp.{AluOp}
 use Rattle.v8.specs.declared.AluOp.the-variants.{Add, And, Or, Xor, Sub, Andn, Orn, Xnor}
 use Rattle.v8.specs.declared.ShiftOp.{ShiftOp}
+use Rattle.v8.specs.declared.Access.{Access}
+use Rattle.v8.specs.declared.Access.the-variants.{Loads, Stores}
+use Rattle.v8.specs.declared.Operation.{Operation}
+use Rattle.v8.specs.declared.Operation.the-variants.{Sethi, Alu, Shift, Memory}
 use Rattle.v8.specs.declared.Instruction.{Instruction}
-use Rattle.v8.specs.declared.Instruction.the-variants.{Sethi, Bicc, Alu, Shift, Load, Store, Return}
+use Rattle.v8.specs.declared.Instruction.the-variants.{Plain, Branch, Return}
+use Rattle.flow.specs.Transfer.{readsCodes, link}
 use Rattle.policy.specs.declared.Policy.{Policy}
 use Rattle.policy.specs.declared.Found.{Found}
 use Rattle.policy.specs.declared.Found.the-variants as Found·
 use Rattle.policy.specs.Policy.{fieldAt}
 use Rattle.policy.specs.Find.{findField}
-use Rattle.access.specs.declared.Access.{Access}
-use Rattle.access.specs.declared.Access.the-variants.{Loads, Stores}
 use Rattle.access.specs.Serve.{accessWidth, serves, allows, addend}
 use Rattle.sets.specs.declared.NumberSet.{NumberSet}
 use Rattle.sets.specs.Sets.{nought}
@@ -26,6 +29,7 @@ use Rattle.rows.specs.declared.Note.{Note}
 use Rattle.rows.specs.declared.Row.{Row}
 use Rattle.rows.specs.Entry.{isUnset, isNumber, isAddress, isStartOrNull, isZero, isConstant, isReturn, fits, fieldEntry}
 use Rattle.rows.specs.Row.{entryAt}
+use Rattle.rules.specs.declared.Operands.{Operands}
 use Rattle.rules.specs.declared.Result.{Result}
 use Rattle.rules.specs.declared.Result.the-variants.{Gives, Fails}
 use Rattle.rules.specs.declared.Reach.{Reach}
@@ -34,7 +38,7 @@ use Rattle.rules.specs.declared.Change.{Change}
 use Rattle.rules.specs.declared.Change.the-variants.{Writes, Keeps, Breaks}
 use Rattle.rules.specs.Result.{isOr, constants, bothNumbers, offsetsGive, addressSum, addressDifference, addressRule, aluResult, shiftResult}
 use Rattle.rules.specs.Reach.{endOf, onGrid, inField, inFound, inRegion, reachOf}
-use Rattle.rules.specs.Change.{operandEntry, operandName, writing, aluChange, shiftChange, loaded, loadChange, stored, storeChange, branchChange, returnChange, changeOf}
+use Rattle.rules.specs.Change.{operandsOf, ifSet, writing, aluChange, shiftChange, stores, accessed, accessedAt, accessChange, operationChange, branchChange, returnChange, changeOf}
 
 -- what fails has a number
 abbrev Failing : Result → Type 0
@@ -121,35 +125,45 @@ writing-numbered : (rd rs1 : ℕ) (n : Note) (r : Result) → Failing r → Numb
 writing-numbered rd rs1 n (Gives e) f = tt
 writing-numbered rd rs1 n (Fails k) f = f
 
-loaded-numbered : (p : Policy) (n : Note) (rd : ℕ) (r : Reach) → Outlying r → Numbered (loaded p n rd r)
-loaded-numbered p n rd (Inside place) o = tt
-loaded-numbered p n rd (Outside k r) o = o
+accessed-numbered : (n : Note) (a : Access) (rd : ℕ) (e held : Entry) → Numbered (accessed n a rd e held)
+accessed-numbered n (Loads op) rd e held = tt
+accessed-numbered n (Stores op) rd e held = cond-both Numbered (fits e held) (λ _. tt) (λ _. refl)
 
-stored-numbered : (p : Policy) (rd : ℕ) (e : Entry) (r : Reach) → Outlying r → Numbered (stored p rd e r)
-stored-numbered p rd e (Inside place) o = cond-both Numbered (fits e (fieldEntry (fieldAt p place))) (λ _. tt) (λ _. refl)
-stored-numbered p rd e (Outside k r) o = o
+reached-numbered : (p : Policy) (n : Note) (a : Access) (rd : ℕ) (e : Entry) (r : Reach) → Outlying r → Numbered (accessedAt p n a rd e r)
+reached-numbered p n a rd e (Inside place) o = accessed-numbered n a rd e (fieldEntry (fieldAt p place))
+reached-numbered p n a rd e (Outside k r) o = o
 
-if-set : (r : ℕ) (e : Entry) (rest : Change) → Numbered rest → Numbered (cond (isUnset e) (Breaks 4 r) rest)
+if-set : (r : ℕ) (e : Entry) (rest : Change) → Numbered rest → Numbered (ifSet r e rest)
 if-set r e rest n = cond-both Numbered (isUnset e) (λ _. refl) (λ _. n)
 
+module _ (n : Note) (rd : ℕ) (o : Operands) where
+  if-both : (rest : Change) → Numbered rest → Numbered (ifSet (o .rs1) (o .first) (ifSet (o .rs2) (o .second) rest))
+  if-both rest k = if-set (o .rs1) (o .first) _ (if-set (o .rs2) (o .second) rest k)
+
+  alu-numbered : (sizes : List ℕ) (op : AluOp) (cc : Bool) → Numbered (aluChange sizes n op cc rd o)
+  unfolding aluChange
+  alu-numbered sizes op cc = if-both _ (writing-numbered rd (o .rs1) _ (aluResult sizes op (o .first) (o .second)) (alu-fails sizes (o .first) (o .second) op))
+
+  shift-numbered : (op : ShiftOp) → Numbered (shiftChange n op rd o)
+  unfolding shiftChange
+  shift-numbered op = if-both _ (writing-numbered rd (o .rs1) _ (shiftResult op (o .first) (o .second)) (shift-fails [] (o .first) (o .second) op))
+
+  access-numbered : (p : Policy) (a : Access) (e : Entry) → Numbered (accessChange p n a rd e o)
+  unfolding accessChange
+  access-numbered p a e =
+      if-both _
+      (cond-both Numbered (stores a && isUnset e) (λ _. refl)
+      λ _. reached-numbered p n a rd e (reachOf p a (o .rs1) (o .first) (o .rs2) (o .second)) (reach-outlies p a (o .rs1) (o .rs2) (o .first) (o .second)))
+
+pub operation-numbered : (p : Policy) (row : Row) (x : Operation) → Numbered (operationChange p row x)
+operation-numbered p row (Sethi rd imm22) = tt
+operation-numbered p row (Alu op cc rd rs1 x) = alu-numbered (row .note) rd (operandsOf row rs1 x) (p .sizes) op cc
+operation-numbered p row (Shift op rd rs1 x) = shift-numbered (row .note) rd (operandsOf row rs1 x) op
+operation-numbered p row (Memory a rd rs1 d) = access-numbered (row .note) rd (operandsOf row rs1 (addend d)) p a (entryAt row rd)
+
 pub change-numbered : (p : Policy) (row : Row) (x : Instruction) → Numbered (changeOf p row x)
-unfolding aluChange shiftChange loadChange storeChange branchChange returnChange
-change-numbered p row (Sethi rd imm22) = tt
-change-numbered p row (Bicc annul cnd d) =
-    cond-both Numbered (eqb (row .note .kind) 0 && not (eqb cnd 0) && not (eqb cnd 8)) (λ _. refl) (λ _. tt)
-change-numbered p row (Alu op cc rd rs1 x) =
-    if-set rs1 (entryAt row rs1) _ (if-set (operandName x) (operandEntry row x) _
-    (writing-numbered rd rs1 _ (aluResult (p .sizes) op (entryAt row rs1) (operandEntry row x)) (alu-fails (p .sizes) (entryAt row rs1) (operandEntry row x) op)))
-change-numbered p row (Shift op rd rs1 x) =
-    if-set rs1 (entryAt row rs1) _ (if-set (operandName x) (operandEntry row x) _
-    (writing-numbered rd rs1 _ (shiftResult op (entryAt row rs1) (operandEntry row x)) (shift-fails (p .sizes) (entryAt row rs1) (operandEntry row x) op)))
-change-numbered p row (Load op rd rs1 d) =
-    if-set rs1 (entryAt row rs1) _ (if-set (operandName (addend d)) (operandEntry row (addend d)) _
-    (loaded-numbered p (row .note) rd (reachOf p (Loads op) rs1 (entryAt row rs1) (operandName (addend d)) (operandEntry row (addend d)))
-    (reach-outlies p (Loads op) rs1 (operandName (addend d)) (entryAt row rs1) (operandEntry row (addend d)))))
-change-numbered p row (Store op rd rs1 d) =
-    if-set rs1 (entryAt row rs1) _ (if-set (operandName (addend d)) (operandEntry row (addend d)) _ (if-set rd (entryAt row rd) _
-    (stored-numbered p rd (entryAt row rd) (reachOf p (Stores op) rs1 (entryAt row rs1) (operandName (addend d)) (operandEntry row (addend d)))
-    (reach-outlies p (Stores op) rs1 (operandName (addend d)) (entryAt row rs1) (operandEntry row (addend d))))))
+unfolding branchChange returnChange
+change-numbered p row (Plain x) = operation-numbered p row x
+change-numbered p row (Branch b) = cond-both Numbered (eqb (row .note .kind) 0 && readsCodes (b .cond)) (λ _. refl) (λ _. tt)
 change-numbered p row Return =
-    if-set 15 (entryAt row 15) _ (cond-both Numbered (isReturn (entryAt row 15)) (λ _. tt) (λ _. refl))
+    if-set link (entryAt row link) _ (cond-both Numbered (isReturn (entryAt row link)) (λ _. tt) (λ _. refl))

@@ -1,15 +1,12 @@
--- What reads only a part of a policy gives the same for the part as for the whole; a load and a store are what the two have in common.
+-- What reads only a part of a policy gives the same for the part as for the whole.
 use Prim.Native.Nat.{ℕ, _-_}
 use mathlib.Core.Path.{_≡_, refl, sym, _∙_}
-use Rattle.v8.specs.declared.LoadOp.{LoadOp}
-use Rattle.v8.specs.declared.StoreOp.{StoreOp}
+use Rattle.v8.specs.declared.Access.{Access}
 use Rattle.policy.specs.declared.Policy.{Policy}
 use Rattle.policy.specs.declared.Found.{Found}
 use Rattle.policy.specs.declared.Found.the-variants.{At, Nothing}
 use Rattle.policy.specs.Policy.{fieldAt}
 use Rattle.policy.specs.Find.{findField}
-use Rattle.access.specs.declared.Access.{Access}
-use Rattle.access.specs.declared.Access.the-variants.{Loads, Stores}
 use Rattle.access.specs.Serve.{accessWidth}
 use Rattle.sets.specs.declared.NumberSet.{NumberSet}
 use Rattle.sets.specs.Sets.{nought}
@@ -20,8 +17,8 @@ use Rattle.rules.specs.declared.Operands.{Operands}
 use Rattle.rules.specs.declared.Reach.{Reach}
 use Rattle.rules.specs.declared.Reach.the-variants.{Inside, Outside}
 use Rattle.rules.specs.Reach.{endOf, inField, inFound, inRegion, reachOf}
-use Rattle.rules.specs.Change.{loaded, loadChange, stored, storeChange}
-use Rattle.rules.specs.Lent.{listsOf, placesOf, accessedAt, accessChange}
+use Rattle.rules.specs.Change.{accessedAt, accessChange}
+use Rattle.rules.specs.Lent.{listsOf, placesOf}
 
 -- where an access lies, by the five lists that say it
 module _ (p : Policy) (a : Access) (rs1 : ℕ) where
@@ -41,28 +38,19 @@ module _ (p : Policy) (a : Access) (rs1 : ℕ) where
   unfolding reachOf
   reach-part rs2 x y = rw (region-part (x .region) (addSets (x .set) (y .set)), region-part (y .region) (addSets (x .set) (y .set)))
 
--- a load and a store, by the eight lists of the fields
-module _ (p : Policy) (n : Note) (rd : ℕ) (e : Entry) where
+-- an access, by the eight lists of the fields
+module _ (p : Policy) (n : Note) (a : Access) (rd : ℕ) (e : Entry) where
   abbrev lists : Policy
   lists = listsOf p
 
-  reach-lists : (a : Access) (o : Operands) → reachOf lists a (o .rs1) (o .first) (o .rs2) (o .second) ≡ reachOf p a (o .rs1) (o .first) (o .rs2) (o .second)
-  reach-lists a o = sym (reach-part lists a (o .rs1) (o .rs2) (o .first) (o .second)) ∙ reach-part p a (o .rs1) (o .rs2) (o .first) (o .second)
-
-  loaded-part : (op : LoadOp) (r : Reach) → accessedAt lists n (Loads op) rd e r ≡ loaded p n rd r
+  accessed-part : (r : Reach) → accessedAt lists n a rd e r ≡ accessedAt p n a rd e r
   unfolding fieldAt
-  loaded-part op (Inside place) = refl
-  loaded-part op (Outside number r) = refl
+  accessed-part (Inside place) = refl
+  accessed-part (Outside number r) = refl
 
-  stored-part : (op : StoreOp) (r : Reach) → accessedAt lists n (Stores op) rd e r ≡ stored p rd e r
-  unfolding fieldAt
-  stored-part op (Inside place) = refl
-  stored-part op (Outside number r) = refl
+  reach-lists : (o : Operands) → reachOf lists a (o .rs1) (o .first) (o .rs2) (o .second) ≡ reachOf p a (o .rs1) (o .first) (o .rs2) (o .second)
+  reach-lists o = sym (reach-part lists a (o .rs1) (o .rs2) (o .first) (o .second)) ∙ reach-part p a (o .rs1) (o .rs2) (o .first) (o .second)
 
-  pub load-part : (op : LoadOp) (o : Operands) → accessChange lists n (Loads op) rd e o ≡ loadChange p n op rd (o .rs1) (o .first) (o .rs2) (o .second)
-  unfolding accessChange loadChange
-  load-part op o = rw (reach-lists (Loads op) o, loaded-part op (reachOf p (Loads op) (o .rs1) (o .first) (o .rs2) (o .second)))
-
-  pub store-part : (op : StoreOp) (o : Operands) → accessChange lists n (Stores op) rd e o ≡ storeChange p op rd e (o .rs1) (o .first) (o .rs2) (o .second)
-  unfolding accessChange storeChange
-  store-part op o = rw (reach-lists (Stores op) o, stored-part op (reachOf p (Stores op) (o .rs1) (o .first) (o .rs2) (o .second)))
+  pub access-part : (o : Operands) → accessChange lists n a rd e o ≡ accessChange p n a rd e o
+  unfolding accessChange
+  access-part o = rw (reach-lists o, accessed-part (reachOf p a (o .rs1) (o .first) (o .rs2) (o .second)))

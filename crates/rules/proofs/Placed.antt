@@ -4,12 +4,12 @@ use mathlib.Core.Path.{_≡_, refl, subst}
 use mathlib.Core.Bool.{not, _&&_}
 use lib.Dec.{ltb}
 use Rattle.v8.specs.Choice.{cond-both}
+use Rattle.v8.specs.declared.Access.{Access}
 use Rattle.policy.specs.declared.Policy.{Policy}
 use Rattle.policy.specs.declared.Found.{Found}
 use Rattle.policy.specs.declared.Found.the-variants as Found·
 use Rattle.policy.specs.Policy.{fieldAt}
 use Rattle.policy.specs.Find.{findField}
-use Rattle.access.specs.declared.Access.{Access}
 use Rattle.access.specs.Serve.{accessWidth, serves, allows}
 use Rattle.access.proofs.Places.{place-small}
 use Rattle.sets.specs.declared.NumberSet.{NumberSet}

@@ -11,6 +11,8 @@ use Rattle.v8.specs.Choice.{cond-both}
 use Rattle.v8.specs.declared.AluOp.the-variants.{Add}
 use Rattle.v8.specs.declared.LoadOp.the-variants.{Ld, Ldub, Lduh, Ldsb, Ldsh}
 use Rattle.v8.specs.declared.StoreOp.the-variants.{St, Stb, Sth}
+use Rattle.v8.specs.declared.Access.{Access}
+use Rattle.v8.specs.declared.Access.the-variants.{Loads, Stores}
 use Rattle.alu.specs.Result.{add32}
 use Rattle.policy.specs.declared.Policy.{Policy}
 use Rattle.policy.specs.declared.Field.{Field}
@@ -20,8 +22,6 @@ use Rattle.policy.specs.Policy.{sizeOf, placeOf, fieldAt, fieldEnd}
 use Rattle.policy.specs.Find.{findField}
 use Rattle.policy.specs.Laws.{WellFormed, FoundHere}
 use Rattle.policy.proofs.FoundField.{found-holds}
-use Rattle.access.specs.declared.Access.{Access}
-use Rattle.access.specs.declared.Access.the-variants.{Loads, Stores}
 use Rattle.access.specs.Serve.{accessWidth, serves, allows}
 use Rattle.sets.specs.declared.NumberSet.{NumberSet}
 use Rattle.sets.specs.Sets.{nought, Step, s1, s2, s4, SetRules, Member}

@@ -1,49 +1,43 @@
 -- What each word does to a row, or the first condition that it breaks, with the register named (document 01, "What each word does to a row"
 -- and "One word's conditions").
 use Prim.Native.Nat.{ℕ}
-use mathlib.Core.Bool.{Bool, cond, not, _&&_}
+use mathlib.Core.Bool.{Bool, true, false, cond, not, _&&_}
 use mathlib.Core.List.{List}
 use lib.Dec.{leb, eqb}
+use Rattle.v8.specs.Numbers.{unsetOperand, noRule, wrongValue}
 use Rattle.v8.specs.declared.AluOp.{AluOp}
 use Rattle.v8.specs.declared.ShiftOp.{ShiftOp}
-use Rattle.v8.specs.declared.LoadOp.{LoadOp}
-use Rattle.v8.specs.declared.StoreOp.{StoreOp}
 use Rattle.v8.specs.declared.Operand.{Operand}
 use Rattle.v8.specs.declared.Operand.the-variants.{Reg, Imm}
+use Rattle.v8.specs.declared.Access.{Access}
+use Rattle.v8.specs.declared.Access.the-variants.{Loads, Stores}
+use Rattle.v8.specs.declared.Operation.{Operation}
+use Rattle.v8.specs.declared.Operation.the-variants.{Sethi, Alu, Shift, Memory}
 use Rattle.v8.specs.declared.Instruction.{Instruction}
-use Rattle.v8.specs.declared.Instruction.the-variants.{Sethi, Bicc, Alu, Shift, Load, Store, Return}
+use Rattle.v8.specs.declared.Instruction.the-variants.{Plain, Branch, Return}
 use Rattle.alu.specs.Result.{sethiOf}
+use Rattle.flow.specs.Transfer.{readsCodes, link}
 use Rattle.policy.specs.declared.Policy.{Policy}
 use Rattle.policy.specs.Policy.{fieldAt}
-use Rattle.access.specs.declared.Access.the-variants.{Loads, Stores}
 use Rattle.access.specs.Serve.{addend}
 use Rattle.rows.specs.declared.Entry.{Entry}
 use Rattle.rows.specs.declared.Note.{Note}
 use Rattle.rows.specs.declared.Row.{Row}
+use Rattle.rows.specs.Entry.{isUnset, isConstant, isReturn, constant, fits, fieldEntry, isComparison, codesSet, comparison}
+use Rattle.rows.specs.Row.{entryAt}
+use Rattle.rules.specs.declared.Operands.{Operands}
 use Rattle.rules.specs.declared.Result.{Result}
 use Rattle.rules.specs.declared.Result.the-variants.{Gives, Fails}
 use Rattle.rules.specs.declared.Reach.{Reach}
 use Rattle.rules.specs.declared.Reach.the-variants.{Inside, Outside}
 use Rattle.rules.specs.declared.Change.{Change}
 use Rattle.rules.specs.declared.Change.the-variants.{Writes, Keeps, Breaks}
-use Rattle.rows.specs.Entry.{isUnset, isConstant, isReturn, constant, fits, fieldEntry, isComparison, codesSet, comparison}
-use Rattle.rows.specs.Row.{entryAt}
-use Rattle.rules.specs.Result.{isSub, noRule, aluResult, shiftResult}
+use Rattle.rules.specs.Result.{isSub, aluResult, shiftResult}
 use Rattle.rules.specs.Reach.{reachOf}
 
--- "4 operand unset"; "11 stored entry does not fit the element"; "32 for codes"
-abbrev pub unsetOperand : ℕ
-unsetOperand = 4
-
-abbrev pub wrongValue : ℕ
-wrongValue = 11
-
+-- "32 for codes"
 abbrev pub codesName : ℕ
 codesName = 32
-
--- r15, which the leaf return reads
-abbrev pub link : ℕ
-link = 15
 
 -- the entry of a second operand: an immediate is a single number
 abbrev pub operandEntry : Row → Operand → Entry
@@ -54,6 +48,10 @@ operandEntry row (Imm word) = constant word
 abbrev pub operandName : Operand → ℕ
 operandName (Reg r) = r
 operandName (Imm word) = 0
+
+-- the operands of a word in a row
+abbrev pub operandsOf : Row → ℕ → Operand → Operands
+operandsOf row rs1 x = record { rs1 = rs1; first = entryAt row rs1; rs2 = operandName x; second = operandEntry row x }
 
 -- "Writing the noted register turns note 2 into 1."
 unfoldable pub noteAfter : Note → ℕ → Note
@@ -72,33 +70,51 @@ abbrev pub writing : ℕ → Note → ℕ → Result → Change
 writing rd n rs1 (Gives e) = Writes rd e n
 writing rd n rs1 (Fails number) = Breaks number rs1
 
-unfoldable pub aluChange : List ℕ → Note → AluOp → Bool → ℕ → ℕ → Entry → ℕ → Entry → Change
-aluChange sizes n op cc rd rs1 a rs2 b =
-    ifSet rs1 a (ifSet rs2 b
-    (writing rd (cond cc (codesNote op rd rs1 b) (noteAfter n rd)) rs1 (aluResult sizes op a b)))
+-- arithmetic and logic on a word's operands, code-setting or not
+unfoldable pub aluChange : List ℕ → Note → AluOp → Bool → ℕ → Operands → Change
+aluChange sizes n op cc rd o =
+    ifSet (o .rs1) (o .first) (ifSet (o .rs2) (o .second)
+    (writing rd (cond cc (codesNote op rd (o .rs1) (o .second)) (noteAfter n rd)) (o .rs1) (aluResult sizes op (o .first) (o .second))))
 
-unfoldable pub shiftChange : Note → ShiftOp → ℕ → ℕ → Entry → ℕ → Entry → Change
-shiftChange n op rd rs1 a rs2 b = ifSet rs1 a (ifSet rs2 b (writing rd (noteAfter n rd) rs1 (shiftResult op a b)))
+-- a shift of the first operand by the second
+unfoldable pub shiftChange : Note → ShiftOp → ℕ → Operands → Change
+shiftChange n op rd o =
+    ifSet (o .rs1) (o .first) (ifSet (o .rs2) (o .second)
+    (writing rd (noteAfter n rd) (o .rs1) (shiftResult op (o .first) (o .second))))
 
--- "A load: the field's lo to hi, step 1; or start of the target; or kind 3."
-abbrev pub loaded : Policy → Note → ℕ → Reach → Change
-loaded p n rd (Inside place) = Writes rd (fieldEntry (fieldAt p place)) (noteAfter n rd)
-loaded p n rd (Outside number r) = Breaks number r
+-- the access is a store, and so reads rd
+abbrev pub stores : Access → Bool
+stores (Loads op) = false
+stores (Stores op) = true
 
-unfoldable pub loadChange : Policy → Note → LoadOp → ℕ → ℕ → Entry → ℕ → Entry → Change
-loadChange p n op rd rs1 a rs2 b = ifSet rs1 a (ifSet rs2 b (loaded p n rd (reachOf p (Loads op) rs1 a rs2 b)))
+-- an access of rd, whose entry is e, to an element that holds an entry: "A load: the field's lo to hi, step 1; or start of the target; or
+-- kind 3."; "11 stored entry does not fit the element, register rd"
+abbrev pub accessed : Note → Access → ℕ → Entry → Entry → Change
+accessed n (Loads op) rd e held = Writes rd held (noteAfter n rd)
+accessed n (Stores op) rd e held = cond (fits e held) Keeps (Breaks wrongValue rd)
 
--- "11 stored entry does not fit the element, register rd"
-abbrev pub stored : Policy → ℕ → Entry → Reach → Change
-stored p rd e (Inside place) = cond (fits e (fieldEntry (fieldAt p place))) Keeps (Breaks wrongValue rd)
-stored p rd e (Outside number r) = Breaks number r
+-- the same, by where the access lies
+abbrev pub accessedAt : Policy → Note → Access → ℕ → Entry → Reach → Change
+accessedAt p n a rd e (Inside place) = accessed n a rd e (fieldEntry (fieldAt p place))
+accessedAt p n a rd e (Outside number r) = Breaks number r
 
-unfoldable pub storeChange : Policy → StoreOp → ℕ → Entry → ℕ → Entry → ℕ → Entry → Change
-storeChange p op rd e rs1 a rs2 b = ifSet rs1 a (ifSet rs2 b (ifSet rd e (stored p rd e (reachOf p (Stores op) rs1 a rs2 b))))
+-- a load to rd, or a store of its entry e, at the sum of a word's operands
+unfoldable pub accessChange : Policy → Note → Access → ℕ → Entry → Operands → Change
+accessChange p n a rd e o =
+    ifSet (o .rs1) (o .first) (ifSet (o .rs2) (o .second)
+    (cond (stores a && isUnset e) (Breaks unsetOperand rd)
+    (accessedAt p n a rd e (reachOf p a (o .rs1) (o .first) (o .rs2) (o .second)))))
+
+-- what an operation does to a row
+abbrev pub operationChange : Policy → Row → Operation → Change
+operationChange p row (Sethi rd imm22) = Writes rd (constant (sethiOf imm22)) (noteAfter (row .note) rd)
+operationChange p row (Alu op cc rd rs1 x) = aluChange (p .sizes) (row .note) op cc rd (operandsOf row rs1 x)
+operationChange p row (Shift op rd rs1 x) = shiftChange (row .note) op rd (operandsOf row rs1 x)
+operationChange p row (Memory a rd rs1 d) = accessChange p (row .note) a rd (entryAt row rd) (operandsOf row rs1 (addend d))
 
 -- a branch reads the codes: "32 for codes, which always and never do not read"
 unfoldable pub branchChange : Note → ℕ → Change
-branchChange n cnd = cond (eqb (n .kind) 0 && not (eqb cnd 0) && not (eqb cnd 8)) (Breaks unsetOperand codesName) Keeps
+branchChange n cnd = cond (eqb (n .kind) 0 && readsCodes cnd) (Breaks unsetOperand codesName) Keeps
 
 -- "For the return: 6 if r15 isn't kind 4."
 unfoldable pub returnChange : Entry → Change
@@ -106,12 +122,6 @@ returnChange e = ifSet link e (cond (isReturn e) Keeps (Breaks noRule link))
 
 -- what a word does to a row
 abbrev pub changeOf : Policy → Row → Instruction → Change
-changeOf p row (Sethi rd imm22) = Writes rd (constant (sethiOf imm22)) (noteAfter (row .note) rd)
-changeOf p row (Bicc annul cnd d) = branchChange (row .note) cnd
-changeOf p row (Alu op cc rd rs1 x) = aluChange (p .sizes) (row .note) op cc rd rs1 (entryAt row rs1) (operandName x) (operandEntry row x)
-changeOf p row (Shift op rd rs1 x) = shiftChange (row .note) op rd rs1 (entryAt row rs1) (operandName x) (operandEntry row x)
-changeOf p row (Load op rd rs1 d) =
-    loadChange p (row .note) op rd rs1 (entryAt row rs1) (operandName (addend d)) (operandEntry row (addend d))
-changeOf p row (Store op rd rs1 d) =
-    storeChange p op rd (entryAt row rd) rs1 (entryAt row rs1) (operandName (addend d)) (operandEntry row (addend d))
+changeOf p row (Plain x) = operationChange p row x
+changeOf p row (Branch b) = branchChange (row .note) (b .cond)
 changeOf p row Return = returnChange (entryAt row link)

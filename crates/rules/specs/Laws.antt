@@ -8,13 +8,13 @@ use mathlib.Core.List.{List}
 use lib.ListN.{getD}
 use Rattle.v8.specs.declared.AluOp.{AluOp}
 use Rattle.v8.specs.declared.ShiftOp.{ShiftOp}
+use Rattle.v8.specs.declared.Access.{Access}
 use Rattle.alu.specs.Result.{add32, aluOf, shiftOf}
 use Rattle.alu.specs.Codes.{codesOf}
 use Rattle.alu.specs.Condition.{condHolds, conditionOf}
 use Rattle.policy.specs.declared.Policy.{Policy}
 use Rattle.policy.specs.Policy.{sizeOf, countOf, placeOf, fieldAt, fieldEnd}
 use Rattle.policy.specs.Laws.{WellFormed}
-use Rattle.access.specs.declared.Access.{Access}
 use Rattle.access.specs.Serve.{accessWidth, serves, allows}
 use Rattle.rows.specs.declared.Entry.{Entry}
 use Rattle.rows.specs.declared.Note.{Note}

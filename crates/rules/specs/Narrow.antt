@@ -1,7 +1,7 @@
 -- What a branch leaves of a row (document 01, "A branch with note 2 narrows a noted number .. to the members that obey it .. a kind 3
 -- compared with 0 becomes single 0 or the start on 1 and 9").
 use Prim.Native.Nat.{ℕ}
-use mathlib.Core.Bool.{cond, _&&_}
+use mathlib.Core.Bool.{Bool, true, false, cond, _&&_}
 use lib.Dec.{eqb}
 use Rattle.alu.specs.declared.condition.Narrowing.{Narrowing}
 use Rattle.alu.specs.declared.condition.Narrowing.the-variants.{Unrelated, EqualTo, NotEqualTo, LessThan, AtLeast, AtMost, GreaterThan}
@@ -15,6 +15,16 @@ use Rattle.rules.specs.declared.Remainder.{Remainder}
 use Rattle.rules.specs.declared.Remainder.the-variants.{Left, Nothing}
 use Rattle.rows.specs.Entry.{isNumber, isStartOrNull, isComparison, numberIn, constant, startOf}
 use Rattle.rows.specs.Row.{entryAt, rowWith}
+
+-- a condition of this class says how the numbers compare: "narrows .. on conditions 1, 2, 3, 9, 10, 11"
+abbrev pub narrows : Narrowing → Bool
+narrows Unrelated = false
+narrows EqualTo = true
+narrows NotEqualTo = true
+narrows LessThan = true
+narrows AtLeast = true
+narrows AtMost = true
+narrows GreaterThan = true
 
 -- what is left of a number
 abbrev pub leftOf : Narrowed → Remainder
@@ -50,5 +60,5 @@ rowLeft row Nothing = nothing
 -- what a condition of this class leaves of a row; narrowing is no write, so the note stays
 unfoldable pub narrowRow : Narrowing → Row → RowLeft
 narrowRow c row =
-    cond (isComparison (row .note)) (rowLeft row (narrowEntry c (entryAt row (row .note .register)) (row .note .number)))
+    cond (narrows c && isComparison (row .note)) (rowLeft row (narrowEntry c (entryAt row (row .note .register)) (row .note .number)))
     (left row)

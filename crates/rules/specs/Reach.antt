@@ -3,12 +3,13 @@
 use Prim.Native.Nat.{ℕ, _+_, _-_, _%_}
 use mathlib.Core.Bool.{Bool, cond, not, _&&_}
 use lib.Dec.{ltb, eqb}
+use Rattle.v8.specs.Numbers.{maybeNull, noRule, outsideFields, wrongElement, offGrid, notAllowed, tooHigh}
+use Rattle.v8.specs.declared.Access.{Access}
 use Rattle.policy.specs.declared.Policy.{Policy}
 use Rattle.policy.specs.declared.Found.{Found}
 use Rattle.policy.specs.declared.Found.the-variants as Found·
 use Rattle.policy.specs.Policy.{fieldAt}
 use Rattle.policy.specs.Find.{findField}
-use Rattle.access.specs.declared.Access.{Access}
 use Rattle.access.specs.Serve.{accessWidth, serves, allows}
 use Rattle.sets.specs.declared.NumberSet.{NumberSet}
 use Rattle.sets.specs.Sets.{nought}
@@ -17,26 +18,6 @@ use Rattle.rows.specs.declared.Entry.{Entry}
 use Rattle.rules.specs.declared.Reach.{Reach}
 use Rattle.rules.specs.declared.Reach.the-variants.{Inside, Outside}
 use Rattle.rows.specs.Entry.{isNumber, isAddress, isStartOrNull}
-use Rattle.rules.specs.Result.{noRule}
-
--- the conditions' numbers
-abbrev pub maybeNull : ℕ
-maybeNull = 5
-
-abbrev pub outsideFields : ℕ
-outsideFields = 7
-
-abbrev pub wrongElement : ℕ
-wrongElement = 8
-
-abbrev pub offGrid : ℕ
-offGrid = 9
-
-abbrev pub notAllowed : ℕ
-notAllowed = 10
-
-abbrev pub tooHigh : ℕ
-tooHigh = 13
 
 -- the end of the bytes reached, "from lowest to highest offset plus width"
 abbrev pub endOf : NumberSet → ℕ → ℕ

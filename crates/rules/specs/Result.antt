@@ -3,6 +3,7 @@ use Prim.Native.Nat.{ℕ, _+_, _%_}
 use mathlib.Core.Bool.{Bool, true, false, cond, _&&_}
 use mathlib.Core.List.{List}
 use lib.Dec.{leb}
+use Rattle.v8.specs.Numbers.{noRule, outsideRegion}
 use Rattle.v8.specs.declared.AluOp.{AluOp}
 use Rattle.v8.specs.declared.AluOp.the-variants.{Add, And, Or, Xor, Sub, Andn, Orn, Xnor}
 use Rattle.v8.specs.declared.ShiftOp.{ShiftOp}
@@ -14,13 +15,6 @@ use Rattle.rows.specs.declared.Entry.{Entry}
 use Rattle.rules.specs.declared.Result.{Result}
 use Rattle.rules.specs.declared.Result.the-variants.{Gives, Fails}
 use Rattle.rows.specs.Entry.{isNumber, isAddress, isStartOrNull, isZero, isConstant, wordOf, constant, numberIn, addressIn, sizeIn}
-
--- "6 kinds with no rule"; "16 result offset below 0 or above size"
-abbrev pub noRule : ℕ
-noRule = 6
-
-abbrev pub outsideRegion : ℕ
-outsideRegion = 16
 
 -- both operands are single numbers, both are numbers
 abbrev pub constants : Entry → Entry → Bool

@@ -3,14 +3,16 @@
 use rows::Entry;
 use rows::Note;
 
-// The conditions' numbers.
-mod conditions;
 // What an instruction makes of its operands.
 mod results;
 // Where an access lies.
 mod reaching;
 // The operands of a word.
 mod operand;
+// The notes that words leave.
+mod notes;
+// Loads and stores.
+mod accessing;
 // What each word does to a row.
 mod changes;
 // What a comparison leaves of an entry.
@@ -18,6 +20,7 @@ mod narrowing;
 
 pub use changes::change_of;
 pub use narrowing::narrow_entry;
+pub use narrowing::narrows;
 
 // The operands of a word: the registers that it names, and their entries.
 pub struct Operands {

@@ -1,6 +1,6 @@
 // What a comparison leaves of an entry (specs/Narrow.antt).
 ghost use mathlib.Core.Path.{_≡_};
-ghost use Rattle.rules.specs.Narrow.{leftOf, narrowStart, narrowEntry};
+ghost use Rattle.rules.specs.Narrow.{narrows, leftOf, narrowStart, narrowEntry};
 use crate::Remainder;
 use alu::Narrowing;
 use policy::element::NOUGHT;
@@ -12,6 +12,21 @@ use rows::entries::number_in;
 use rows::entries::region_start;
 use sets::Narrowed;
 use sets::narrow_set;
+
+// Whether a condition of this class says how the numbers compare.
+pub fn narrows(class: Narrowing) -> bool
+    ensures { λ r. ⌜ r ≡ narrows class ⌝ }
+{
+    match class {
+        Narrowing::Unrelated => false,
+        Narrowing::EqualTo => true,
+        Narrowing::NotEqualTo => true,
+        Narrowing::LessThan => true,
+        Narrowing::AtLeast => true,
+        Narrowing::AtMost => true,
+        Narrowing::GreaterThan => true,
+    }
+}
 
 // What is left of a number.
 fn left_of(left: Narrowed) -> Remainder

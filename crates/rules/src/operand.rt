@@ -1,6 +1,6 @@
-// The operands of a word: the registers that it names, and their entries (specs/Lent.antt).
+// The operands of a word: the registers that it names, and their entries (specs/Change.antt).
 ghost use mathlib.Core.Path.{_≡_};
-ghost use Rattle.rules.specs.Lent.{operandsOf};
+ghost use Rattle.rules.specs.Change.{operandsOf};
 use crate::Operands;
 use rows::Row;
 use rows::entries::constant;

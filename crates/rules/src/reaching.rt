@@ -8,14 +8,6 @@ ghost use Rattle.rules.specs.Reach.{endOf, onGrid, inField, inRegion, re
 ghost use Rattle.rules.specs.Lent.{rightsOf, placesOf};
 use crate::Operands;
 use crate::Reach;
-use crate::conditions::MAYBE_NULL;
-use crate::conditions::NO_RULE;
-use crate::conditions::NOT_ALLOWED;
-use crate::conditions::OFF_GRID;
-use crate::conditions::OUTSIDE_FIELDS;
-use crate::conditions::TOO_HIGH;
-use crate::conditions::WRONG_ELEMENT;
-use access::Access;
 use access::allowed;
 use access::serves_element;
 use access::width_of;
@@ -27,7 +19,15 @@ use rows::entries::NUMBER;
 use rows::entries::START_OR_NULL;
 use sets::NumberSet;
 use sets::add_sets;
+use v8::Access;
 use v8::ByteOffset;
+use v8::numbers::MAYBE_NULL;
+use v8::numbers::NO_RULE;
+use v8::numbers::NOT_ALLOWED;
+use v8::numbers::OFF_GRID;
+use v8::numbers::OUTSIDE_FIELDS;
+use v8::numbers::TOO_HIGH;
+use v8::numbers::WRONG_ELEMENT;
 
 // The offset whose excess form is n; 0 for a negative one.
 fn offset_of(n: u32) -> u32

@@ -4,8 +4,6 @@ ghost use mathlib.Core.Path.{_≡_};
 ghost use Rattle.rows.specs.Entry.{wordOf};
 ghost use Rattle.rules.specs.Result.{constants, bothNumbers, offsetsGive, addressSum, addressDifference, addressRule, isOr, isSub, aluResult, shiftResult};
 use crate::Result;
-use crate::conditions::NO_RULE;
-use crate::conditions::OUTSIDE_REGION;
 use alu::alu;
 use alu::shift;
 use policy::element::NOUGHT;
@@ -28,6 +26,8 @@ use sets::shift_set;
 use sets::sub_sets;
 use v8::AluOp;
 use v8::ShiftOp;
+use v8::numbers::NO_RULE;
+use v8::numbers::OUTSIDE_REGION;
 
 // The word of a single number.
 fn word_of(e: Entry) -> u32

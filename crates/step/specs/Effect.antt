@@ -1,4 +1,4 @@
--- V8's effect of each instruction that is no transfer on registers, codes and memory, or the first fault in document 01's order: 102
+-- V8's effect of each operation on registers, codes and memory, or the first fault in document 01's order: 102
 -- unset read, 104 unaligned, 103 not inside one field of matching element and permission. "A faulting step changes nothing."
 use Prim.Native.Nat.{ℕ, _+_, _%_}
 use mathlib.Core.Bool.{Bool, true, cond, _&&_}
@@ -6,15 +6,16 @@ use mathlib.Core.List.{List}
 use lib.Dec.{eqb}
 use Rattle.v8.specs.declared.AluOp.{AluOp}
 use Rattle.v8.specs.declared.ShiftOp.{ShiftOp}
-use Rattle.v8.specs.declared.LoadOp.{LoadOp}
-use Rattle.v8.specs.declared.StoreOp.{StoreOp}
 use Rattle.v8.specs.declared.Operand.{Operand}
 use Rattle.v8.specs.declared.Displacement.{Displacement}
-use Rattle.v8.specs.declared.Instruction.{Instruction}
-use Rattle.v8.specs.declared.Instruction.the-variants.{Sethi, Bicc, Alu, Shift, Load, Store, Return}
+use Rattle.v8.specs.declared.Access.{Access}
+use Rattle.v8.specs.declared.Access.the-variants.{Loads, Stores}
+use Rattle.v8.specs.declared.Operation.{Operation}
+use Rattle.v8.specs.declared.Operation.the-variants.{Sethi, Alu, Shift, Memory}
+use Rattle.v8.specs.Numbers.{unsetRead, noField, unaligned}
 use Rattle.alu.specs.Result.{add32, aluOf, shiftOf, sethiOf}
 use Rattle.alu.specs.Codes.{codesOf}
-use Rattle.memory.specs.Memory.{loadOf, loadWidth, storeOf, storeWidth}
+use Rattle.memory.specs.Memory.{loadOf, storeOf}
 use Rattle.memory.specs.Place.{startOf}
 use Rattle.step.specs.declared.Registers.{Registers}
 use Rattle.step.specs.declared.Aim.{Aim}
@@ -22,27 +23,9 @@ use Rattle.step.specs.declared.Aim.the-variants.{Address, Missed}
 use Rattle.access.specs.declared.Located.{Located}
 use Rattle.access.specs.declared.Located.the-variants.{At, Nowhere}
 use Rattle.step.specs.Registers.{valueIn, setIn, operandIn, operandSetIn, valueOf, isSet, written, withCodes, operandValue, operandSet}
-use Rattle.access.specs.declared.Access.the-variants.{Loads, Stores}
-use Rattle.access.specs.Serve.{addend}
+use Rattle.access.specs.Serve.{accessWidth, addend}
 use Rattle.access.specs.Layout.{Layout}
 use Rattle.access.specs.Locate.{locate}
-
--- the faults' numbers: "101 word outside, unread, or a transfer in a slot; 102 unset read; 104 unaligned, r15 at a return too; 103
--- not inside one field of matching element and permission; 105 return when r15 isn't the return address"
-abbrev pub noWord : ℕ
-noWord = 101
-
-abbrev pub unsetRead : ℕ
-unsetRead = 102
-
-abbrev pub outsideField : ℕ
-outsideField = 103
-
-abbrev pub unaligned : ℕ
-unaligned = 104
-
-abbrev pub wrongReturn : ℕ
-wrongReturn = 105
 
 -- what instructions work on: registers and codes, and the lent memory
 pub record Core : Type 0 where
@@ -93,37 +76,31 @@ aimIn values marks others rs1 d width =
 abbrev pub aimOf : Registers → Bool → ℕ → Displacement → ℕ → Aim
 aimOf g others rs1 d width = aimIn (g .values) (g .marks) others rs1 d width
 
--- a load where it lies: its register is written
-abbrev pub loadAt : List ℕ → Core → LoadOp → ℕ → Located → Effect
-loadAt sizes c op rd (At r offset) = keeping c (written (c .registers) rd (loadOf op (c .memory) (startOf sizes r + offset .0)))
-loadAt sizes c op rd Nowhere = fault outsideField
+-- whether what an access moves is set: a store reads its register, a load reads no other
+abbrev pub movedSet : List Bool → Access → ℕ → Bool
+movedSet marks (Loads op) rd = true
+movedSet marks (Stores op) rd = setIn marks rd
 
-abbrev pub loadAimed : Layout → Core → LoadOp → ℕ → Aim → Effect
-loadAimed l c op rd (Address a) = loadAt (l .sizes) c op rd (locate l (Loads op) a)
-loadAimed l c op rd (Missed n) = fault n
+-- an access to a place of the lent memory: a load writes its register; "A store is written into that region's part of the lent memory"
+abbrev pub touching : Core → Access → ℕ → ℕ → Effect
+touching c (Loads op) rd place = keeping c (written (c .registers) rd (loadOf op (c .memory) place))
+touching c (Stores op) rd place = done (record { registers = c .registers; memory = storeOf op (valueOf (c .registers) rd) place (c .memory) })
 
-abbrev pub loadEffect : Layout → Core → LoadOp → ℕ → ℕ → Displacement → Effect
-loadEffect l c op rd rs1 d = loadAimed l c op rd (aimOf (c .registers) true rs1 d (loadWidth op))
+-- an access where it lies
+abbrev pub accessAt : List ℕ → Core → Access → ℕ → Located → Effect
+accessAt sizes c a rd (At r offset) = touching c a rd (startOf sizes r + offset .0)
+accessAt sizes c a rd Nowhere = fault noField
 
--- a store where it lies: "A store is written into that region's part of the lent memory"
-abbrev pub storeAt : List ℕ → Core → StoreOp → ℕ → Located → Effect
-storeAt sizes c op rd (At r offset) =
-    done (record { registers = c .registers; memory = storeOf op (valueOf (c .registers) rd) (startOf sizes r + offset .0) (c .memory) })
-storeAt sizes c op rd Nowhere = fault outsideField
+abbrev pub accessAimed : Layout → Core → Access → ℕ → Aim → Effect
+accessAimed l c a rd (Address address) = accessAt (l .sizes) c a rd (locate l a address)
+accessAimed l c a rd (Missed n) = fault n
 
-abbrev pub storeAimed : Layout → Core → StoreOp → ℕ → Aim → Effect
-storeAimed l c op rd (Address a) = storeAt (l .sizes) c op rd (locate l (Stores op) a)
-storeAimed l c op rd (Missed n) = fault n
+abbrev pub accessEffect : Layout → Core → Access → ℕ → ℕ → Displacement → Effect
+accessEffect l c a rd rs1 d = accessAimed l c a rd (aimOf (c .registers) (movedSet (c .registers .marks) a rd) rs1 d (accessWidth a))
 
-abbrev pub storeEffect : Layout → Core → StoreOp → ℕ → ℕ → Displacement → Effect
-storeEffect l c op rd rs1 d = storeAimed l c op rd (aimOf (c .registers) (isSet (c .registers) rd) rs1 d (storeWidth op))
-
--- the effect of an instruction that is no transfer; transfers are control's (Step)
-abbrev pub effectOf : Layout → Core → Instruction → Effect
+-- the effect of an operation
+abbrev pub effectOf : Layout → Core → Operation → Effect
 effectOf l c (Sethi rd imm22) = sethiEffect c rd imm22
-effectOf l c (Bicc annul cnd d) = fault noWord
 effectOf l c (Alu op cc rd rs1 x) = aluEffect c op cc rd rs1 x
 effectOf l c (Shift op rd rs1 x) = shiftEffect c op rd rs1 x
-effectOf l c (Load op rd rs1 d) = loadEffect l c op rd rs1 d
-effectOf l c (Store op rd rs1 d) = storeEffect l c op rd rs1 d
-effectOf l c Return = fault noWord
+effectOf l c (Memory a rd rs1 d) = accessEffect l c a rd rs1 d

@@ -1,6 +1,6 @@
 pub mod Registers
 pub mod Setting
-pub mod Transfer
+pub mod Control
 pub mod Effect
 pub mod Step
 pub mod Lent

@@ -1,21 +1,27 @@
 -- One step of the machine (document 01: "A step runs one instruction; a skipped slot is no step"). It fetches the word that control
 -- stands at, and gives the fault that it stops with, the next state, or that the run has returned.
-use Prim.Native.Nat.{ℕ, _+_, _%_}
-use mathlib.Core.Bool.{Bool, cond, not, _&&_}
+use Prim.Native.Nat.{ℕ, _%_}
+use mathlib.Core.Bool.{Bool, true, cond, not, _&&_}
 use lib.Dec.{eqb}
+use Rattle.v8.specs.Numbers.{noWord, unsetRead, unaligned, wrongReturn}
+use Rattle.v8.specs.declared.Bicc.{Bicc}
 use Rattle.v8.specs.declared.Instruction.{Instruction}
-use Rattle.v8.specs.declared.Instruction.the-variants.{Sethi, Bicc, Alu, Shift, Load, Store, Return}
+use Rattle.v8.specs.declared.Instruction.the-variants.{Plain, Branch, Return}
 use Rattle.v8.specs.declared.Reading.{Reading}
 use Rattle.v8.specs.declared.Reading.the-variants.{Read, Unread}
 use Rattle.alu.specs.Condition.{condHolds}
-use Rattle.step.specs.declared.Pending.{Pending}
-use Rattle.step.specs.declared.Pending.the-variants.{Nothing, Jump, Leave}
+use Rattle.flow.specs.declared.Destination.{Destination}
+use Rattle.flow.specs.declared.Destination.the-variants.{To, Caller}
+use Rattle.flow.specs.declared.Edge.{Edge}
+use Rattle.flow.specs.Transfer.{isTransfer, readsCodes, link}
+use Rattle.flow.specs.Edge.{edgeOf}
+use Rattle.flow.specs.Readings.{readingAt}
+use Rattle.access.specs.Layout.{Layout}
 use Rattle.step.specs.declared.Control.{Control}
 use Rattle.step.specs.Registers.{valueOf, isSet}
-use Rattle.access.specs.Layout.{Layout}
-use Rattle.step.specs.Setting.{Setting, readingAt}
-use Rattle.step.specs.Transfer.{isTransfer, readsCodes, afterBranch, afterReturn, goTo, inSlot}
-use Rattle.step.specs.Effect.{Core, Effect, fault, done, effectOf, noWord, unsetRead, unaligned, wrongReturn}
+use Rattle.step.specs.Setting.{Setting}
+use Rattle.step.specs.Control.{goTo, atSlot, inSlot, dueAt}
+use Rattle.step.specs.Effect.{Core, Effect, fault, done, effectOf}
 
 -- a state of the machine: where control stands, and what instructions work on
 pub record State : Type 0 where
@@ -28,29 +34,29 @@ pub data Step : Type 0 where
   next : State → Step
   returned : Core → Step
 
--- control moves on past the word at an index: to the next word, to where the transfer before it goes, or out
-abbrev pub advance : ℕ → Core → Pending → Step
-advance at c Nothing = next (record { control = goTo (at + 1); core = c })
-advance at c (Jump w) = next (record { control = goTo (w .0); core = c })
-advance at c Leave = returned c
+-- control goes to a word, or out
+abbrev pub advance : Core → Destination → Step
+advance c (To w) = next (record { control = goTo (w .0); core = c })
+advance c Caller = returned c
 
--- a step of an instruction that is no transfer
+-- control leaves the transfer at an index for a destination, over the slot if that runs
+abbrev pub depart : ℕ → Bool → Destination → Core → Step
+depart at slot d c = cond slot (next (record { control = atSlot at d; core = c })) (advance c d)
+
+-- .. as an edge says
+abbrev pub follow : ℕ → Edge → Core → Step
+follow at e c = depart at (e .slot) (e .to) c
+
+-- a step of an operation
 abbrev pub plainStep : Control → Effect → Step
 plainStep k (fault n) = stopped n
-plainStep k (done c) = advance (k .at .0) c (k .pending)
+plainStep k (done c) = advance c (dueAt (k .at .0) (k .pending))
 
--- a branch: its codes read if its condition reads them, then control moves
-abbrev pub branchStep : State → Bool → ℕ → ℕ → Step
-branchStep st annul cnd distance =
-    cond (readsCodes cnd && not (st .core .registers .coded)) (stopped unsetRead)
-    (next (record {
-      control = afterBranch (st .control .at .0) annul cnd distance (condHolds cnd (st .core .registers .codes));
-      core = st .core;
-    }))
-
--- r15, where the leaf return finds the return address
-abbrev pub link : ℕ
-link = 15
+-- a branch: its codes read if its condition reads them, then control takes the edge that they decide
+abbrev pub branchStep : State → Bicc → Step
+branchStep st b =
+    cond (readsCodes (b .cond) && not (st .core .registers .coded)) (stopped unsetRead)
+    (follow (st .control .at .0) (edgeOf (st .control .at .0) (Branch b) (condHolds (b .cond) (st .core .registers .codes))) (st .core))
 
 -- the leaf return: 102, 104, 105 in order
 abbrev pub returnStep : ℕ → State → Step
@@ -58,24 +64,20 @@ returnStep returns st =
     cond (isSet (st .core .registers) link)
     (cond (eqb (valueOf (st .core .registers) link % 4) 0)
     (cond (eqb (valueOf (st .core .registers) link) returns)
-    (next (record { control = afterReturn (st .control .at .0); core = st .core }))
+    (follow (st .control .at .0) (edgeOf (st .control .at .0) Return true) (st .core))
     (stopped wrongReturn))
     (stopped unaligned))
     (stopped unsetRead)
 
--- a step of an instruction outside a slot, or of one that is no transfer in a slot
+-- a step of an instruction outside a slot, or of an operation in one
 abbrev pub execute : Layout → ℕ → State → Instruction → Step
-execute l returns st (Sethi rd imm22) = plainStep (st .control) (effectOf l (st .core) (Sethi rd imm22))
-execute l returns st (Bicc annul cnd d) = branchStep st annul cnd (d .0)
-execute l returns st (Alu op cc rd rs1 x) = plainStep (st .control) (effectOf l (st .core) (Alu op cc rd rs1 x))
-execute l returns st (Shift op rd rs1 x) = plainStep (st .control) (effectOf l (st .core) (Shift op rd rs1 x))
-execute l returns st (Load op rd rs1 d) = plainStep (st .control) (effectOf l (st .core) (Load op rd rs1 d))
-execute l returns st (Store op rd rs1 d) = plainStep (st .control) (effectOf l (st .core) (Store op rd rs1 d))
+execute l returns st (Plain x) = plainStep (st .control) (effectOf l (st .core) x)
+execute l returns st (Branch b) = branchStep st b
 execute l returns st Return = returnStep returns st
 
 -- "101 word outside, unread, or a transfer in a slot"
 abbrev pub stepWith : Layout → ℕ → State → Reading → Step
-stepWith l returns st Unread = stopped noWord
+stepWith l returns st (Unread n) = stopped noWord
 stepWith l returns st (Read x) = cond (inSlot (st .control .pending) && isTransfer x) (stopped noWord) (execute l returns st x)
 
 -- one step

@@ -1,12 +1,12 @@
 // Instructions that change registers and codes alone.
 ghost use Prim.Native.Nat.{_<_};
+ghost use Rattle.v8.specs.Numbers.{mostWords};
 ghost use Rattle.step.specs.Effect.{aluEffect, shiftEffect, sethiEffect};
 ghost use Rattle.step.specs.Lent.{Computes};
 use crate::Control;
 use crate::Went;
-use crate::flow::UNSET_READ;
-use crate::flow::move_on;
-use crate::flow::stop;
+use crate::moving::move_on;
+use crate::moving::stop;
 use crate::regs::operand;
 use crate::regs::register;
 use crate::regs::write;
@@ -18,6 +18,7 @@ use alu::shift;
 use v8::AluOp;
 use v8::Operand;
 use v8::ShiftOp;
+use v8::numbers::UNSET_READ;
 
 // Arithmetic and logic: 102 where an operand is unset.
 pub fn step_alu(
@@ -32,7 +33,7 @@ pub fn step_alu(
     rs1: u8,
     x: Operand,
 ) -> Went
-    requires { ⌜ control .at .0 < 128 ⌝ }
+    requires { ⌜ control .at .0 < mostWords ⌝ }
     ensures { λ r. ⌜ Computes r (now (values .exit)) (now (marks .exit)) (now (values .entry)) (now (marks .entry)) codes coded control (λ c. aluEffect c op cc rd rs1 x) ⌝ }
 {
     let left = register(values, marks, rs1);
@@ -60,7 +61,7 @@ pub fn step_shift(
     rs1: u8,
     x: Operand,
 ) -> Went
-    requires { ⌜ control .at .0 < 128 ⌝ }
+    requires { ⌜ control .at .0 < mostWords ⌝ }
     ensures { λ r. ⌜ Computes r (now (values .exit)) (now (marks .exit)) (now (values .entry)) (now (marks .entry)) codes coded control (λ c. shiftEffect c op rd rs1 x) ⌝ }
 {
     let left = register(values, marks, rs1);
@@ -83,7 +84,7 @@ pub fn step_sethi(
     rd: u8,
     imm22: u32,
 ) -> Went
-    requires { ⌜ control .at .0 < 128 ⌝ }
+    requires { ⌜ control .at .0 < mostWords ⌝ }
     ensures { λ r. ⌜ Computes r (now (values .exit)) (now (marks .exit)) (now (values .entry)) (now (marks .entry)) codes coded control (λ c. sethiEffect c rd imm22) ⌝ }
 {
     write(values, marks, rd, sethi(imm22));

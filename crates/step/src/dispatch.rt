@@ -2,92 +2,50 @@
 ghost use mathlib.Core.Path.{_≡_};
 ghost use Prim.Native.Nat.{_<_, _≤_};
 ghost use lib.ListN.{length};
-ghost use Rattle.step.specs.Transfer.{isTransfer, inSlot};
+ghost use Rattle.v8.specs.Numbers.{mostWords};
+ghost use Rattle.step.specs.Effect.{effectOf};
 ghost use Rattle.step.specs.Step.{execute, stepWith};
-ghost use Rattle.step.specs.Lent.{coreOf, leaving, wentOf, layoutFrom, Runs, Within, Covers, requestOf, AsksNothing};
+ghost use Rattle.step.specs.Lent.{coreOf, leaving, wentOf, layoutFrom, Acts, Within, Covers};
 use crate::Control;
-use crate::Pending;
-use crate::Request;
 use crate::Went;
 use crate::compute::step_alu;
 use crate::compute::step_sethi;
 use crate::compute::step_shift;
-use crate::flow::NO_WORD;
-use crate::flow::branch;
-use crate::flow::leave;
-use crate::flow::stop;
 use crate::loadstore::step_access;
-use access::Access;
+use crate::moving::branch;
+use crate::moving::in_slot;
+use crate::moving::leave;
+use crate::moving::stop;
 use alu::Codes;
+use flow::transfer::is_transfer;
 use v8::Instruction;
+use v8::Operation;
 use v8::Reading;
+use v8::numbers::NO_WORD;
 
-// Whether the next word is a slot.
-pub fn in_slot(pending: Pending) -> bool
-    ensures { λ r. ⌜ r ≡ inSlot pending ⌝ }
-{
-    match pending {
-        Pending::Nothing => false,
-        Pending::Jump(_) => true,
-        Pending::Leave => true,
-    }
-}
-
-// Whether an instruction is a transfer: a branch or the return.
-pub fn is_transfer(x: Instruction) -> bool
-    ensures { λ r. ⌜ r ≡ isTransfer x ⌝ }
-{
-    match x {
-        Instruction::Sethi { .. } => false,
-        Instruction::Bicc { .. } => true,
-        Instruction::Alu { .. } => false,
-        Instruction::Shift { .. } => false,
-        Instruction::Load { .. } => false,
-        Instruction::Store { .. } => false,
-        Instruction::Return => true,
-    }
-}
-
-// What an instruction asks of memory.
-fn request_of(x: Instruction) -> Request
-    ensures { λ r. ⌜ r ≡ requestOf x ⌝ }
-{
-    match x {
-        Instruction::Sethi { .. } => Request::Nothing,
-        Instruction::Bicc { .. } => Request::Nothing,
-        Instruction::Alu { .. } => Request::Nothing,
-        Instruction::Shift { .. } => Request::Nothing,
-        Instruction::Load {
-            op,
-            rd,
-            rs1,
-            displacement,
-        } => Request::Memory(Access::Loads(op), rd, rs1, displacement),
-        Instruction::Store {
-            op,
-            rd,
-            rs1,
-            displacement,
-        } => Request::Memory(Access::Stores(op), rd, rs1, displacement),
-        Instruction::Return => Request::Nothing,
-    }
-}
-
-// Runs an instruction that asks nothing of memory: no load or store comes here.
-fn run_plain(
+// Runs an operation.
+fn run_operation<'a>(
     control: Control,
     codes: Codes,
     coded: bool,
     values: &mut [u32; 32],
     marks: &mut [bool; 32],
-    returns: u32,
-    x: Instruction,
+    memory: &mut [u8],
+    regions: u8,
+    sizes: &'a [u16; 8],
+    bases: &[u32],
+    fields: &'a [u8; 8],
+    elements: &'a [u8; 128],
+    permissions: &'a [u8; 128],
+    offsets: &'a [u32; 128],
+    counts: &'a [u16; 128],
+    x: Operation,
 ) -> Went
-    requires { ⌜ (control .at .0 < 128) × AsksNothing (requestOf x) ⌝ }
-    ensures { λ r. ⌜ Runs r (now (values .exit)) (now (marks .exit)) (now (values .entry)) (now (marks .entry)) codes coded control returns x ⌝ }
+    requires { ⌜ (control .at .0 < mostWords) × (regions ≤ 8) × (regions ≤ length (now bases)) × Covers (layoutFrom regions (now sizes) (now bases) (now fields) (now elements) (now permissions) (now offsets) (now counts)) (length (now memory)) ⌝ }
+    ensures { λ r. ⌜ Acts r (coreOf (now (values .entry)) (now (marks .entry)) codes coded (now (memory .entry))) control (λ c. effectOf (layoutFrom regions (now (sizes .entry)) (now (bases .entry)) (now (fields .entry)) (now (elements .entry)) (now (permissions .entry)) (now (offsets .entry)) (now (counts .entry))) c x) (now (values .exit)) (now (marks .exit)) (now (memory .exit)) ⌝ }
 {
     match x {
-        Instruction::Sethi { rd, imm22 } => step_sethi(
+        Operation::Sethi { rd, imm22 } => step_sethi(
             control,
             codes,
             coded,
@@ -96,12 +54,7 @@ fn run_plain(
             rd,
             imm22,
         ),
-        Instruction::Bicc {
-            annul,
-            cond,
-            distance,
-        } => branch(control, codes, coded, annul, cond, distance),
-        Instruction::Alu {
+        Operation::Alu {
             op,
             cc,
             rd,
@@ -119,7 +72,7 @@ fn run_plain(
             rs1,
             operand,
         ),
-        Instruction::Shift { op, rd, rs1, count } => step_shift(
+        Operation::Shift { op, rd, rs1, count } => step_shift(
             control,
             codes,
             coded,
@@ -130,9 +83,31 @@ fn run_plain(
             rs1,
             count,
         ),
-        Instruction::Load { .. } => stop(control, codes, coded, NO_WORD),
-        Instruction::Store { .. } => stop(control, codes, coded, NO_WORD),
-        Instruction::Return => leave(control, codes, coded, values, marks, returns),
+        Operation::Memory {
+            access,
+            rd,
+            rs1,
+            displacement,
+        } => step_access(
+            control,
+            codes,
+            coded,
+            values,
+            marks,
+            memory,
+            regions,
+            sizes,
+            bases,
+            fields,
+            elements,
+            permissions,
+            offsets,
+            counts,
+            access,
+            rd,
+            rs1,
+            displacement,
+        ),
     }
 }
 
@@ -155,11 +130,11 @@ fn run_instruction<'a>(
     counts: &'a [u16; 128],
     x: Instruction,
 ) -> Went
-    requires { ⌜ (control .at .0 < 128) × (regions ≤ 8) × (regions ≤ length (now bases)) × Covers (layoutFrom regions (now sizes) (now bases) (now fields) (now elements) (now permissions) (now offsets) (now counts)) (length (now memory)) ⌝ }
+    requires { ⌜ (control .at .0 < mostWords) × (regions ≤ 8) × (regions ≤ length (now bases)) × Covers (layoutFrom regions (now sizes) (now bases) (now fields) (now elements) (now permissions) (now offsets) (now counts)) (length (now memory)) ⌝ }
     ensures { λ r. ⌜ wentOf r (now (values .exit)) (now (marks .exit)) (now (memory .exit)) ≡ leaving (coreOf (now (values .entry)) (now (marks .entry)) codes coded (now (memory .entry))) (execute (layoutFrom regions (now (sizes .entry)) (now (bases .entry)) (now (fields .entry)) (now (elements .entry)) (now (permissions .entry)) (now (offsets .entry)) (now (counts .entry))) returns (record { control = control; core = (coreOf (now (values .entry)) (now (marks .entry)) codes coded (now (memory .entry))) }) x) ⌝ }
 {
-    match request_of(x) {
-        Request::Memory(a, rd, rs1, d) => step_access(
+    match x {
+        Instruction::Plain(operation) => run_operation(
             control,
             codes,
             coded,
@@ -174,12 +149,10 @@ fn run_instruction<'a>(
             permissions,
             offsets,
             counts,
-            a,
-            rd,
-            rs1,
-            d,
+            operation,
         ),
-        Request::Nothing => run_plain(control, codes, coded, values, marks, returns, x),
+        Instruction::Branch(b) => branch(control, codes, coded, b),
+        Instruction::Return => leave(control, codes, coded, values, marks, returns),
     }
 }
 
@@ -231,6 +204,6 @@ pub fn one_step<'a>(
                 instruction,
             )
         }
-        Reading::Unread => stop(control, codes, coded, NO_WORD),
+        Reading::Unread(_) => stop(control, codes, coded, NO_WORD),
     }
 }

@@ -10,11 +10,10 @@ mod loadstore;
 // One step.
 pub mod dispatch;
 // Control: what follows a word, branches and the return.
-pub mod flow;
+mod moving;
 
-use access::Access;
 use alu::Codes;
-use v8::Displacement;
+use flow::Destination;
 use v8::WordIndex;
 
 // Registers r0 to r31 and the condition codes, each marked set or unset.
@@ -32,24 +31,16 @@ pub struct Marked {
 }
 
 // What follows the next word: the word after it; or, where the next word is a slot, the place that
-// its transfer goes to, or the end of the run.
+// its transfer goes to.
 pub enum Pending {
     Nothing,
-    Jump(WordIndex),
-    Leave,
+    Due(Destination),
 }
 
 // Where control stands: the next word, and what follows it.
 pub struct Control {
     pub at: WordIndex,
     pub pending: Pending,
-}
-
-// What an instruction asks of memory: an access with register rd, at register rs1 plus a displacement;
-// or nothing.
-pub enum Request {
-    Memory(Access, u8, u8, Displacement),
-    Nothing,
 }
 
 // Where an access aims: at an address, or the fault that it meets first.

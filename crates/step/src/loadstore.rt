@@ -3,22 +3,19 @@ ghost use mathlib.Core.Path.{_≡_};
 ghost use Prim.Native.Nat.{_<_, _≤_};
 ghost use lib.ListN.{length};
 ghost use Rattle.access.specs.Serve.{accessWidth};
-ghost use Rattle.step.specs.Effect.{aimIn};
-ghost use Rattle.step.specs.Lent.{coreOf, Lies, Covers, layoutFrom, Acts, movedSet, accessAt, accessEffect};
+ghost use Rattle.v8.specs.Numbers.{mostWords};
+ghost use Rattle.step.specs.Effect.{aimIn, movedSet, accessAt, accessEffect};
+ghost use Rattle.step.specs.Lent.{coreOf, Lies, Covers, layoutFrom, Acts};
 use crate::Aim;
 use crate::Control;
 use crate::Went;
-use crate::flow::OUTSIDE_FIELD;
-use crate::flow::UNALIGNED;
-use crate::flow::UNSET_READ;
-use crate::flow::move_on;
-use crate::flow::stop;
+use crate::moving::move_on;
+use crate::moving::stop;
 use crate::regs::is_set;
 use crate::regs::operand;
 use crate::regs::register;
 use crate::regs::value;
 use crate::regs::write;
-use access::Access;
 use access::Located;
 use access::addend_of;
 use access::locate::wide;
@@ -29,7 +26,11 @@ use alu::sum;
 use memory::load_in;
 use memory::start_of;
 use memory::store_in;
+use v8::Access;
 use v8::Displacement;
+use v8::numbers::NO_FIELD;
+use v8::numbers::UNALIGNED;
+use v8::numbers::UNSET_READ;
 
 // Where an access aims: 102 where what it reads is unset, `others` being the rest of that, 104 where
 // the address is no multiple of the width.
@@ -81,7 +82,7 @@ fn access_at(
     rd: u8,
     at: Located,
 ) -> Went
-    requires { ⌜ (control .at .0 < 128) × Lies (now sizes) (length (now memory)) (accessWidth a) at ⌝ }
+    requires { ⌜ (control .at .0 < mostWords) × Lies (now sizes) (length (now memory)) (accessWidth a) at ⌝ }
     ensures { λ r. ⌜ Acts r (coreOf (now (values .entry)) (now (marks .entry)) codes coded (now (memory .entry))) control (λ c. accessAt (now (sizes .entry)) c a rd at) (now (values .exit)) (now (marks .exit)) (now (memory .exit)) ⌝ }
 {
     match at {
@@ -101,7 +102,7 @@ fn access_at(
                 }
             }
         }
-        Located::Nowhere => stop(control, codes, coded, OUTSIDE_FIELD),
+        Located::Nowhere => stop(control, codes, coded, NO_FIELD),
     }
 }
 
@@ -126,7 +127,7 @@ pub fn step_access<'a>(
     rs1: u8,
     d: Displacement,
 ) -> Went
-    requires { ⌜ (control .at .0 < 128) × (regions ≤ 8) × (regions ≤ length (now bases)) × Covers (layoutFrom regions (now sizes) (now bases) (now fields) (now elements) (now permissions) (now offsets) (now counts)) (length (now memory)) ⌝ }
+    requires { ⌜ (control .at .0 < mostWords) × (regions ≤ 8) × (regions ≤ length (now bases)) × Covers (layoutFrom regions (now sizes) (now bases) (now fields) (now elements) (now permissions) (now offsets) (now counts)) (length (now memory)) ⌝ }
     ensures { λ r. ⌜ Acts r (coreOf (now (values .entry)) (now (marks .entry)) codes coded (now (memory .entry))) control (λ c. accessEffect (layoutFrom regions (now (sizes .entry)) (now (bases .entry)) (now (fields .entry)) (now (elements .entry)) (now (permissions .entry)) (now (offsets .entry)) (now (counts .entry))) c a rd rs1 d) (now (values .exit)) (now (marks .exit)) (now (memory .exit)) ⌝ }
 {
     let width = width_of(a);

@@ -162,7 +162,7 @@ endsOf r =
 -- the outcome of a word, as it is read, on a row
 abbrev pub changeBy : Policy → Rows·.Row → Reading → Outcome
 changeBy p row (Read x) = changes (changeOf p row x)
-changeBy p row Unread = reads Unread
+changeBy p row (Unread n) = reads (Unread n)
 
 -- what the definitions give
 abbrev pub outcome : Given → Outcome

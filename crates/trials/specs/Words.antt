@@ -1,118 +1,127 @@
 -- Words read and instructions written: document 01's trial words, a word of each kind with its parts at both ends, and words
 -- one bit, one opcode or one format off the subset. The words are those that GNU as gives.
-use mathlib.Core.Bool.{true, false}
+use Prim.Native.Nat.{ℕ}
+use mathlib.Core.Bool.{Bool, true, false}
 use mathlib.Core.List.{List, [], _∷_}
+use Rattle.v8.specs.Numbers.{notRead}
 use Rattle.v8.specs.declared.AluOp.the-variants.{Add, Sub, Orn, Xnor}
 use Rattle.v8.specs.declared.ShiftOp.the-variants.{Sll, Srl, Sra}
 use Rattle.v8.specs.declared.LoadOp.the-variants.{Ld, Ldub, Lduh, Ldsb, Ldsh}
 use Rattle.v8.specs.declared.StoreOp.the-variants.{St, Stb, Sth}
 use Rattle.v8.specs.declared.Operand.the-variants.{Reg, Imm}
 use Rattle.v8.specs.declared.Displacement.the-variants.{Index, Bytes}
-use Rattle.v8.specs.declared.Instruction.the-variants.{Sethi, Bicc, Alu, Shift, Load, Store, Return}
+use Rattle.v8.specs.declared.Access.the-variants.{Loads, Stores}
+use Rattle.v8.specs.declared.Operation.the-variants.{Sethi, Alu, Shift, Memory}
+use Rattle.v8.specs.declared.Instruction.{Instruction}
+use Rattle.v8.specs.declared.Instruction.the-variants.{Plain, Branch, Return}
 use Rattle.v8.specs.declared.Reading.the-variants.{Read, Unread}
 use Rattle.writer.specs.declared.Writing.the-variants.{Written, Unwritable}
 use Rattle.trials.specs.Case.{Row, _gives_, word, instruction, readAnswer, writeAnswer, reads, writes, yields}
+
+-- a branch: its annul bit, its condition, and its distance in words
+abbrev pub branch : Bool → ℕ → ℕ → Instruction
+branch annul cnd distance = Branch (record { annul = annul; cond = cnd; distance = record { 0 = distance } })
 
 -- words read
 abbrev pub wordRows : List Row
 wordRows =
     -- document 01: the leaf return, and SETHI 0 to r0
     word 0x81C3E008 gives reads (Read Return)
-    ∷ word 0x01000000 gives reads (Read (Sethi 0 0))
+    ∷ word 0x01000000 gives reads (Read (Plain (Sethi 0 0)))
     -- format 00: SETHI, branches, distances at both ends
-    ∷ word 0x3F3FFFFF gives reads (Read (Sethi 31 0x3FFFFF))
-    ∷ word 0x10800000 gives reads (Read (Bicc false 8 (record { 0 = 0 })))
-    ∷ word 0x30BFFFFF gives reads (Read (Bicc true 8 (record { 0 = 0xFFFFFFFF })))
-    ∷ word 0x129FFFFF gives reads (Read (Bicc false 9 (record { 0 = 0x1FFFFF })))
-    ∷ word 0x26A00000 gives reads (Read (Bicc true 3 (record { 0 = 0xFFE00000 })))
+    ∷ word 0x3F3FFFFF gives reads (Read (Plain (Sethi 31 0x3FFFFF)))
+    ∷ word 0x10800000 gives reads (Read (branch false 8 0))
+    ∷ word 0x30BFFFFF gives reads (Read (branch true 8 0xFFFFFFFF))
+    ∷ word 0x129FFFFF gives reads (Read (branch false 9 0x1FFFFF))
+    ∷ word 0x26A00000 gives reads (Read (branch true 3 0xFFE00000))
     -- format 10: registers and numbers, plain and code-setting, numbers at both ends
-    ∷ word 0x84007000 gives reads (Read (Alu Add false 2 1 (Imm 0xFFFFF000)))
-    ∷ word 0x84806FFF gives reads (Read (Alu Add true 2 1 (Imm 0xFFF)))
-    ∷ word 0x94220009 gives reads (Read (Alu Sub false 10 8 (Reg 9)))
-    ∷ word 0x80A22009 gives reads (Read (Alu Sub true 0 8 (Imm 9)))
-    ∷ word 0xA4BC0011 gives reads (Read (Alu Xnor true 18 16 (Reg 17)))
-    ∷ word 0xB4360019 gives reads (Read (Alu Orn false 26 24 (Reg 25)))
-    ∷ word 0x8528601F gives reads (Read (Shift Sll 2 1 (Imm 31)))
-    ∷ word 0x87304002 gives reads (Read (Shift Srl 3 1 (Reg 2)))
-    ∷ word 0x85386000 gives reads (Read (Shift Sra 2 1 (Imm 0)))
+    ∷ word 0x84007000 gives reads (Read (Plain (Alu Add false 2 1 (Imm 0xFFFFF000))))
+    ∷ word 0x84806FFF gives reads (Read (Plain (Alu Add true 2 1 (Imm 0xFFF))))
+    ∷ word 0x94220009 gives reads (Read (Plain (Alu Sub false 10 8 (Reg 9))))
+    ∷ word 0x80A22009 gives reads (Read (Plain (Alu Sub true 0 8 (Imm 9))))
+    ∷ word 0xA4BC0011 gives reads (Read (Plain (Alu Xnor true 18 16 (Reg 17))))
+    ∷ word 0xB4360019 gives reads (Read (Plain (Alu Orn false 26 24 (Reg 25))))
+    ∷ word 0x8528601F gives reads (Read (Plain (Shift Sll 2 1 (Imm 31))))
+    ∷ word 0x87304002 gives reads (Read (Plain (Shift Srl 3 1 (Reg 2))))
+    ∷ word 0x85386000 gives reads (Read (Plain (Shift Sra 2 1 (Imm 0))))
     -- format 11: loads and stores
-    ∷ word 0xC2020002 gives reads (Read (Load Ld 1 8 (Index 2)))
-    ∷ word 0xC20A3FFF gives reads (Read (Load Ldub 1 8 (Bytes (record { 0 = 0xFFFFFFFF }))))
-    ∷ word 0xC2122FFE gives reads (Read (Load Lduh 1 8 (Bytes (record { 0 = 0xFFE }))))
-    ∷ word 0xC24A0000 gives reads (Read (Load Ldsb 1 8 (Index 0)))
-    ∷ word 0xC2523000 gives reads (Read (Load Ldsh 1 8 (Bytes (record { 0 = 0xFFFFF000 }))))
-    ∷ word 0xC2220002 gives reads (Read (Store St 1 8 (Index 2)))
-    ∷ word 0xC22A201D gives reads (Read (Store Stb 1 8 (Bytes (record { 0 = 29 }))))
-    ∷ word 0xC2322FFF gives reads (Read (Store Sth 1 8 (Bytes (record { 0 = 0xFFF }))))
+    ∷ word 0xC2020002 gives reads (Read (Plain (Memory (Loads Ld) 1 8 (Index 2))))
+    ∷ word 0xC20A3FFF gives reads (Read (Plain (Memory (Loads Ldub) 1 8 (Bytes (record { 0 = 0xFFFFFFFF })))))
+    ∷ word 0xC2122FFE gives reads (Read (Plain (Memory (Loads Lduh) 1 8 (Bytes (record { 0 = 0xFFE })))))
+    ∷ word 0xC24A0000 gives reads (Read (Plain (Memory (Loads Ldsb) 1 8 (Index 0))))
+    ∷ word 0xC2523000 gives reads (Read (Plain (Memory (Loads Ldsh) 1 8 (Bytes (record { 0 = 0xFFFFF000 })))))
+    ∷ word 0xC2220002 gives reads (Read (Plain (Memory (Stores St) 1 8 (Index 2))))
+    ∷ word 0xC22A201D gives reads (Read (Plain (Memory (Stores Stb) 1 8 (Bytes (record { 0 = 29 })))))
+    ∷ word 0xC2322FFF gives reads (Read (Plain (Memory (Stores Sth) 1 8 (Bytes (record { 0 = 0xFFF })))))
     -- one bit off: a bit of 12:5 with i = 0, a shift with i = 1 and such a bit, JMPL other than the leaf return
-    ∷ word 0x94220029 gives reads Unread
-    ∷ word 0x94221009 gives reads Unread
-    ∷ word 0xC2020022 gives reads Unread
-    ∷ word 0x87304022 gives reads Unread
-    ∷ word 0x8528603F gives reads Unread
-    ∷ word 0x8528701F gives reads Unread
-    ∷ word 0x81C3E00C gives reads Unread
-    ∷ word 0x81C7E008 gives reads Unread
-    ∷ word 0x83C3E008 gives reads Unread
-    ∷ word 0x81C3C008 gives reads Unread
+    ∷ word 0x94220029 gives reads (Unread notRead)
+    ∷ word 0x94221009 gives reads (Unread notRead)
+    ∷ word 0xC2020022 gives reads (Unread notRead)
+    ∷ word 0x87304022 gives reads (Unread notRead)
+    ∷ word 0x8528603F gives reads (Unread notRead)
+    ∷ word 0x8528701F gives reads (Unread notRead)
+    ∷ word 0x81C3E00C gives reads (Unread notRead)
+    ∷ word 0x81C7E008 gives reads (Unread notRead)
+    ∷ word 0x83C3E008 gives reads (Unread notRead)
+    ∷ word 0x81C3C008 gives reads (Unread notRead)
     -- opcodes beside the subset: 08 to 0F, 18, 24, 28, of format 10
-    ∷ word 0x82404002 gives reads Unread
-    ∷ word 0x82484002 gives reads Unread
-    ∷ word 0x82504002 gives reads Unread
-    ∷ word 0x82584002 gives reads Unread
-    ∷ word 0x82604002 gives reads Unread
-    ∷ word 0x82684002 gives reads Unread
-    ∷ word 0x82704002 gives reads Unread
-    ∷ word 0x82784002 gives reads Unread
-    ∷ word 0x82C04002 gives reads Unread
-    ∷ word 0x83204002 gives reads Unread
-    ∷ word 0x83404002 gives reads Unread
+    ∷ word 0x82404002 gives reads (Unread notRead)
+    ∷ word 0x82484002 gives reads (Unread notRead)
+    ∷ word 0x82504002 gives reads (Unread notRead)
+    ∷ word 0x82584002 gives reads (Unread notRead)
+    ∷ word 0x82604002 gives reads (Unread notRead)
+    ∷ word 0x82684002 gives reads (Unread notRead)
+    ∷ word 0x82704002 gives reads (Unread notRead)
+    ∷ word 0x82784002 gives reads (Unread notRead)
+    ∷ word 0x82C04002 gives reads (Unread notRead)
+    ∷ word 0x83204002 gives reads (Unread notRead)
+    ∷ word 0x83404002 gives reads (Unread notRead)
     -- LDD, 08 and 0B of format 11, STD, LDSTUB, SWAP, LDA; CALL, FBfcc, CBccc, UNIMP, the other formats 00
-    ∷ word 0xC41A0000 gives reads Unread
-    ∷ word 0xC2420000 gives reads Unread
-    ∷ word 0xC25A0000 gives reads Unread
-    ∷ word 0xC43A0000 gives reads Unread
-    ∷ word 0xC26A0000 gives reads Unread
-    ∷ word 0xC27A0000 gives reads Unread
-    ∷ word 0xC2820020 gives reads Unread
-    ∷ word 0x40000002 gives reads Unread
-    ∷ word 0x11800002 gives reads Unread
-    ∷ word 0x11C00002 gives reads Unread
-    ∷ word 0x00000000 gives reads Unread
-    ∷ word 0x00400000 gives reads Unread
-    ∷ word 0x00C00000 gives reads Unread
-    ∷ word 0x01400000 gives reads Unread
+    ∷ word 0xC41A0000 gives reads (Unread notRead)
+    ∷ word 0xC2420000 gives reads (Unread notRead)
+    ∷ word 0xC25A0000 gives reads (Unread notRead)
+    ∷ word 0xC43A0000 gives reads (Unread notRead)
+    ∷ word 0xC26A0000 gives reads (Unread notRead)
+    ∷ word 0xC27A0000 gives reads (Unread notRead)
+    ∷ word 0xC2820020 gives reads (Unread notRead)
+    ∷ word 0x40000002 gives reads (Unread notRead)
+    ∷ word 0x11800002 gives reads (Unread notRead)
+    ∷ word 0x11C00002 gives reads (Unread notRead)
+    ∷ word 0x00000000 gives reads (Unread notRead)
+    ∷ word 0x00400000 gives reads (Unread notRead)
+    ∷ word 0x00C00000 gives reads (Unread notRead)
+    ∷ word 0x01400000 gives reads (Unread notRead)
     -- no word of 32 bits
-    ∷ word 0x181C3E008 gives reads Unread
+    ∷ word 0x181C3E008 gives reads (Unread notRead)
     ∷ []
 
 -- instructions written
 abbrev pub writeRows : List Row
 writeRows =
     -- parts at their ends
-    instruction (Sethi 31 0x3FFFFF) gives writes (Written 0x3F3FFFFF)
-    ∷ instruction (Bicc true 3 (record { 0 = 0xFFE00000 })) gives writes (Written 0x26A00000)
-    ∷ instruction (Bicc false 9 (record { 0 = 0x1FFFFF })) gives writes (Written 0x129FFFFF)
-    ∷ instruction (Alu Add false 2 1 (Imm 0xFFFFF000)) gives writes (Written 0x84007000)
-    ∷ instruction (Shift Sll 2 1 (Imm 31)) gives writes (Written 0x8528601F)
-    ∷ instruction (Store Stb 1 8 (Bytes (record { 0 = 29 }))) gives writes (Written 0xC22A201D)
+    instruction (Plain (Sethi 31 0x3FFFFF)) gives writes (Written 0x3F3FFFFF)
+    ∷ instruction (branch true 3 0xFFE00000) gives writes (Written 0x26A00000)
+    ∷ instruction (branch false 9 0x1FFFFF) gives writes (Written 0x129FFFFF)
+    ∷ instruction (Plain (Alu Add false 2 1 (Imm 0xFFFFF000))) gives writes (Written 0x84007000)
+    ∷ instruction (Plain (Shift Sll 2 1 (Imm 31))) gives writes (Written 0x8528601F)
+    ∷ instruction (Plain (Memory (Stores Stb) 1 8 (Bytes (record { 0 = 29 })))) gives writes (Written 0xC22A201D)
     ∷ instruction Return gives writes (Written 0x81C3E008)
     -- a part out of range
-    ∷ instruction (Sethi 32 0) gives writes Unwritable
-    ∷ instruction (Sethi 0 0x400000) gives writes Unwritable
-    ∷ instruction (Bicc false 16 (record { 0 = 0 })) gives writes Unwritable
-    ∷ instruction (Bicc false 8 (record { 0 = 0x200000 })) gives writes Unwritable
-    ∷ instruction (Bicc false 8 (record { 0 = 0xFFDFFFFF })) gives writes Unwritable
-    ∷ instruction (Alu Add false 32 0 (Reg 0)) gives writes Unwritable
-    ∷ instruction (Alu Add false 0 32 (Reg 0)) gives writes Unwritable
-    ∷ instruction (Alu Add false 0 0 (Reg 32)) gives writes Unwritable
-    ∷ instruction (Alu Add false 0 0 (Imm 0x1000)) gives writes Unwritable
-    ∷ instruction (Alu Add false 0 0 (Imm 0xFFFFEFFF)) gives writes Unwritable
-    ∷ instruction (Shift Sra 0 0 (Imm 32)) gives writes Unwritable
-    ∷ instruction (Shift Sra 0 0 (Reg 255)) gives writes Unwritable
-    ∷ instruction (Load Ld 32 0 (Index 0)) gives writes Unwritable
-    ∷ instruction (Load Ldsh 0 0 (Bytes (record { 0 = 0x1000 }))) gives writes Unwritable
-    ∷ instruction (Store St 0 255 (Index 0)) gives writes Unwritable
+    ∷ instruction (Plain (Sethi 32 0)) gives writes Unwritable
+    ∷ instruction (Plain (Sethi 0 0x400000)) gives writes Unwritable
+    ∷ instruction (branch false 16 0) gives writes Unwritable
+    ∷ instruction (branch false 8 0x200000) gives writes Unwritable
+    ∷ instruction (branch false 8 0xFFDFFFFF) gives writes Unwritable
+    ∷ instruction (Plain (Alu Add false 32 0 (Reg 0))) gives writes Unwritable
+    ∷ instruction (Plain (Alu Add false 0 32 (Reg 0))) gives writes Unwritable
+    ∷ instruction (Plain (Alu Add false 0 0 (Reg 32))) gives writes Unwritable
+    ∷ instruction (Plain (Alu Add false 0 0 (Imm 0x1000))) gives writes Unwritable
+    ∷ instruction (Plain (Alu Add false 0 0 (Imm 0xFFFFEFFF))) gives writes Unwritable
+    ∷ instruction (Plain (Shift Sra 0 0 (Imm 32))) gives writes Unwritable
+    ∷ instruction (Plain (Shift Sra 0 0 (Reg 255))) gives writes Unwritable
+    ∷ instruction (Plain (Memory (Loads Ld) 32 0 (Index 0))) gives writes Unwritable
+    ∷ instruction (Plain (Memory (Loads Ldsh) 0 0 (Bytes (record { 0 = 0x1000 })))) gives writes Unwritable
+    ∷ instruction (Plain (Memory (Stores St) 0 255 (Index 0))) gives writes Unwritable
     ∷ []
 
 -- "Read a word: 2. Write an instruction: 17": the numbers of the answers, 0 where there is no refusal
@@ -121,5 +130,5 @@ answerRows =
     readAnswer 0x81C3E008 gives yields 0
     ∷ readAnswer 0x00000000 gives yields 2
     ∷ writeAnswer Return gives yields 0
-    ∷ writeAnswer (Sethi 32 0) gives yields 17
+    ∷ writeAnswer (Plain (Sethi 32 0)) gives yields 17
     ∷ []

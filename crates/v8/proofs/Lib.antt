@@ -1,3 +1,3 @@
 pub mod Signed
-pub mod Small
+pub mod Sound
 pub mod Worked

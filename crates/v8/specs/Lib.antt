@@ -1,6 +1,7 @@
 pub mod Choice
 pub mod Table
 pub mod Search
+pub mod Numbers
 pub mod Power
 pub mod Signed
 pub mod Field

@@ -1,4 +1,4 @@
--- What a word is read as (document 01, "Words we read"): an instruction of the subset, or refusal 2.
+-- What a word is read as (document 01, "Words we read"): an instruction of the subset, or the number of the refusal.
 use Prim.Native.Nat.{ℕ, _-_}
 use mathlib.Core.Bool.{Bool, true, false, cond}
 use mathlib.Core.List.{List, [], _∷_}
@@ -6,6 +6,7 @@ use lib.Dec.{leb, ltb, eqb}
 use lib.ListN.{getD}
 use Rattle.v8.specs.Field.{opOf, rdOf, annulOf, condOf, op2Of, low22Of, op3Of, rs1Of, iOf, unusedOf, rs2Of, simm13Of}
 use Rattle.v8.specs.Signed.{signExtend}
+use Rattle.v8.specs.Numbers.{notRead}
 use Rattle.v8.specs.declared.AluOp.{AluOp}
 use Rattle.v8.specs.declared.AluOp.the-variants.{Add, And, Or, Xor, Sub, Andn, Orn, Xnor}
 use Rattle.v8.specs.declared.ShiftOp.{ShiftOp}
@@ -18,16 +19,19 @@ use Rattle.v8.specs.declared.Operand.{Operand}
 use Rattle.v8.specs.declared.Operand.the-variants.{Reg, Imm}
 use Rattle.v8.specs.declared.Displacement.{Displacement}
 use Rattle.v8.specs.declared.Displacement.the-variants.{Index, Bytes}
-use Rattle.v8.specs.declared.Instruction.the-variants.{Sethi, Bicc, Alu, Shift, Load, Store, Return}
+use Rattle.v8.specs.declared.Access.{Access}
+use Rattle.v8.specs.declared.Access.the-variants.{Loads, Stores}
+use Rattle.v8.specs.declared.Operation.the-variants.{Sethi, Alu, Shift, Memory}
+use Rattle.v8.specs.declared.Instruction.the-variants.{Plain, Branch, Return}
 use Rattle.v8.specs.declared.Reading.{Reading}
 use Rattle.v8.specs.declared.Reading.the-variants.{Read, Unread}
 use Rattle.v8.specs.declared.read.OperandReading.{OperandReading}
 use Rattle.v8.specs.declared.read.OperandReading.the-variants.{Second, Reserved}
 
--- "Read a word: 2."
+-- the number of a reading: "Read a word: 2."
 abbrev pub readNumber : Reading → ℕ
 readNumber (Read x) = 0
-readNumber Unread = 2
+readNumber (Unread n) = n
 
 -- the leaf return, "only as the word 81C3E008"
 abbrev pub leafReturn : ℕ
@@ -57,57 +61,55 @@ countOf w =
 -- "00 with bits 24:22 = 100 is SETHI; with 010 it is Bicc (annul bit 29, condition 28:25, signed distance 21:0 in words)"
 unfoldable pub format00 : ℕ → Reading
 format00 w =
-    cond (eqb (op2Of w) 4) (Read (Sethi (rdOf w) (low22Of w)))
-    (cond (eqb (op2Of w) 2) (Read (Bicc (eqb (annulOf w) 1) (condOf w) (record { 0 = signExtend 22 (low22Of w) })))
-    Unread)
+    cond (eqb (op2Of w) 4) (Read (Plain (Sethi (rdOf w) (low22Of w))))
+    (cond (eqb (op2Of w) 2) (Read (Branch (record { annul = eqb (annulOf w) 1; cond = condOf w; distance = record { 0 = signExtend 22 (low22Of w) } })))
+    (Unread notRead))
 
 abbrev pub aluWith : AluOp → Bool → ℕ → OperandReading → Reading
-aluWith op cc w (Second x) = Read (Alu op cc (rdOf w) (rs1Of w) x)
-aluWith op cc w Reserved = Unread
+aluWith op cc w (Second x) = Read (Plain (Alu op cc (rdOf w) (rs1Of w) x))
+aluWith op cc w Reserved = Unread notRead
 
 abbrev pub shiftWith : ShiftOp → ℕ → OperandReading → Reading
-shiftWith op w (Second x) = Read (Shift op (rdOf w) (rs1Of w) x)
-shiftWith op w Reserved = Unread
+shiftWith op w (Second x) = Read (Plain (Shift op (rdOf w) (rs1Of w) x))
+shiftWith op w Reserved = Unread notRead
 
 -- format 10: "the same plus 10 also set the codes; SLL 25, SRL 26, SRA 27; and the leaf return"
 unfoldable pub format10 : ℕ → Reading
 format10 w =
     cond (leb (op3Of w) 0x07) (aluWith (aluOpOf (op3Of w)) false w (operandOf w))
-    (cond (ltb (op3Of w) 0x10) Unread
+    (cond (ltb (op3Of w) 0x10) (Unread notRead)
     (cond (leb (op3Of w) 0x17) (aluWith (aluOpOf (op3Of w - 0x10)) true w (operandOf w))
     (cond (eqb (op3Of w) 0x25) (shiftWith Sll w (countOf w))
     (cond (eqb (op3Of w) 0x26) (shiftWith Srl w (countOf w))
     (cond (eqb (op3Of w) 0x27) (shiftWith Sra w (countOf w))
     (cond (eqb w leafReturn) (Read Return)
-    Unread))))))
+    (Unread notRead)))))))
 
 -- an address's second part: a register, or a signed count of bytes
 abbrev pub displacementOf : Operand → Displacement
 displacementOf (Reg r) = Index r
 displacementOf (Imm v) = Bytes (record { 0 = v })
 
-abbrev pub loadOf : LoadOp → ℕ → Displacement → Reading
-loadOf op w d = Read (Load op (rdOf w) (rs1Of w) d)
-
-abbrev pub storeOf : StoreOp → ℕ → Displacement → Reading
-storeOf op w d = Read (Store op (rdOf w) (rs1Of w) d)
+-- a load or a store, its address read
+abbrev pub accessOf : Access → ℕ → Displacement → Reading
+accessOf a w d = Read (Plain (Memory a (rdOf w) (rs1Of w) d))
 
 -- "LD 00, LDUB 01, LDUH 02, ST 04, STB 05, STH 06, LDSB 09, LDSH 0A", with the address read
 unfoldable pub memoryOf : ℕ → Displacement → Reading
 memoryOf w d =
-    cond (eqb (op3Of w) 0x00) (loadOf Ld w d)
-    (cond (eqb (op3Of w) 0x01) (loadOf Ldub w d)
-    (cond (eqb (op3Of w) 0x02) (loadOf Lduh w d)
-    (cond (eqb (op3Of w) 0x04) (storeOf St w d)
-    (cond (eqb (op3Of w) 0x05) (storeOf Stb w d)
-    (cond (eqb (op3Of w) 0x06) (storeOf Sth w d)
-    (cond (eqb (op3Of w) 0x09) (loadOf Ldsb w d)
-    (cond (eqb (op3Of w) 0x0A) (loadOf Ldsh w d)
-    Unread)))))))
+    cond (eqb (op3Of w) 0x00) (accessOf (Loads Ld) w d)
+    (cond (eqb (op3Of w) 0x01) (accessOf (Loads Ldub) w d)
+    (cond (eqb (op3Of w) 0x02) (accessOf (Loads Lduh) w d)
+    (cond (eqb (op3Of w) 0x04) (accessOf (Stores St) w d)
+    (cond (eqb (op3Of w) 0x05) (accessOf (Stores Stb) w d)
+    (cond (eqb (op3Of w) 0x06) (accessOf (Stores Sth) w d)
+    (cond (eqb (op3Of w) 0x09) (accessOf (Loads Ldsb) w d)
+    (cond (eqb (op3Of w) 0x0A) (accessOf (Loads Ldsh) w d)
+    (Unread notRead))))))))
 
 abbrev pub memoryWith : ℕ → OperandReading → Reading
 memoryWith w (Second x) = memoryOf w (displacementOf x)
-memoryWith w Reserved = Unread
+memoryWith w Reserved = Unread notRead
 
 -- "Bits 31:30 choose the format."
 unfoldable pub readingOf : ℕ → Reading
@@ -115,4 +117,4 @@ readingOf w =
     cond (eqb (opOf w) 0) (format00 w)
     (cond (eqb (opOf w) 2) (format10 w)
     (cond (eqb (opOf w) 3) (memoryWith w (operandOf w))
-    Unread))
+    (Unread notRead)))

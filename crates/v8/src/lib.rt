@@ -2,6 +2,8 @@
 // everything above it speaks of these types and rests on the definitions in specs/, never on the
 // code here. (Document 01, "Words we read".)
 
+// The numbers of document 01.
+pub mod numbers;
 // The bit fields of a word.
 mod field;
 // Words as instructions.
@@ -63,18 +65,18 @@ pub enum Displacement {
     Bytes(ByteOffset),
 }
 
-// The instructions of the subset.
-pub enum Instruction {
+// An access to memory: a load or a store.
+pub enum Access {
+    Loads(LoadOp),
+    Stores(StoreOp),
+}
+
+// The instructions that are no transfer: the word after them is the next.
+pub enum Operation {
     // rd becomes imm22 times 1024.
     Sethi {
         rd: u8,
         imm22: u32,
-    },
-    // A branch on the condition codes.
-    Bicc {
-        annul: bool,
-        cond: u8,
-        distance: WordIndex,
     },
     // Arithmetic and logic, plain or setting the condition codes.
     Alu {
@@ -90,24 +92,33 @@ pub enum Instruction {
         rs1: u8,
         count: Operand,
     },
-    Load {
-        op: LoadOp,
+    // A load to rd, or a store of it, at rs1 plus a displacement.
+    Memory {
+        access: Access,
         rd: u8,
         rs1: u8,
         displacement: Displacement,
     },
-    Store {
-        op: StoreOp,
-        rd: u8,
-        rs1: u8,
-        displacement: Displacement,
-    },
+}
+
+// A branch on the condition codes, by its distance in words where the condition holds.
+pub struct Bicc {
+    pub annul: bool,
+    pub cond: u8,
+    pub distance: WordIndex,
+}
+
+// The instructions of the subset, by how control goes on from them: to the next word; over the slot,
+// taken or not; over the slot to the caller.
+pub enum Instruction {
+    Plain(Operation),
+    Branch(Bicc),
     // The leaf return, JMPL to r15 + 8.
     Return,
 }
 
-// What a word is read as. Unread is refusal 2.
+// What a word is read as: an instruction, or the number of the refusal.
 pub enum Reading {
     Read(Instruction),
-    Unread,
+    Unread(u8),
 }

@@ -2,13 +2,16 @@
 ghost use mathlib.Core.Path.{_≡_};
 ghost use Prim.Native.Nat.{_<_, _≤_, _^_};
 ghost use Rattle.v8.specs.Signed.{signExtend};
-ghost use Rattle.v8.specs.Read.{readNumber, readingOf, format00, format10, memoryOf, memoryWith, operandOf, countOf, displacementOf, aluWith, shiftWith, aluOpOf, loadOf, storeOf};
+ghost use Rattle.v8.specs.Read.{readNumber, readingOf, format00, format10, memoryOf, memoryWith, operandOf, countOf, displacementOf, aluWith, shiftWith, aluOpOf, accessOf};
+use crate::Access;
 use crate::AluOp;
+use crate::Bicc;
 use crate::ByteOffset;
 use crate::Displacement;
 use crate::Instruction;
 use crate::LoadOp;
 use crate::Operand;
+use crate::Operation;
 use crate::Reading;
 use crate::ShiftOp;
 use crate::StoreOp;
@@ -24,6 +27,7 @@ use crate::field::rs1_of;
 use crate::field::rs2_of;
 use crate::field::simm13_of;
 use crate::field::unused_of;
+use crate::numbers::NOT_READ;
 
 // The leaf return, the one JMPL that is read.
 pub const LEAF_RETURN: u32 = 0x81C3_E008;
@@ -77,16 +81,16 @@ fn read_format_00(w: u32) -> Reading
     ensures { λ r. ⌜ r ≡ format00 w ⌝ }
 {
     match op2_of(w) {
-        4 => Reading::Read(Instruction::Sethi {
+        4 => Reading::Read(Instruction::Plain(Operation::Sethi {
             rd: rd_of(w),
             imm22: low22_of(w),
-        }),
-        2 => Reading::Read(Instruction::Bicc {
+        })),
+        2 => Reading::Read(Instruction::Branch(Bicc {
             annul: annul_of(w) == 1,
             cond: cond_of(w),
             distance: WordIndex(sign_extend(22, low22_of(w))),
-        }),
-        _ => Reading::Unread,
+        })),
+        _ => Reading::Unread(NOT_READ),
     }
 }
 
@@ -116,14 +120,14 @@ fn read_alu(op: AluOp, cc: bool, w: u32) -> Reading
     let rd = rd_of(w);
     let rs1 = rs1_of(w);
     match operand_of(w) {
-        OperandReading::Second(operand) => Reading::Read(Instruction::Alu {
+        OperandReading::Second(operand) => Reading::Read(Instruction::Plain(Operation::Alu {
             op,
             cc,
             rd,
             rs1,
             operand,
-        }),
-        OperandReading::Reserved => Reading::Unread,
+        })),
+        OperandReading::Reserved => Reading::Unread(NOT_READ),
     }
 }
 
@@ -133,8 +137,13 @@ fn read_shift(op: ShiftOp, w: u32) -> Reading
     let rd = rd_of(w);
     let rs1 = rs1_of(w);
     match count_of(w) {
-        OperandReading::Second(count) => Reading::Read(Instruction::Shift { op, rd, rs1, count }),
-        OperandReading::Reserved => Reading::Unread,
+        OperandReading::Second(count) => Reading::Read(Instruction::Plain(Operation::Shift {
+            op,
+            rd,
+            rs1,
+            count,
+        })),
+        OperandReading::Reserved => Reading::Unread(NOT_READ),
     }
 }
 
@@ -153,10 +162,10 @@ fn read_format_10(w: u32) -> Reading
             if w == LEAF_RETURN {
                 Reading::Read(Instruction::Return)
             } else {
-                Reading::Unread
+                Reading::Unread(NOT_READ)
             }
         }
-        _ => Reading::Unread,
+        _ => Reading::Unread(NOT_READ),
     }
 }
 
@@ -169,46 +178,34 @@ fn displacement_of(x: Operand) -> Displacement
     }
 }
 
-fn load(op: LoadOp, w: u32, displacement: Displacement) -> Reading
-    ensures { λ r. ⌜ r ≡ loadOf op w displacement ⌝ }
+// A load or a store, its address read.
+fn read_access(access: Access, w: u32, displacement: Displacement) -> Reading
+    ensures { λ r. ⌜ r ≡ accessOf access w displacement ⌝ }
 {
     let rd = rd_of(w);
     let rs1 = rs1_of(w);
-    Reading::Read(Instruction::Load {
-        op,
+    Reading::Read(Instruction::Plain(Operation::Memory {
+        access,
         rd,
         rs1,
         displacement,
-    })
+    }))
 }
 
-fn store(op: StoreOp, w: u32, displacement: Displacement) -> Reading
-    ensures { λ r. ⌜ r ≡ storeOf op w displacement ⌝ }
-{
-    let rd = rd_of(w);
-    let rs1 = rs1_of(w);
-    Reading::Read(Instruction::Store {
-        op,
-        rd,
-        rs1,
-        displacement,
-    })
-}
-
-// Loads and stores, their address read.
+// Loads and stores, by their opcode.
 fn read_memory(w: u32, displacement: Displacement) -> Reading
     ensures { λ r. ⌜ r ≡ memoryOf w displacement ⌝ }
 {
     match op3_of(w) {
-        0x00 => load(LoadOp::Ld, w, displacement),
-        0x01 => load(LoadOp::Ldub, w, displacement),
-        0x02 => load(LoadOp::Lduh, w, displacement),
-        0x04 => store(StoreOp::St, w, displacement),
-        0x05 => store(StoreOp::Stb, w, displacement),
-        0x06 => store(StoreOp::Sth, w, displacement),
-        0x09 => load(LoadOp::Ldsb, w, displacement),
-        0x0A => load(LoadOp::Ldsh, w, displacement),
-        _ => Reading::Unread,
+        0x00 => read_access(Access::Loads(LoadOp::Ld), w, displacement),
+        0x01 => read_access(Access::Loads(LoadOp::Ldub), w, displacement),
+        0x02 => read_access(Access::Loads(LoadOp::Lduh), w, displacement),
+        0x04 => read_access(Access::Stores(StoreOp::St), w, displacement),
+        0x05 => read_access(Access::Stores(StoreOp::Stb), w, displacement),
+        0x06 => read_access(Access::Stores(StoreOp::Sth), w, displacement),
+        0x09 => read_access(Access::Loads(LoadOp::Ldsb), w, displacement),
+        0x0A => read_access(Access::Loads(LoadOp::Ldsh), w, displacement),
+        _ => Reading::Unread(NOT_READ),
     }
 }
 
@@ -217,11 +214,11 @@ fn read_format_11(w: u32) -> Reading
 {
     match operand_of(w) {
         OperandReading::Second(x) => read_memory(w, displacement_of(x)),
-        OperandReading::Reserved => Reading::Unread,
+        OperandReading::Reserved => Reading::Unread(NOT_READ),
     }
 }
 
-// Reads a word: an instruction of the subset, or refusal 2.
+// Reads a word: an instruction of the subset, or the number of the refusal.
 pub fn read_word(w: u32) -> Reading
     ensures reading { λ r. ⌜ r ≡ readingOf w ⌝ }
     ensures number { λ r. ⌜ readNumber r ≡ readNumber (readingOf w) ⌝ }
@@ -230,6 +227,6 @@ pub fn read_word(w: u32) -> Reading
         0 => read_format_00(w),
         2 => read_format_10(w),
         3 => read_format_11(w),
-        _ => Reading::Unread,
+        _ => Reading::Unread(NOT_READ),
     }
 }

@@ -7,7 +7,7 @@ use lib.Dec.{ltb, eqb}
 use borrow.Author.Tests.{ltb-true}
 use Rattle.v8.specs.Choice.{cond-both}
 use Rattle.v8.specs.Signed.{signExtend}
-use Rattle.writer.specs.Write.{Fits, iBit, signedBits, fiveBits, operandBits, countBits, displacementBits, aluCode, aluCodeCc, shiftCode, loadCode, storeCode}
+use Rattle.writer.specs.Write.{Fits, iBit, signedBits, fiveBits, operandBits, countBits, displacementBits, aluCode, aluCodeCc, shiftCode, loadCode, storeCode, accessCode}
 use Rattle.v8.specs.declared.AluOp.{AluOp}
 use Rattle.v8.specs.declared.AluOp.the-variants.{Add, And, Or, Xor, Sub, Andn, Orn, Xnor}
 use Rattle.v8.specs.declared.ShiftOp.{ShiftOp}
@@ -16,6 +16,8 @@ use Rattle.v8.specs.declared.LoadOp.{LoadOp}
 use Rattle.v8.specs.declared.LoadOp.the-variants.{Ld, Ldub, Lduh, Ldsb, Ldsh}
 use Rattle.v8.specs.declared.StoreOp.{StoreOp}
 use Rattle.v8.specs.declared.StoreOp.the-variants.{St, Stb, Sth}
+use Rattle.v8.specs.declared.Access.{Access}
+use Rattle.v8.specs.declared.Access.the-variants.{Loads, Stores}
 use Rattle.v8.specs.declared.Operand.{Operand}
 use Rattle.v8.specs.declared.Operand.the-variants.{Reg, Imm}
 use Rattle.v8.specs.declared.Displacement.{Displacement}
@@ -60,14 +62,18 @@ shift-small Sll = omega arith
 shift-small Srl = omega arith
 shift-small Sra = omega arith
 
-pub load-small : (op : LoadOp) → loadCode op < 64
+load-small : (op : LoadOp) → loadCode op < 64
 load-small Ld = omega arith
 load-small Ldub = omega arith
 load-small Lduh = omega arith
 load-small Ldsb = omega arith
 load-small Ldsh = omega arith
 
-pub store-small : (op : StoreOp) → storeCode op < 64
+store-small : (op : StoreOp) → storeCode op < 64
 store-small St = omega arith
 store-small Stb = omega arith
 store-small Sth = omega arith
+
+pub access-small : (a : Access) → accessCode a < 64
+access-small (Loads op) = load-small op
+access-small (Stores op) = store-small op

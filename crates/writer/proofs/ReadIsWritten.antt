@@ -14,21 +14,22 @@ use Rattle.v8.specs.Choice.{cond-went, cond-both}
 use Rattle.v8.specs.Table.{at}
 use Rattle.v8.specs.Signed.{signExtend}
 use Rattle.v8.specs.Field.{opOf, rdOf, annulOf, condOf, op2Of, low22Of, op3Of, rs1Of, iOf, unusedOf, rs2Of, simm13Of}
-use Rattle.v8.specs.Read.{readingOf, format00, format10, memoryOf, memoryWith, operandOf, countOf, displacementOf, aluOps, aluOpOf, aluWith, shiftWith, loadOf, storeOf, leafReturn}
-use Rattle.writer.specs.Write.{writingOf, iBit, signedBits, fiveBits, operandBits, countBits, displacementBits, aluCode, aluCodeCc, shiftCode, loadCode, storeCode, packOf, packed, sethiWord}
+use Rattle.v8.specs.Read.{readingOf, format00, format10, memoryOf, memoryWith, operandOf, countOf, displacementOf, aluOps, aluOpOf, aluWith, shiftWith, accessOf, leafReturn}
+use Rattle.writer.specs.Write.{writingOf, iBit, signedBits, fiveBits, operandBits, countBits, displacementBits, aluCode, aluCodeCc, shiftCode, accessCode, packOf, packed, sethiWord}
 use Rattle.writer.specs.Laws.{ReadIsWritten}
 use Rattle.v8.specs.declared.AluOp.{AluOp}
 use Rattle.v8.specs.declared.AluOp.the-variants.{Add}
 use Rattle.v8.specs.declared.ShiftOp.{ShiftOp}
 use Rattle.v8.specs.declared.ShiftOp.the-variants.{Sll, Srl, Sra}
-use Rattle.v8.specs.declared.LoadOp.{LoadOp}
 use Rattle.v8.specs.declared.LoadOp.the-variants.{Ld, Ldub, Lduh, Ldsb, Ldsh}
-use Rattle.v8.specs.declared.StoreOp.{StoreOp}
 use Rattle.v8.specs.declared.StoreOp.the-variants.{St, Stb, Sth}
+use Rattle.v8.specs.declared.Access.{Access}
+use Rattle.v8.specs.declared.Access.the-variants.{Loads, Stores}
 use Rattle.v8.specs.declared.Operand.{Operand}
 use Rattle.v8.specs.declared.Operand.the-variants.{Reg, Imm}
+use Rattle.v8.specs.declared.Operation.the-variants.{Sethi}
 use Rattle.v8.specs.declared.Instruction.{Instruction}
-use Rattle.v8.specs.declared.Instruction.the-variants.{Sethi, Bicc, Return}
+use Rattle.v8.specs.declared.Instruction.the-variants.{Plain, Branch, Return}
 use Rattle.v8.specs.declared.Reading.the-variants.{Read, Unread}
 use Rattle.writer.specs.declared.Writing.the-variants.{Written}
 use Rattle.v8.specs.declared.read.OperandReading.{OperandReading}
@@ -39,7 +40,7 @@ use Rattle.writer.specs.declared.Part.the-variants.{Bits}
 read : {x y : Instruction} → Read x ≡ Read y → x ≡ y
 read e = cc
 
-unread : {A : Type 0} {x : Instruction} → Unread ≡ Read x → A
+unread : {A : Type 0} {n : ℕ} {x : Instruction} → Unread n ≡ Read x → A
 unread e = let z : _≡_ {A = ℕ} 0 1 = cc in absurd (omega arith)
 
 second : {x y : Operand} → Second x ≡ Second y → x ≡ y
@@ -175,40 +176,36 @@ format10-kept w x p e =
     (λ t q. return-kept w x (eqb-true _ _ t) q)
     (λ t q. unread q)))))))
 
-load-kept : (w : ℕ) (op : LoadOp) (x : Instruction) (o : Operand) → opOf w ≡ 3 → operandOf w ≡ Second o → op3Of w ≡ loadCode op → loadOf op w (displacementOf o) ≡ Read x → writingOf x ≡ Written w
+access-kept : (w : ℕ) (a : Access) (x : Instruction) (o : Operand) → opOf w ≡ 3 → operandOf w ≡ Second o → op3Of w ≡ accessCode a → accessOf a w (displacementOf o) ≡ Read x → writingOf x ≡ Written w
 unfolding writingOf
-load-kept w op x o p r q e = rw (← read e) (packed-kept w 3 _ _ p q (displacement-kept o ∙ operand-kept w o r))
-
-store-kept : (w : ℕ) (op : StoreOp) (x : Instruction) (o : Operand) → opOf w ≡ 3 → operandOf w ≡ Second o → op3Of w ≡ storeCode op → storeOf op w (displacementOf o) ≡ Read x → writingOf x ≡ Written w
-unfolding writingOf
-store-kept w op x o p r q e = rw (← read e) (packed-kept w 3 _ _ p q (displacement-kept o ∙ operand-kept w o r))
+access-kept w a x o p r q e = rw (← read e) (packed-kept w 3 _ _ p q (displacement-kept o ∙ operand-kept w o r))
 
 memory-kept : (w : ℕ) (x : Instruction) (o : Operand) → opOf w ≡ 3 → operandOf w ≡ Second o → memoryOf w (displacementOf o) ≡ Read x → writingOf x ≡ Written w
 unfolding memoryOf
 memory-kept w x o p r e =
     cond-went (eqb (op3Of w) 0x00) _ _ _ e
-    (λ t q. load-kept w Ld x o p r (eqb-true _ _ t) q)
+    (λ t q. access-kept w (Loads Ld) x o p r (eqb-true _ _ t) q)
     (λ t q.
     cond-went (eqb (op3Of w) 0x01) _ _ _ q
-    (λ t q. load-kept w Ldub x o p r (eqb-true _ _ t) q)
+    (λ t q. access-kept w (Loads Ldub) x o p r (eqb-true _ _ t) q)
     (λ t q.
     cond-went (eqb (op3Of w) 0x02) _ _ _ q
-    (λ t q. load-kept w Lduh x o p r (eqb-true _ _ t) q)
+    (λ t q. access-kept w (Loads Lduh) x o p r (eqb-true _ _ t) q)
     (λ t q.
     cond-went (eqb (op3Of w) 0x04) _ _ _ q
-    (λ t q. store-kept w St x o p r (eqb-true _ _ t) q)
+    (λ t q. access-kept w (Stores St) x o p r (eqb-true _ _ t) q)
     (λ t q.
     cond-went (eqb (op3Of w) 0x05) _ _ _ q
-    (λ t q. store-kept w Stb x o p r (eqb-true _ _ t) q)
+    (λ t q. access-kept w (Stores Stb) x o p r (eqb-true _ _ t) q)
     (λ t q.
     cond-went (eqb (op3Of w) 0x06) _ _ _ q
-    (λ t q. store-kept w Sth x o p r (eqb-true _ _ t) q)
+    (λ t q. access-kept w (Stores Sth) x o p r (eqb-true _ _ t) q)
     (λ t q.
     cond-went (eqb (op3Of w) 0x09) _ _ _ q
-    (λ t q. load-kept w Ldsb x o p r (eqb-true _ _ t) q)
+    (λ t q. access-kept w (Loads Ldsb) x o p r (eqb-true _ _ t) q)
     (λ t q.
     cond-went (eqb (op3Of w) 0x0A) _ _ _ q
-    (λ t q. load-kept w Ldsh x o p r (eqb-true _ _ t) q)
+    (λ t q. access-kept w (Loads Ldsh) x o p r (eqb-true _ _ t) q)
     (λ t q.
     unread q))))))))
 
@@ -218,7 +215,7 @@ format11-kept w x Reserved p r e = unread e
 
 -- ---- format 00
 
-sethi-kept : (w : ℕ) → opOf w ≡ 0 → op2Of w ≡ 4 → writingOf (Sethi (rdOf w) (low22Of w)) ≡ Written w
+sethi-kept : (w : ℕ) → opOf w ≡ 0 → op2Of w ≡ 4 → writingOf (Plain (Sethi (rdOf w) (low22Of w))) ≡ Written w
 unfolding writingOf sethiWord
 sethi-kept w h k =
     simp (lt-ltb (rdOf w) 32 (omega arith), lt-ltb (low22Of w) (2 ^ 22) (omega arith)) (ap Written (sum w h k))
@@ -243,7 +240,7 @@ bicc-sum w false e h k = bicc-fields w 0 h k (clear w (eqb-false (annulOf w) 1 e
     clear : (w : ℕ) → (annulOf w ≡ 1 → ⊥) → annulOf w ≡ 0
     clear w n = omega arith
 
-bicc-kept : (w : ℕ) → opOf w ≡ 0 → op2Of w ≡ 2 → writingOf (Bicc (eqb (annulOf w) 1) (condOf w) (record { 0 = signExtend 22 (low22Of w) })) ≡ Written w
+bicc-kept : (w : ℕ) → opOf w ≡ 0 → op2Of w ≡ 2 → writingOf (Branch (record { annul = eqb (annulOf w) 1; cond = condOf w; distance = record { 0 = signExtend 22 (low22Of w) } })) ≡ Written w
 unfolding writingOf
 bicc-kept w h k =
     rw (signed-kept 22 0 (low22Of w) (extended 22 (low22Of w) (omega arith) (omega arith)))

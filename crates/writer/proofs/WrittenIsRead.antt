@@ -11,23 +11,25 @@ use borrow.Author.Tests.{ltb-true, eqb-true}
 use Rattle.v8.specs.Choice.{cond-went}
 use Rattle.v8.specs.Signed.{signExtend}
 use Rattle.v8.specs.Field.{opOf, rdOf, annulOf, condOf, op2Of, low22Of, op3Of, rs1Of, iOf, unusedOf, rs2Of, simm13Of}
-use Rattle.v8.specs.Read.{readingOf, format00, format10, memoryOf, memoryWith, operandOf, countOf, displacementOf, aluWith, shiftWith, loadOf, storeOf}
-use Rattle.writer.specs.Write.{writingOf, Fits, iBit, signedBits, fiveBits, operandBits, countBits, displacementBits, aluCodeCc, shiftCode, loadCode, storeCode, packOf, packed, sethiWord, biccWord}
+use Rattle.v8.specs.Read.{readingOf, format00, format10, memoryOf, memoryWith, operandOf, countOf, displacementOf, aluWith, shiftWith, accessOf}
+use Rattle.writer.specs.Write.{writingOf, Fits, iBit, signedBits, fiveBits, operandBits, countBits, displacementBits, aluCodeCc, shiftCode, accessCode, packOf, packed, sethiWord, biccWord, operationWord}
 use Rattle.writer.specs.Laws.{WrittenIsRead}
-use Rattle.writer.proofs.Ranges.{operand-fits, count-fits, displacement-fits, alu-cc-small, shift-small, load-small, store-small}
+use Rattle.writer.proofs.Ranges.{operand-fits, count-fits, displacement-fits, alu-cc-small, shift-small, access-small}
 use Rattle.v8.specs.declared.AluOp.{AluOp}
 use Rattle.v8.specs.declared.AluOp.the-variants.{Add, And, Or, Xor, Sub, Andn, Orn, Xnor}
 use Rattle.v8.specs.declared.ShiftOp.{ShiftOp}
 use Rattle.v8.specs.declared.ShiftOp.the-variants.{Sll, Srl, Sra}
-use Rattle.v8.specs.declared.LoadOp.{LoadOp}
 use Rattle.v8.specs.declared.LoadOp.the-variants.{Ld, Ldub, Lduh, Ldsb, Ldsh}
-use Rattle.v8.specs.declared.StoreOp.{StoreOp}
 use Rattle.v8.specs.declared.StoreOp.the-variants.{St, Stb, Sth}
+use Rattle.v8.specs.declared.Access.{Access}
+use Rattle.v8.specs.declared.Access.the-variants.{Loads, Stores}
 use Rattle.v8.specs.declared.Operand.{Operand}
 use Rattle.v8.specs.declared.Operand.the-variants.{Reg, Imm}
 use Rattle.v8.specs.declared.Displacement.{Displacement}
 use Rattle.v8.specs.declared.Displacement.the-variants.{Index, Bytes}
-use Rattle.v8.specs.declared.Instruction.the-variants.{Sethi, Bicc, Alu, Shift, Load, Store, Return}
+use Rattle.v8.specs.declared.Operation.{Operation}
+use Rattle.v8.specs.declared.Operation.the-variants.{Sethi, Alu, Shift, Memory}
+use Rattle.v8.specs.declared.Instruction.the-variants.{Plain, Branch, Return}
 use Rattle.v8.specs.declared.Reading.the-variants.{Read}
 use Rattle.writer.specs.declared.Writing.the-variants.{Written, Unwritable}
 use Rattle.v8.specs.declared.read.OperandReading.the-variants.{Second}
@@ -196,23 +198,20 @@ memory-case : (w : ℕ) → opOf w ≡ 3 → readingOf w ≡ memoryWith w (opera
 unfolding readingOf
 memory-case w h = simp h
 
-load-case : (op : LoadOp) (w : ℕ) (d : Displacement) → op3Of w ≡ loadCode op → memoryOf w d ≡ loadOf op w d
+access-case : (a : Access) (w : ℕ) (d : Displacement) → op3Of w ≡ accessCode a → memoryOf w d ≡ accessOf a w d
 unfolding memoryOf
-load-case Ld w d k = simp k
-load-case Ldub w d k = simp k
-load-case Lduh w d k = simp k
-load-case Ldsb w d k = simp k
-load-case Ldsh w d k = simp k
-
-store-case : (op : StoreOp) (w : ℕ) (d : Displacement) → op3Of w ≡ storeCode op → memoryOf w d ≡ storeOf op w d
-unfolding memoryOf
-store-case St w d k = simp k
-store-case Stb w d k = simp k
-store-case Sth w d k = simp k
+access-case (Loads Ld) w d k = simp k
+access-case (Loads Ldub) w d k = simp k
+access-case (Loads Lduh) w d k = simp k
+access-case (Loads Ldsb) w d k = simp k
+access-case (Loads Ldsh) w d k = simp k
+access-case (Stores St) w d k = simp k
+access-case (Stores Stb) w d k = simp k
+access-case (Stores Sth) w d k = simp k
 
 -- ---- format 00
 
-sethi-fields : (rd imm22 w : ℕ) → rd < 32 → imm22 < 2 ^ 22 → rd * 2 ^ 25 + 4 * 2 ^ 22 + imm22 ≡ w → readingOf w ≡ Read (Sethi rd imm22)
+sethi-fields : (rd imm22 w : ℕ) → rd < 32 → imm22 < 2 ^ 22 → rd * 2 ^ 25 + 4 * 2 ^ 22 + imm22 ≡ w → readingOf w ≡ Read (Plain (Sethi rd imm22))
 unfolding readingOf format00
 sethi-fields rd imm22 w p q r =
     let op : opOf w ≡ 0 = omega arith in
@@ -221,7 +220,7 @@ sethi-fields rd imm22 w p q r =
     let v : low22Of w ≡ imm22 = omega arith in
     simp (op, op2, d, v)
 
-sethi-back : (rd imm22 w : ℕ) → sethiWord rd imm22 ≡ Written w → readingOf w ≡ Read (Sethi rd imm22)
+sethi-back : (rd imm22 w : ℕ) → sethiWord rd imm22 ≡ Written w → readingOf w ≡ Read (Plain (Sethi rd imm22))
 unfolding sethiWord
 sethi-back rd imm22 w e =
     cond-went (ltb rd 32) _ _ _ e
@@ -232,30 +231,30 @@ sethi-back rd imm22 w e =
     (λ t q. unwritable q)
 
 -- the fields of a branch's word, from its annul bit n
-record Branch (n cnd f w : ℕ) : Type 0 where
+record BranchFields (n cnd f w : ℕ) : Type 0 where
   op-is : opOf w ≡ 0
   op2-is : op2Of w ≡ 2
   annul-is : annulOf w ≡ n
   cond-is : condOf w ≡ cnd
   low-is : low22Of w ≡ f
 
-branch : (n cnd f w : ℕ) → n < 2 → cnd < 16 → f < 2 ^ 22 → n * 2 ^ 29 + cnd * 2 ^ 25 + 2 * 2 ^ 22 + f ≡ w → Branch n cnd f w
-branch n cnd f w h k l e =
+branch-fields : (n cnd f w : ℕ) → n < 2 → cnd < 16 → f < 2 ^ 22 → n * 2 ^ 29 + cnd * 2 ^ 25 + 2 * 2 ^ 22 + f ≡ w → BranchFields n cnd f w
+branch-fields n cnd f w h k l e =
     record { op-is = omega arith; op2-is = omega arith; annul-is = rw top (omega arith); cond-is = omega arith; low-is = omega arith }
   where
     top : w / 2 ^ 29 ≡ n
     top = omega arith
 
-bicc-fields : (annul : Bool) (cnd f v w : ℕ) → cnd < 16 → f < 2 ^ 22 → v ≡ signExtend 22 f → cond annul (2 ^ 29) 0 + cnd * 2 ^ 25 + 2 * 2 ^ 22 + f ≡ w → readingOf w ≡ Read (Bicc annul cnd (record { 0 = v }))
+bicc-fields : (annul : Bool) (cnd f v w : ℕ) → cnd < 16 → f < 2 ^ 22 → v ≡ signExtend 22 f → cond annul (2 ^ 29) 0 + cnd * 2 ^ 25 + 2 * 2 ^ 22 + f ≡ w → readingOf w ≡ Read (Branch (record { annul = annul; cond = cnd; distance = record { 0 = v } }))
 unfolding readingOf format00
 bicc-fields true cnd f v w h k q e =
-    let b = branch 1 cnd f w (omega arith) h k (omega arith) in
+    let b = branch-fields 1 cnd f w (omega arith) h k (omega arith) in
     simp (b .op-is, b .op2-is, b .annul-is, b .cond-is, b .low-is, ← q)
 bicc-fields false cnd f v w h k q e =
-    let b = branch 0 cnd f w (omega arith) h k (omega arith) in
+    let b = branch-fields 0 cnd f w (omega arith) h k (omega arith) in
     simp (b .op-is, b .op2-is, b .annul-is, b .cond-is, b .low-is, ← q)
 
-bicc-with : (annul : Bool) (cnd v w : ℕ) (low : Part) → signedBits 22 0 v ≡ low → biccWord annul cnd low ≡ Written w → readingOf w ≡ Read (Bicc annul cnd (record { 0 = v }))
+bicc-with : (annul : Bool) (cnd v w : ℕ) (low : Part) → signedBits 22 0 v ≡ low → biccWord annul cnd low ≡ Written w → readingOf w ≡ Read (Branch (record { annul = annul; cond = cnd; distance = record { 0 = v } }))
 bicc-with annul cnd v w (Bits b) l e =
     cond-went (ltb cnd 16) _ _ _ e
     (λ t q. signed-bits 22 0 v b l (λ x s.
@@ -274,20 +273,20 @@ memory-at : {op3 rd rs1 w : ℕ} (d : Displacement) → Packed 3 rd op3 rs1 w (d
 memory-at {w = w} d p =
     memory-case w (p .op-is) ∙ ap (memoryWith w) (operand-at (asOperand d) (rw (as-bits d) at p)) ∙ ap (memoryOf w) (as-back d)
 
-pub written-is-read : WrittenIsRead
-unfolding writingOf
-written-is-read (Sethi rd imm22) w e = sethi-back rd imm22 w e
-written-is-read (Bicc annul cnd d) w e = bicc-with annul cnd (d .0) w _ refl e
-written-is-read (Alu op cc rd rs1 x) w e =
+operation-back : (x : Operation) (w : ℕ) → operationWord x ≡ Written w → readingOf w ≡ Read (Plain x)
+operation-back (Sethi rd imm22) w e = sethi-back rd imm22 w e
+operation-back (Alu op cc rd rs1 x) w e =
     let p = parts 2 rd (aluCodeCc op cc) rs1 w (operandBits x) (omega arith) (alu-cc-small op cc) (operand-fits x) e in
     alu-case op cc w (p .op-is) (p .op3-is) ∙ rw (operand-at x p, p .rd-is, p .rs1-is)
-written-is-read (Shift op rd rs1 x) w e =
+operation-back (Shift op rd rs1 x) w e =
     let p = parts 2 rd (shiftCode op) rs1 w (countBits x) (omega arith) (shift-small op) (count-fits x) e in
     shift-case op w (p .op-is) (p .op3-is) ∙ rw (count-at x p, p .rd-is, p .rs1-is)
-written-is-read (Load op rd rs1 d) w e =
-    let p = parts 3 rd (loadCode op) rs1 w (displacementBits d) (omega arith) (load-small op) (displacement-fits d) e in
-    memory-at d p ∙ load-case op w d (p .op3-is) ∙ rw (p .rd-is, p .rs1-is)
-written-is-read (Store op rd rs1 d) w e =
-    let p = parts 3 rd (storeCode op) rs1 w (displacementBits d) (omega arith) (store-small op) (displacement-fits d) e in
-    memory-at d p ∙ store-case op w d (p .op3-is) ∙ rw (p .rd-is, p .rs1-is)
+operation-back (Memory a rd rs1 d) w e =
+    let p = parts 3 rd (accessCode a) rs1 w (displacementBits d) (omega arith) (access-small a) (displacement-fits d) e in
+    memory-at d p ∙ access-case a w d (p .op3-is) ∙ rw (p .rd-is, p .rs1-is)
+
+pub written-is-read : WrittenIsRead
+unfolding writingOf
+written-is-read (Plain x) w e = operation-back x w e
+written-is-read (Branch b) w e = bicc-with (b .annul) (b .cond) (b .distance .0) w _ refl e
 written-is-read Return w e = return-back w e

@@ -5,6 +5,7 @@ use mathlib.Core.Bool.{Bool, cond}
 use lib.Dec.{ltb, eqb}
 use Rattle.v8.specs.Signed.{signExtend}
 use Rattle.v8.specs.Read.{leafReturn}
+use Rattle.v8.specs.Numbers.{notWritten}
 use Rattle.v8.specs.declared.AluOp.{AluOp}
 use Rattle.v8.specs.declared.AluOp.the-variants.{Add, And, Or, Xor, Sub, Andn, Orn, Xnor}
 use Rattle.v8.specs.declared.ShiftOp.{ShiftOp}
@@ -17,8 +18,12 @@ use Rattle.v8.specs.declared.Operand.{Operand}
 use Rattle.v8.specs.declared.Operand.the-variants.{Reg, Imm}
 use Rattle.v8.specs.declared.Displacement.{Displacement}
 use Rattle.v8.specs.declared.Displacement.the-variants.{Index, Bytes}
+use Rattle.v8.specs.declared.Access.{Access}
+use Rattle.v8.specs.declared.Access.the-variants.{Loads, Stores}
+use Rattle.v8.specs.declared.Operation.{Operation}
+use Rattle.v8.specs.declared.Operation.the-variants.{Sethi, Alu, Shift, Memory}
 use Rattle.v8.specs.declared.Instruction.{Instruction}
-use Rattle.v8.specs.declared.Instruction.the-variants.{Sethi, Bicc, Alu, Shift, Load, Store, Return}
+use Rattle.v8.specs.declared.Instruction.the-variants.{Plain, Branch, Return}
 use Rattle.writer.specs.declared.Writing.{Writing}
 use Rattle.writer.specs.declared.Writing.the-variants.{Written, Unwritable}
 use Rattle.writer.specs.declared.Part.{Part}
@@ -27,7 +32,7 @@ use Rattle.writer.specs.declared.Part.the-variants.{Bits, OutOfRange}
 -- "Write an instruction: 17."
 abbrev pub writeNumber : Writing → ℕ
 writeNumber (Written w) = 0
-writeNumber Unwritable = 17
+writeNumber Unwritable = notWritten
 
 -- bit 13, i = 1: a number stands in the place of rs2
 abbrev pub iBit : ℕ
@@ -87,6 +92,10 @@ storeCode St = 0x04
 storeCode Stb = 0x05
 storeCode Sth = 0x06
 
+abbrev pub accessCode : Access → ℕ
+accessCode (Loads op) = loadCode op
+accessCode (Stores op) = storeCode op
+
 -- a part of n bits
 abbrev pub Fits : ℕ → Part → Type 0
 Fits n (Bits b) = b < 2 ^ n
@@ -109,11 +118,14 @@ abbrev pub biccWord : Bool → ℕ → Part → Writing
 biccWord annul cnd (Bits b) = cond (ltb cnd 16) (Written (cond annul (2 ^ 29) 0 + cnd * 2 ^ 25 + 2 * 2 ^ 22 + b)) Unwritable
 biccWord annul cnd OutOfRange = Unwritable
 
+-- an instruction that is no transfer
+abbrev pub operationWord : Operation → Writing
+operationWord (Sethi rd imm22) = sethiWord rd imm22
+operationWord (Alu op cc rd rs1 x) = packed 2 rd (aluCodeCc op cc) rs1 (operandBits x)
+operationWord (Shift op rd rs1 x) = packed 2 rd (shiftCode op) rs1 (countBits x)
+operationWord (Memory a rd rs1 d) = packed 3 rd (accessCode a) rs1 (displacementBits d)
+
 unfoldable pub writingOf : Instruction → Writing
-writingOf (Sethi rd imm22) = sethiWord rd imm22
-writingOf (Bicc annul cnd d) = biccWord annul cnd (signedBits 22 0 (d .0))
-writingOf (Alu op cc rd rs1 x) = packed 2 rd (aluCodeCc op cc) rs1 (operandBits x)
-writingOf (Shift op rd rs1 x) = packed 2 rd (shiftCode op) rs1 (countBits x)
-writingOf (Load op rd rs1 d) = packed 3 rd (loadCode op) rs1 (displacementBits d)
-writingOf (Store op rd rs1 d) = packed 3 rd (storeCode op) rs1 (displacementBits d)
+writingOf (Plain x) = operationWord x
+writingOf (Branch b) = biccWord (b .annul) (b .cond) (signedBits 22 0 (b .distance .0))
 writingOf Return = Written leafReturn

@@ -2,12 +2,14 @@
 // stand in specs/Laws.antt. (Document 01, "Write an instruction".)
 ghost use mathlib.Core.Path.{_≡_};
 ghost use Prim.Native.Nat.{_+_, _<_, _≤_, _^_};
-ghost use Rattle.writer.specs.Write.{writeNumber, writingOf, signedBits, fiveBits, operandBits, countBits, displacementBits, aluCode, aluCodeCc, shiftCode, loadCode, storeCode, packed, sethiWord, biccWord, Fits};
+ghost use Rattle.writer.specs.Write.{writeNumber, writingOf, signedBits, fiveBits, operandBits, countBits, displacementBits, aluCode, aluCodeCc, shiftCode, loadCode, storeCode, accessCode, packed, sethiWord, biccWord, operationWord, Fits};
+use v8::Access;
 use v8::AluOp;
 use v8::Displacement;
 use v8::Instruction;
 use v8::LoadOp;
 use v8::Operand;
+use v8::Operation;
 use v8::ShiftOp;
 use v8::StoreOp;
 use v8::WordIndex;
@@ -150,6 +152,15 @@ fn store_code(op: StoreOp) -> u32
     }
 }
 
+fn access_code(access: Access) -> u32
+    ensures { λ r. ⌜ r ≡ accessCode access ⌝ }
+{
+    match access {
+        Access::Loads(op) => load_code(op),
+        Access::Stores(op) => store_code(op),
+    }
+}
+
 // A word of format 10 or 11, from its fields.
 fn pack(op: u32, rd: u8, op3: u32, rs1: u8, low: Part) -> Writing
     requires { ⌜ (op < 4) × (op3 < 64) × Fits 14 low ⌝ }
@@ -201,44 +212,49 @@ fn write_bicc(annul: bool, cond: u8, distance: WordIndex) -> Writing
     }
 }
 
-// Writes an instruction: a word, or refusal 17 where a part is out of range.
-pub fn write_instruction(x: Instruction) -> Writing
-    ensures writing { λ r. ⌜ r ≡ writingOf x ⌝ }
-    ensures number { λ r. ⌜ writeNumber r ≡ writeNumber (writingOf x) ⌝ }
+// An instruction that is no transfer.
+fn write_operation(x: Operation) -> Writing
+    ensures { λ r. ⌜ r ≡ operationWord x ⌝ }
 {
     match x {
-        Instruction::Sethi { rd, imm22 } => write_sethi(rd, imm22),
-        Instruction::Bicc {
-            annul,
-            cond,
-            distance,
-        } => write_bicc(annul, cond, distance),
-        Instruction::Alu {
+        Operation::Sethi { rd, imm22 } => write_sethi(rd, imm22),
+        Operation::Alu {
             op,
             cc,
             rd,
             rs1,
             operand,
         } => pack(2, rd, alu_code_cc(op, cc), rs1, operand_bits(operand)),
-        Instruction::Shift { op, rd, rs1, count } => pack(
+        Operation::Shift { op, rd, rs1, count } => pack(
             2,
             rd,
             shift_code(op),
             rs1,
             count_bits(count),
         ),
-        Instruction::Load {
-            op,
+        Operation::Memory {
+            access,
             rd,
             rs1,
             displacement,
-        } => pack(3, rd, load_code(op), rs1, displacement_bits(displacement)),
-        Instruction::Store {
-            op,
+        } => pack(
+            3,
             rd,
+            access_code(access),
             rs1,
-            displacement,
-        } => pack(3, rd, store_code(op), rs1, displacement_bits(displacement)),
+            displacement_bits(displacement),
+        ),
+    }
+}
+
+// Writes an instruction: a word, or refusal 17 where a part is out of range.
+pub fn write_instruction(x: Instruction) -> Writing
+    ensures writing { λ r. ⌜ r ≡ writingOf x ⌝ }
+    ensures number { λ r. ⌜ writeNumber r ≡ writeNumber (writingOf x) ⌝ }
+{
+    match x {
+        Instruction::Plain(op) => write_operation(op),
+        Instruction::Branch(b) => write_bicc(b.annul, b.cond, b.distance),
         Instruction::Return => Writing::Written(LEAF_RETURN),
     }
 }

@@ -1,15 +1,15 @@
 -- `check` meets its contract. After each pass stands what is left of the check.
-use mathlib.Core.Path.{_≡_, refl, sym, ap, _∙_}
+use mathlib.Core.Path.{_≡_, sym, ap, _∙_}
 use mathlib.Core.Bool.{true}
 use native.Mathlib.Omega.{arith}
+use lib.ListN.{length}
 use denote.Ref.{now}
 use borrow.Author.Needs.{needs}
 use borrow.Author.Tests.{not-true, not-false, eq-eqb}
 use Rattle.policy.specs.Policy.{policyOk}
 use Rattle.checker.specs.Answer.{passes}
-use Rattle.checker.specs.Passes.{shapeOk}
-use Rattle.checker.proofs.Parts.{Given, whole, over-rows, over-reads, over-flow, over-words, of-entry}
-use Rattle.checker.proofs.Stages.{goes, stops, Shaped, shaped, answer, bad-policy, bad-shape, from-rows, fromRows, fromReads, fromFlow, fromEntry, fromWords}
+use Rattle.checker.proofs.Parts.{Given, over}
+use Rattle.checker.proofs.Stages.{goes, stops, Shaped, shapes, shaped, answer, bad-policy, bad-shape, from-rows, fromRows, fromReads, fromFlow, fromEntry, fromWords}
 use Rattle.checker.proofs.checking.check.Statement.{statement}
 use Rattle.checker.proofs.checking.check.Tie as tie
 
@@ -34,7 +34,7 @@ right-policy c = sym (c .before .well-formed .ensures) ∙ not-false _ (c .if1 .
 abbrev given2 : tie.Else2 → Given
 given2 c = given1 (c .before .before)
 
-right-shape : (c : tie.Else2) → shapeOk (whole (given2 c)) ≡ true
+right-shape : (c : tie.Else2) → shapes (given2 c) (length (given2 c .words)) ≡ true
 right-shape c = sym (c .before .shape-ok .ensures) ∙ not-false _ (c .if2 .left)
 
 lengths : (c : tie.Else2) → Shaped (given2 c)
@@ -44,32 +44,44 @@ left2 : (c : tie.Else2) → answer (given2 c) ≡ fromRows (given2 c)
 left2 c = from-rows (given2 c) (right-policy (c .before .before)) (right-shape c)
 
 -- after 1
+abbrev shape3 : tie.Else3 → tie.Else2
+shape3 c = c .before .before .before
+
 abbrev given3 : tie.Else3 → Given
-given3 c = given2 (c .before .before .before)
+given3 c = given2 (shape3 c)
 
 left3 : (c : tie.Else3) → answer (given3 c) ≡ fromReads (given3 c)
-left3 c = left2 (c .before .before .before) ∙ goes _ _ _ (c .before .before .row-pass .ensures ∙ over-rows (given3 c)) (c .if3 .left)
+left3 c = left2 (shape3 c) ∙ goes _ _ _ (c .before .before .row-pass .ensures ∙ over (given3 c) _) (c .if3 .left)
 
 -- after 2
+abbrev formed4 : tie.Else4 → tie.Else3
+formed4 c = c .before .before .before .before
+
 abbrev given4 : tie.Else4 → Given
-given4 c = given3 (c .before .before .before)
+given4 c = given3 (formed4 c)
 
 left4 : (c : tie.Else4) → answer (given4 c) ≡ fromFlow (given4 c)
-left4 c = left3 (c .before .before .before) ∙ goes _ _ _ (c .before .before .read-pass .ensures ∙ over-reads (given4 c)) (c .if4 .left)
+left4 c = left3 (formed4 c) ∙ goes _ _ _ (c .before .before .read-pass .ensures ∙ over (given4 c) _) (c .if4 .left)
 
 -- after 3
+abbrev read5 : tie.Else5 → tie.Else4
+read5 c = c .before .before .before .before .before
+
 abbrev given5 : tie.Else5 → Given
-given5 c = given4 (c .before .before .before)
+given5 c = given4 (read5 c)
 
 left5 : (c : tie.Else5) → answer (given5 c) ≡ fromEntry (given5 c)
-left5 c = left4 (c .before .before .before) ∙ goes _ _ _ (c .before .before .flow-pass .ensures ∙ over-flow (given5 c)) (c .if5 .left)
+left5 c = left4 (read5 c) ∙ goes _ _ _ (c .before .before .flow-pass .ensures ∙ over (given5 c) _) (c .if5 .left)
 
 -- after 15
+abbrev flows6 : tie.Else6 → tie.Else5
+flows6 c = c .before .before .before
+
 abbrev given6 : tie.Else6 → Given
-given6 c = given5 (c .before .before .before)
+given6 c = given5 (flows6 c)
 
 left6 : (c : tie.Else6) → answer (given6 c) ≡ fromWords (given6 c)
-left6 c = left5 (c .before .before .before) ∙ goes _ _ _ (c .before .before .entry-pass .ensures ∙ of-entry (given6 c)) (c .if6 .left)
+left6 c = left5 (flows6 c) ∙ goes _ _ _ (c .before .before .entry-pass .ensures) (c .if6 .left)
 
 well-formed-requires : tie.Need-well-formed-requires
 well-formed-requires c κs = search needs
@@ -103,43 +115,53 @@ row-pass-requires c κs = (lengths c .most, sym (lengths c .rows))
 returns-3 : tie.Need-returns-3
 returns-3 c =
     let d = c .before .before in
-    sym (left2 (d .before) ∙ stops _ _ _ (d .row-pass .ensures ∙ over-rows (given2 (d .before))) (c .if3 .taken))
+    sym (left2 (d .before) ∙ stops _ _ _ (d .row-pass .ensures ∙ over (given2 (d .before)) _) (c .if3 .taken))
+
+read-all-requires : tie.Need-read-all-requires
+read-all-requires c κs = lengths (shape3 c) .most
 
 read-pass-requires : tie.Need-read-pass-requires
-read-pass-requires c κs = search needs
+read-pass-requires c κs = (lengths (shape3 (c .before)) .most, c .read-all .ensures)
 
 returns-4 : tie.Need-returns-4
 returns-4 c =
     let d = c .before .before in
-    sym (left3 (d .before) ∙ stops _ _ _ (d .read-pass .ensures ∙ over-reads (given3 (d .before))) (c .if4 .taken))
+    sym (left3 (d .before .before) ∙ stops _ _ _ (d .read-pass .ensures ∙ over (given3 (d .before .before)) _) (c .if4 .taken))
+
+examine-all-requires : tie.Need-examine-all-requires
+examine-all-requires c κs = (lengths (shape3 (formed4 c)) .most, c .before .before .before .read-all .ensures)
 
 flow-pass-requires : tie.Need-flow-pass-requires
-flow-pass-requires c κs = lengths (c .before .before .before .before .before .before) .most
+flow-pass-requires c κs =
+    let r = c .before .before in
+    (lengths (shape3 (formed4 r)) .most, r .before .before .before .read-all .ensures, c .before .examine-all .ensures)
 
 returns-5 : tie.Need-returns-5
 returns-5 c =
     let d = c .before .before in
-    sym (left4 (d .before) ∙ stops _ _ _ (d .flow-pass .ensures ∙ over-flow (given4 (d .before))) (c .if5 .taken))
+    let r = d .before .before .before in
+    sym (left4 r ∙ stops _ _ _ (d .flow-pass .ensures ∙ over (given4 r) _) (c .if5 .taken))
 
 entry-pass-requires : tie.Need-entry-pass-requires
 entry-pass-requires c κs =
-    let l = lengths (c .before .before .before .before .before .before .before .before .before) in
+    let l = lengths (shape3 (formed4 (read5 c))) in
     (omega (arith, l .rows, l .some), omega (arith, l .entry))
 
 returns-6 : tie.Need-returns-6
 returns-6 c =
     let d = c .before .before in
-    sym (left5 (d .before) ∙ stops _ _ _ (d .entry-pass .ensures ∙ of-entry (given5 (d .before))) (c .if6 .taken))
+    sym (left5 (d .before) ∙ stops _ _ _ (d .entry-pass .ensures) (c .if6 .taken))
 
 word-pass-requires : tie.Need-word-pass-requires
 word-pass-requires c κs =
-    let e = c .before .before .before in
-    let l = lengths (e .before .before .before .before .before .before .before .before .before) in
-    let flows = ap passes (sym (e .before .before .flow-pass .ensures)) ∙ eq-eqb _ 0 (e .if5 .left) in
-    (l .most, sym (l .rows), omega (arith, l .result), refl, flows)
+    let f = flows6 (c .before) in
+    let r = read5 f in
+    let l = lengths (shape3 (formed4 r)) in
+    let flows = ap passes (sym (f .before .before .flow-pass .ensures)) ∙ eq-eqb _ 0 (f .if5 .left) in
+    (l .most, r .before .before .before .read-all .ensures, f .before .before .before .before .examine-all .ensures, sym (l .rows), omega (arith, l .result), flows)
 
 returns-7 : tie.Need-returns-7
-returns-7 c = c .word-pass .ensures ∙ over-words (given6 (c .before)) ∙ sym (left6 (c .before))
+returns-7 c = c .word-pass .ensures ∙ over (given6 (c .before .before)) _ ∙ sym (left6 (c .before .before))
 
 pub check-spec : {M : Type 1} → statement M
 check-spec =
@@ -154,8 +176,10 @@ check-spec =
     cast-length
     row-pass-requires
     returns-3
+    read-all-requires
     read-pass-requires
     returns-4
+    examine-all-requires
     flow-pass-requires
     returns-5
     entry-pass-requires

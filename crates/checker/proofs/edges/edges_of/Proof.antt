@@ -1,126 +1,104 @@
--- Each instruction has its own edges; they end at words of the code, since the flow is right.
-use Prim.Native.Nat.{_+_, _*_, _≤_}
-use mathlib.Core.Path.{_≡_}
-use mathlib.Core.Bool.{true}
-use native.Mathlib.Omega.{arith}
+-- The taken edge, if there is one, has its answer; where that accepts, or there is none, the other has.
+use mathlib.Core.Path.{_≡_, refl, sym, subst, _∙_}
+use mathlib.Core.Bool.{Bool, true, false, cond}
+use mathlib.Core.Logic.{⊎-elim}
 use lib.ListN.{length}
 use denote.Ref.{now}
+use Rattle.flow.specs.declared.Edge.{Edge}
+use Rattle.flow.specs.Edge.{edgeOf}
+use Rattle.checker.specs.declared.Answer.{Answer}
+use Rattle.checker.specs.Answer.{accepted, andThen}
+use Rattle.checker.specs.Passes.{narrowedEdge}
+use Rattle.checker.specs.Lent.{EndIn}
+use Rattle.checker.proofs.Stages.{goes, stops}
 use borrow.Author.Needs.{needs}
-use Rattle.checker.specs.Routine.{rowBytes}
-use Rattle.checker.specs.Passes.{plainFlow, edgeOf, branchEdge, branchEdges}
-use Rattle.checker.specs.Lent.{codeOf}
-use Rattle.checker.proofs.Landing.{next-inside}
 use Rattle.checker.proofs.edges.edges_of.Statement.{statement}
 use Rattle.checker.proofs.edges.edges_of.Tie as tie
+use Rattle.checker.proofs.edges.edges_of.Reads as reads
+use Rattle.checker.proofs.edges.edges_of.Lts as lts
+use Rattle.checker.proofs.answers.accept.Reads as accept-reads
+use Rattle.checker.proofs.edges.narrowed_edge.Reads as narrowed-edge-reads
+use Rattle.flow.proofs.edges.edge_of.Reads as edge-of-reads
 
--- where the flow of a plain word is right, the next row is among the rows
-next : (s : tie.Start) → plainFlow (codeOf (now (s .args .words))) (s .args .at .0) ≡ true
-    → rowBytes * (s .args .at .0 + 1) + rowBytes ≤ length (now (s .args .rows))
-next s flow = omega (arith, s .pre .1, next-inside (now (s .args .words)) (s .args .at .0) flow (s .pre .3))
+-- the answer along an edge
+abbrev along : tie.Start → Edge → Answer
+along s e = narrowedEdge (s .args .policy) (now (s .args .rows)) (now (s .args .result)) (s .args .at .0) (s .args .x) e (s .args .row)
 
-add-t12 : tie.Need-add-t12
-add-t12 c = search needs
+abbrev edge : tie.Start → Bool → Edge
+edge s taken = edgeOf (s .args .at .0) (s .args .instruction) taken
 
-enum-told : tie.Need-enum-told
-enum-told c = search needs
+-- the row where an edge that there is ends is among the rows
+lies : (s : tie.Start) (taken : Bool) (e : Edge) → e ≡ edge s taken → e .exists ≡ true → EndIn (e .to) (length (now (s .args .rows)))
+lies s taken e q = subst (λ (y : Edge). y .exists ≡ true → EndIn (y .to) (length (now (s .args .rows)))) (sym q) (s .pre .2 taken)
 
-arrive-at-requires : tie.Need-arrive-at-requires
-arrive-at-requires c κs =
-    let s = c .before .before .before .before .before .before in
-    next s (rw (c .enum-told .given .1) at (s .pre .4))
+-- an edge that there is has its answer, one that there is not accepts
+there : (f : Edge → Answer) (e y : Edge) → e ≡ y → e .exists ≡ true → f e ≡ cond (y .exists) (f y) accepted
+there f e y q x = subst (λ (z : Edge). f e ≡ cond (z .exists) (f z) accepted) q (at (e .exists) x)
+  where
+    at : (b : Bool) → b ≡ true → f e ≡ cond b (f e) accepted
+    at b t = rw t
 
-enum-known-x : tie.Need-enum-known-x
-enum-known-x c = search needs
+gone : (f : Edge → Answer) (e y : Edge) → e ≡ y → e .exists ≡ false → accepted ≡ cond (y .exists) (f y) accepted
+gone f e y q x = subst (λ (z : Edge). accepted ≡ cond (z .exists) (f z) accepted) q (at (e .exists) x)
+  where
+    at : (b : Bool) → b ≡ false → accepted ≡ cond b (f e) accepted
+    at b t = rw t
 
-branch-edges-requires : tie.Need-branch-edges-requires
-branch-edges-requires c κs =
-    let pre = c .before .before .before .before .before .before .before .pre in
-    (pre .0, pre .1, rw (c .before .x .given .1) at (pre .4))
+-- where the taken edge accepts, or there is none, the answer is the other's
+rest : (c : lts.Joined1 (edge-of-reads.Asked, edge-of-reads.Learnt, narrowed-edge-reads.Asked, narrowed-edge-reads.Learnt, accept-reads.Asked, accept-reads.Learnt) reads.Pre reads.Post)
+    → let s = c .before .before .before .before in
+    andThen (cond (edge s true .exists) (along s (edge s true)) accepted) (cond (edge s false .exists) (along s (edge s false)) accepted)
+    ≡ cond (edge s false .exists) (along s (edge s false)) accepted
+rest c =
+    let s = c .before .before .before .before in
+    ⊎-elim
+    (λ w. goes _ _ _ (w .1 .ensures ∙ there (along s) _ _ (c .before .edge-of .ensures) (w .0 .taken)) (w .3 .left))
+    (λ w. goes accepted _ _ (gone (along s) _ _ (c .before .edge-of .ensures) (w .left)) refl)
+    (c .if1 .came)
 
-enum-told-2 : tie.Need-enum-told-2
-enum-told-2 c = search needs
+edge-of-requires : tie.Need-edge-of-requires
+edge-of-requires c κs = search needs
 
-arrive-at-requires-2 : tie.Need-arrive-at-requires-2
-arrive-at-requires-2 c κs =
-    let s = c .before .before .before .before .before .before in
-    next s (rw (c .enum-told2 .given .1) at (s .pre .4))
-
-enum-told-3 : tie.Need-enum-told-3
-enum-told-3 c = search needs
-
-arrive-at-requires-3 : tie.Need-arrive-at-requires-3
-arrive-at-requires-3 c κs =
-    let s = c .before .before .before .before .before .before in
-    next s (rw (c .enum-told3 .given .1) at (s .pre .4))
-
-enum-told-4 : tie.Need-enum-told-4
-enum-told-4 c = search needs
-
-arrive-at-requires-4 : tie.Need-arrive-at-requires-4
-arrive-at-requires-4 c κs =
-    let s = c .before .before .before .before .before .before in
-    next s (rw (c .enum-told4 .given .1) at (s .pre .4))
-
-enum-told-5 : tie.Need-enum-told-5
-enum-told-5 c = search needs
-
-arrive-at-requires-5 : tie.Need-arrive-at-requires-5
-arrive-at-requires-5 c κs =
-    let s = c .before .before .before .before .before .before in
-    next s (rw (c .enum-told5 .given .1) at (s .pre .4))
-
-enum-told-6 : tie.Need-enum-told-6
-enum-told-6 c = search needs
-
-edge-out-requires : tie.Need-edge-out-requires
-edge-out-requires c κs = search needs
+narrowed-edge-requires : tie.Need-narrowed-edge-requires
+narrowed-edge-requires c κs =
+    let s = c .before .before .before .before in
+    (s .pre .0, s .pre .1, lies s true (c .before .edge-of .result) (c .before .edge-of .ensures) (c .if1 .taken))
 
 returns : tie.Need-returns
-returns c = rw (c .before .enum-told .given .1) (c .arrive-at .ensures)
+returns c =
+    let s = c .before .before .before .before .before .before .before in
+    sym (stops _ _ _ (c .before .before .narrowed-edge .ensures ∙ there (along s) _ _ (c .before .before .before .before .edge-of .ensures) (c .before .before .before .if1 .taken)) (c .if2 .taken))
+
+edge-of-requires-2 : tie.Need-edge-of-requires-2
+edge-of-requires-2 c κs = search needs
+
+narrowed-edge-requires-2 : tie.Need-narrowed-edge-requires-2
+narrowed-edge-requires-2 c κs =
+    let s = c .before .before .before .before .before .before in
+    (s .pre .0, s .pre .1, lies s false (c .before .edge-of2 .result) (c .before .edge-of2 .ensures) (c .if3 .taken))
 
 returns-2 : tie.Need-returns-2
-unfolding edgeOf branchEdge branchEdges
-returns-2 c = rw (c .before .before .x .given .1) (c .branch-edges .ensures)
+returns-2 c =
+    let s = c .before .before .before .before .before .before .before in
+    c .narrowed-edge2 .ensures ∙ there (along s) _ _ (c .before .before .edge-of2 .ensures) (c .before .if3 .taken) ∙ sym (rest (c .before .before .before))
+
+accept-requires : tie.Need-accept-requires
+accept-requires c κs = search needs
 
 returns-3 : tie.Need-returns-3
-returns-3 c = rw (c .before .enum-told2 .given .1) (c .arrive-at2 .ensures)
-
-returns-4 : tie.Need-returns-4
-returns-4 c = rw (c .before .enum-told3 .given .1) (c .arrive-at3 .ensures)
-
-returns-5 : tie.Need-returns-5
-returns-5 c = rw (c .before .enum-told4 .given .1) (c .arrive-at4 .ensures)
-
-returns-6 : tie.Need-returns-6
-returns-6 c = rw (c .before .enum-told5 .given .1) (c .arrive-at5 .ensures)
-
-returns-7 : tie.Need-returns-7
-unfolding edgeOf
-returns-7 c = rw (c .before .enum-told6 .given .1) (c .edge-out .ensures)
+returns-3 c =
+    let s = c .before .before .before .before .before .before .before in
+    c .accept .ensures ∙ gone (along s) _ _ (c .before .before .edge-of2 .ensures) (c .before .if3 .left) ∙ sym (rest (c .before .before .before))
 
 pub edges-of-spec : {M : Type 1} → statement M
 edges-of-spec =
     tie.close
     (tie.spec
-    add-t12
-    enum-told
-    arrive-at-requires
-    enum-known-x
-    branch-edges-requires
-    enum-told-2
-    arrive-at-requires-2
-    enum-told-3
-    arrive-at-requires-3
-    enum-told-4
-    arrive-at-requires-4
-    enum-told-5
-    arrive-at-requires-5
-    enum-told-6
-    edge-out-requires
+    edge-of-requires
+    narrowed-edge-requires
     returns
+    edge-of-requires-2
+    narrowed-edge-requires-2
     returns-2
-    returns-3
-    returns-4
-    returns-5
-    returns-6
-    returns-7)
+    accept-requires
+    returns-3)

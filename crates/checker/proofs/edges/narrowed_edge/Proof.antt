@@ -1,16 +1,12 @@
--- By whether the note is a comparison, and what it leaves of the register's entry.
-use borrow.Author.Tests.{ne-eqb, eq-eqb}
-use borrow.Author.Needs.{needs}
+-- By whether the class narrows what the note compares, and what it leaves of the register's entry.
 use Rattle.rules.specs.Narrow.{narrowRow}
+use Rattle.checker.specs.Passes.{narrowedEdge}
+use borrow.Author.Needs.{needs}
 use Rattle.checker.proofs.edges.narrowed_edge.Statement.{statement}
 use Rattle.checker.proofs.edges.narrowed_edge.Tie as tie
 
-edge-to-requires : tie.Need-edge-to-requires
-edge-to-requires c κs = search needs
-
-returns : tie.Need-returns
-unfolding narrowRow
-returns c = rw (ne-eqb _ 2 (c .before .if1 .taken)) (c .edge-to .ensures)
+narrows-requires : tie.Need-narrows-requires
+narrows-requires c κs = search needs
 
 entry-at-requires : tie.Need-entry-at-requires
 entry-at-requires c κs = search needs
@@ -18,14 +14,18 @@ entry-at-requires c κs = search needs
 narrow-entry-requires : tie.Need-narrow-entry-requires
 narrow-entry-requires c κs = search needs
 
-enum-known-e : tie.Need-enum-known-e
-enum-known-e c = search needs
+enum-known-entry : tie.Need-enum-known-entry
+enum-known-entry c = search needs
 
 row-with-requires : tie.Need-row-with-requires
 row-with-requires c κs = search needs
 
-edge-to-requires-2 : tie.Need-edge-to-requires-2
-edge-to-requires-2 c κs = search needs
+cross-requires : tie.Need-cross-requires
+cross-requires c κs = search needs
+
+returns : tie.Need-returns
+unfolding narrowedEdge narrowRow
+returns c = rw (← c .before .before .before .before .before .before .before .before .before .narrows .ensures, c .before .before .before .before .before .before .before .if1 .taken, ← c .before .before .before .before .before .before .entry-at .ensures, ← c .before .before .before .before .before .narrow-entry .ensures, c .before .before .before .entry .given .1, ← c .before .row-with .ensures) (c .cross .ensures)
 
 enum-told : tie.Need-enum-told
 enum-told c = search needs
@@ -34,41 +34,29 @@ accept-requires : tie.Need-accept-requires
 accept-requires c κs = search needs
 
 returns-2 : tie.Need-returns-2
-unfolding narrowRow
-returns-2 c =
-    let x = c .before .before .before in
-    let n = x .before .before in
-    rw (
-      eq-eqb _ 2 (n .before .before .if1 .left),
-      ← n .before .entry-at .ensures,
-      ← n .narrow-entry .ensures,
-      x .e .given .1,
-      ← c .before .row-with .ensures,
-    ) (c .edge-to2 .ensures)
+unfolding narrowedEdge narrowRow
+returns-2 c = rw (← c .before .before .before .before .before .before .before .narrows .ensures, c .before .before .before .before .before .if1 .taken, ← c .before .before .before .before .entry-at .ensures, ← c .before .before .before .narrow-entry .ensures, c .before .enum-told .given .1) (c .accept .ensures)
+
+cross-requires-2 : tie.Need-cross-requires-2
+cross-requires-2 c κs = search needs
 
 returns-3 : tie.Need-returns-3
-unfolding narrowRow
-returns-3 c =
-    let n = c .before .before .before in
-    rw (
-      eq-eqb _ 2 (n .before .before .if1 .left),
-      ← n .before .entry-at .ensures,
-      ← n .narrow-entry .ensures,
-      c .before .enum-told .given .1,
-    ) (c .accept .ensures)
+unfolding narrowedEdge narrowRow
+returns-3 c = rw (← c .before .before .before .narrows .ensures, c .before .if1 .left) (c .cross2 .ensures)
 
 pub narrowed-edge-spec : {M : Type 1} → statement M
 narrowed-edge-spec =
     tie.close
     (tie.spec
-    edge-to-requires
-    returns
+    narrows-requires
     entry-at-requires
     narrow-entry-requires
-    enum-known-e
+    enum-known-entry
     row-with-requires
-    edge-to-requires-2
+    cross-requires
+    returns
     enum-told
     accept-requires
     returns-2
+    cross-requires-2
     returns-3)

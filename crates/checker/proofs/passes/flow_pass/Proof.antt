@@ -1,52 +1,63 @@
 -- The loop's invariant: the pass from the present word on gives the answer of the whole pass.
+use Rattle.checker.proofs.Passing.{passFrom, pass-start, pass-here, pass-next, pass-end, flow-here}
 use Prim.Native.Nat.{_≤_, _-_}
 use mathlib.Core.Path.{_≡_, sym, _∙_}
 use native.Mathlib.Omega.{arith}
+use lib.ListN.{length}
+use denote.Ref.{now}
 use borrow.Author.Needs.{needs}
+use Rattle.flow.specs.Readings.{readingsOf}
 use Rattle.checker.specs.Answer.{passOf}
 use Rattle.checker.specs.Passes.{flowPass}
-use Rattle.checker.specs.Lent.{codeOf}
-use Rattle.checker.proofs.Passing.{passFrom, pass-start, pass-here, pass-next, pass-end}
 use Rattle.checker.proofs.passes.flow_pass.Statement.{statement}
 use Rattle.checker.proofs.passes.flow_pass.Tie as tie
 
 abbrev Inv-loop : tie.InvT-loop
-Inv-loop words count at₀ at =
-    (at .0 ≤ count .0) × (passOf (flowPass (codeOf words)) (count .0) ≡ passFrom (flowPass (codeOf words)) (at .0) (count .0))
+Inv-loop words marks readings i₀ i = (i ≤ length words) × (passOf (flowPass (readingsOf words)) (length words) ≡ passFrom (flowPass (readingsOf words)) i (length words))
 
 abbrev μ-loop : tie.MeasureT-loop
-μ-loop words count at₀ at = count .0 - at .0
+μ-loop words marks readings i₀ i = length words - i
 
 loop-holds : tie.Need-loop-holds Inv-loop μ-loop
 loop-holds c = (omega arith, pass-start _ _)
+
+mul-x : tie.Need-mul-x Inv-loop μ-loop
+mul-x c = search needs
+
+array-copy-out-x : tie.Need-array-copy-out-x Inv-loop μ-loop
+array-copy-out-x c = search needs
+
+cast-t13 : tie.Need-cast-t13 Inv-loop μ-loop
+cast-t13 c = search needs
 
 flow-at-requires : tie.Need-flow-at-requires Inv-loop μ-loop
 flow-at-requires c κs = search needs
 
 returns : tie.Need-returns Inv-loop μ-loop
 returns c =
-    let d = c .before .before in
-    let whole = d .before .before .before .before .loop .inv .1 in
-    sym (whole ∙ pass-here _ _ _ _ (d .flow-at .ensures) (d .before .if1 .taken) (c .if2 .taken))
+    let t = c .before .before .before .before in
+    let s = t .before .before .before in
+    let here = flow-here (now (s .args .words)) (s .args .t2) (t .before .loop .i) (s .pre .1) (t .loop-test .taken) (s .pre .0) _ (c .before .before .flow-at .ensures) in
+    sym (t .before .loop .inv .1 ∙ pass-here _ _ _ _ here (t .loop-test .taken) (c .if1 .taken))
 
-add-t6 : tie.Need-add-t6 Inv-loop μ-loop
-add-t6 c = search needs
+add-i : tie.Need-add-i Inv-loop μ-loop
+add-i c = search needs
 
 loop-less : tie.Need-loop-less Inv-loop μ-loop
 loop-less c = search needs
 
 loop-again : tie.Need-loop-again Inv-loop μ-loop
 loop-again c =
-    let d = c .before .before .before in
-    let whole = d .before .before .before .before .loop .inv .1 in
-    (omega arith, whole ∙ pass-next _ _ _ _ (d .flow-at .ensures) (d .before .if1 .taken) (c .before .if2 .left))
+    let t = c .before .before .before .before in
+    let s = t .before .before .before in
+    let here = flow-here (now (s .args .words)) (s .args .t2) (t .before .loop .i) (s .pre .1) (t .loop-test .taken) (s .pre .0) _ (c .before .before .flow-at .ensures) in
+    (omega (arith, t .loop-test .taken), t .before .loop .inv .1 ∙ pass-next _ _ _ _ here (t .loop-test .taken) (c .if1 .left))
 
 accept-requires : tie.Need-accept-requires Inv-loop μ-loop
 accept-requires c κs = search needs
 
 returns-2 : tie.Need-returns-2 Inv-loop μ-loop
-returns-2 c =
-    c .accept .ensures ∙ sym (c .before .before .before .before .loop .inv .1 ∙ pass-end _ _ _ (c .before .if1 .left))
+returns-2 c = c .accept .ensures ∙ sym (c .before .before .loop .inv .1 ∙ pass-end _ _ _ (c .before .loop-test .left))
 
 pub flow-pass-spec : {M : Type 1} → statement M
 flow-pass-spec =
@@ -55,9 +66,12 @@ flow-pass-spec =
     Inv-loop
     μ-loop
     loop-holds
+    mul-x
+    array-copy-out-x
+    cast-t13
     flow-at-requires
     returns
-    add-t6
+    add-i
     loop-less
     loop-again
     accept-requires

@@ -7,12 +7,12 @@ use mathlib.Core.Logic.{⊎-elim}
 use native.Mathlib.Omega.{arith}
 use denote.Ref.{now}
 use borrow.Author.Needs.{needs}
+use Rattle.v8.specs.Numbers.{badRow}
 use Rattle.v8.specs.Search.{first, first-here, first-next, first-end}
 use Rattle.rows.specs.Row.{brokenAt, places, formFault}
 use Rattle.checker.specs.Answer.{accepted, refuse, passOf}
 use Rattle.checker.specs.Routine.{rowBytes}
-use Rattle.checker.specs.Passes.{badRow, rowPass}
-use Rattle.checker.specs.Lent.{formOf}
+use Rattle.checker.specs.Passes.{rowPass}
 use Rattle.checker.proofs.Passing.{passFrom, pass-start, pass-here, pass-next, pass-end, row-broken, row-formed}
 use Rattle.checker.proofs.passes.row_pass.Statement.{statement}
 use Rattle.checker.proofs.passes.row_pass.Tie as tie
@@ -29,7 +29,7 @@ abbrev μ-loop : tie.MeasureT-loop
 abbrev Inv-rows : tie.InvT-rows
 Inv-rows rows count policy at₀ place₀ at place =
     (at .0 ≤ count .0)
-    × (passOf (rowPass (formOf policy rows)) (count .0) ≡ passFrom (rowPass (formOf policy rows)) (at .0) (count .0))
+    × (passOf (rowPass policy rows) (count .0) ≡ passFrom (rowPass policy rows) (at .0) (count .0))
 
 abbrev μ-rows : tie.MeasureT-rows
 μ-rows rows count policy at₀ place₀ at place = count .0 - at .0
@@ -75,7 +75,7 @@ rows-again c =
     let r = o .before .before .before in
     let a = r .before .before .args in
     let none = l .before .loop .inv .1 ∙ first-end _ _ _ (l .loop-test .left) in
-    let formed = row-formed (formOf (a .t1) (now (a .rows))) _ _ none (l .loop-test .left) in
+    let formed = row-formed (a .t1) (now (a .rows)) _ _ none (l .loop-test .left) in
     (omega arith, r .rows .inv .1 ∙ pass-next _ _ _ accepted formed (o .if1 .taken) refl)
 
 refuse-requires : tie.Need-refuse-requires Inv-loop μ-loop Inv-rows μ-rows
@@ -86,13 +86,12 @@ returns c =
     let m = c .before .before .before .before in
     let r = m .before .before .before in
     let a = r .before .before .args in
-    let t = formOf (a .t1) (now (a .rows)) in
     c .refuse .ensures
     ∙ ⊎-elim
     (λ l. absurd (omega (arith, l .0 .left, c .before .if3 .taken)))
     (λ b.
     let lowest = b .1 .inv .1 ∙ first-here _ _ _ (b .2 .taken) (ap not (sym (b .6 .ensures)) ∙ b .7 .taken) in
-    let broken = row-broken t _ _ lowest (b .2 .taken) in
+    let broken = row-broken (a .t1) (now (a .rows)) _ _ lowest (b .2 .taken) in
     ap (refuse badRow (r .rows .at .0)) (b .8) ∙ sym (r .rows .inv .1 ∙ pass-here _ _ _ _ broken (b .0 .taken) (λ z. absurd (omega (arith, z)))))
     (m .if1 .came)
 

@@ -1,9 +1,10 @@
 -- The run is the run of what is left: after some steps, the whole run is the run from the state that they left, with what is left of
 -- the allowance. That is the measure too.
 use Rattle.machine.proofs.Loop.{turn-spent, turn-goes, turn-returned, turn-stopped}
-use Rattle.machine.proofs.Fetched.{fetched-inside, fetched-outside, within}
+use Rattle.flow.proofs.Fetched.{array-has, past-array}
+use Rattle.machine.proofs.Within.{within}
 use Rattle.machine.specs.Run.{runFrom}
-use Rattle.step.specs.Setting.{readingsOf, readingAt}
+use Rattle.flow.specs.Readings.{readingsOf, readingAt}
 use Rattle.step.specs.Lent.{Within, coreOf, layoutFrom, settingFrom}
 use lib.ListN.{length}
 use denote.Ref.{now}
@@ -17,7 +18,7 @@ use Rattle.machine.proofs.steps.run_steps.Statement.{statement}
 use Rattle.machine.proofs.steps.run_steps.Tie as tie
 use Rattle.machine.proofs.steps.run_steps.Reads as reads
 use Rattle.machine.proofs.steps.run_steps.Lts as lts
-use Rattle.machine.proofs.steps.read_all.Reads as read-all-reads
+use Rattle.flow.proofs.readings.read_all.Reads as read-all-reads
 use Rattle.step.proofs.dispatch.one_step.Reads as one-step-reads
 
 abbrev Inv-loop : tie.InvT-loop
@@ -48,8 +49,8 @@ array-copy-out-x c = search needs
 fetched : (c : lts.Joined1 (read-all-reads.Asked, read-all-reads.Learnt, one-step-reads.Asked, one-step-reads.Learnt) reads.Pre reads.Post Inv-loop μ-loop) → c .if1 .x ≡ readingAt (readingsOf (now (c .before .before .before .before .before .before .before .before .before .args .words))) (c .before .before .before .before .loop .control .at .0)
 fetched c =
     ⊎-elim
-    (λ w. w .2 ∙ fetched-inside (now (c .before .before .before .before .before .before .before .before .before .args .words)) (c .before .before .before .before .before .read-all .result) (c .before .before .before .before .loop .control .at .0) _ (c .before .before .before .before .before .read-all .ensures) (w .0 .taken))
-    (λ w. w .1 ∙ fetched-outside (now (c .before .before .before .before .before .before .before .before .before .args .words)) (c .before .before .before .before .loop .control .at .0) (c .before .before .before .before .before .before .before .before .before .pre .0) (w .0 .left))
+    (λ w. w .2 ∙ array-has (now (c .before .before .before .before .before .before .before .before .before .args .words)) (c .before .before .before .before .before .read-all .result) (c .before .before .before .before .loop .control .at .0) _ (c .before .before .before .before .before .read-all .ensures) (w .0 .taken))
+    (λ w. w .1 ∙ past-array (now (c .before .before .before .before .before .before .before .before .before .args .words)) (c .before .before .before .before .loop .control .at .0) (c .before .before .before .before .before .before .before .before .before .pre .0) (w .0 .left))
     (c .if1 .came)
 
 one-step-requires : tie.Need-one-step-requires Inv-loop μ-loop

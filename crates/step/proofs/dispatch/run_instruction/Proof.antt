@@ -1,48 +1,49 @@
--- An instruction is run by what it asks of memory.
-use Rattle.step.proofs.Requests.{asked}
-use Rattle.step.specs.Lent.{coreOf, layoutFrom}
-use denote.Ref.{now}
-use mathlib.Core.Path.{sym, _∙_}
+-- An operation, a branch or the return, each by its own function.
 use borrow.Author.Needs.{needs}
 use Rattle.step.proofs.dispatch.run_instruction.Statement.{statement}
 use Rattle.step.proofs.dispatch.run_instruction.Tie as tie
 
-request-of-requires : tie.Need-request-of-requires
-request-of-requires c κs = search needs
+enum-known-x : tie.Need-enum-known-x
+enum-known-x c = search needs
 
-enum-known-a : tie.Need-enum-known-a
-enum-known-a c = search needs
+run-operation-requires : tie.Need-run-operation-requires
+run-operation-requires c κs = search needs
 
-step-access-requires : tie.Need-step-access-requires
-step-access-requires c κs = search needs
+enum-known-x-2 : tie.Need-enum-known-x-2
+enum-known-x-2 c = search needs
+
+branch-requires : tie.Need-branch-requires
+branch-requires c κs = search needs
 
 enum-told : tie.Need-enum-told
 enum-told c = search needs
 
-run-plain-requires : tie.Need-run-plain-requires
-run-plain-requires c κs = (c .before .before .before .before .before .before .before .pre .0, rw (sym (c .before .before .before .before .request-of .ensures) ∙ c .before .before .enum-told .given .1) tt)
+leave-requires : tie.Need-leave-requires
+leave-requires c κs = search needs
 
 same-length : tie.Need-same-length
 same-length c = search needs
 
 returns : tie.Need-returns
-returns c = let s = c .before .before .before .before .before .before .before .before .before .before .before .before .args in
-    let l = layoutFrom (s .regions) (now (s .sizes)) (now (s .bases)) (now (s .fields)) (now (s .elements)) (now (s .permissions)) (now (s .offsets)) (now (s .counts)) in
-    let before = coreOf (now (s .values)) (now (s .marks)) (s .codes) (s .coded) (now (s .memory)) in
-    asked l (s .returns) (record { control = s .control; core = before }) _ (s .x) _ _ _ _ (sym (c .before .before .before .before .before .before .before .before .before .request-of .ensures) ∙ c .before .before .before .before .before .before .before .a .given .1) (c .before .before .step-access .ensures)
+returns c = rw (c .before .before .before .before .before .before .before .x .given .1) (c .before .before .run-operation .ensures)
 
 returns-2 : tie.Need-returns-2
-returns-2 c = c .run-plain .ensures _ _
+returns-2 c = rw (c .before .before .x2 .given .1) (c .branch .ensures _ _ _)
+
+returns-3 : tie.Need-returns-3
+returns-3 c = rw (c .before .before .before .enum-told .given .1) (c .leave .ensures _)
 
 pub run-instruction-spec : {M : Type 1} → statement M
 run-instruction-spec =
     tie.close
     (tie.spec
-    request-of-requires
-    enum-known-a
-    step-access-requires
+    enum-known-x
+    run-operation-requires
+    enum-known-x-2
+    branch-requires
     enum-told
-    run-plain-requires
+    leave-requires
     same-length
     returns
-    returns-2)
+    returns-2
+    returns-3)

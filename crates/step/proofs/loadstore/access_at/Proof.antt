@@ -1,5 +1,4 @@
 -- An access lies in its region's part of the memory, so that it can be read or written there; nowhere is 103.
-use Rattle.step.proofs.Requests.{nowhere}
 use Rattle.step.specs.Lent.{coreOf}
 use denote.Ref.{now}
 use native.Mathlib.Omega.{arith}
@@ -72,7 +71,7 @@ returns-2 c = rw (c .before .before .before .before .before .before .before .bef
     (c .move-on2 .ensures _ _ _ _)
 
 returns-3 : tie.Need-returns-3
-returns-3 c = rw (c .before .enum-told .given .1, c .stop .ensures, nowhere (now (c .before .before .before .before .args .sizes)) (coreOf (now (c .before .before .before .before .args .values)) (now (c .before .before .before .before .args .marks)) (c .before .before .before .before .args .codes) (c .before .before .before .before .args .coded) (now (c .before .before .before .before .args .memory))) (c .before .before .before .before .args .a) (c .before .before .before .before .args .rd))
+returns-3 c = rw (c .before .enum-told .given .1, c .stop .ensures)
 
 pub access-at-spec : {M : Type 1} → statement M
 access-at-spec =

@@ -1,5 +1,4 @@
 -- An access, by where it aims and where it lies.
-use Rattle.step.proofs.Requests.{aims, misses}
 use Rattle.step.specs.Lent.{coreOf, layoutFrom}
 use denote.Ref.{now}
 use borrow.Author.Needs.{needs}
@@ -34,16 +33,10 @@ same-length : tie.Need-same-length
 same-length c = search needs
 
 returns : tie.Need-returns
-returns c = let s = c .before .before .before .before .before .before .before .before .before .before .before .before .before .before .before .before .before .before .args in
-    let l = layoutFrom (s .regions) (now (s .sizes)) (now (s .bases)) (now (s .fields)) (now (s .elements)) (now (s .permissions)) (now (s .offsets)) (now (s .counts)) in
-    let before = coreOf (now (s .values)) (now (s .marks)) (s .codes) (s .coded) (now (s .memory)) in
-    aims l before (s .control) (s .rd) (s .rs1) (s .d) _ (s .a) _ (rw (c .before .before .before .before .before .before .before .before .before .before .before .before .before .moved-set .ensures, c .before .before .before .before .before .before .before .before .before .before .before .before .before .before .before .width-of .ensures .0, c .before .before .before .before .before .before .before .before .address .given .1) at (c .before .before .before .before .before .before .before .before .before .before .aim .ensures)) (rw (c .before .before .before .before .before .before .locate-access .ensures) at (c .before .before .access-at .ensures))
+returns c = rw (← c .before .before .before .before .before .before .before .before .before .before .before .before .before .before .before .width-of .ensures .0, ← c .before .before .before .before .before .before .before .before .before .before .before .before .before .moved-set .ensures, ← c .before .before .before .before .before .before .before .before .before .before .aim .ensures, c .before .before .before .before .before .before .before .before .address .given .1, ← c .before .before .before .before .before .before .locate-access .ensures) (c .before .before .access-at .ensures)
 
 returns-2 : tie.Need-returns-2
-returns-2 c = let s = c .before .before .before .before .before .before .before .before .before .before .before .before .args in
-    let l = layoutFrom (s .regions) (now (s .sizes)) (now (s .bases)) (now (s .fields)) (now (s .elements)) (now (s .permissions)) (now (s .offsets)) (now (s .counts)) in
-    let before = coreOf (now (s .values)) (now (s .marks)) (s .codes) (s .coded) (now (s .memory)) in
-    misses l before (s .control) (s .rd) (s .rs1) (s .d) _ (s .a) _ (rw (c .before .before .before .before .before .before .before .moved-set .ensures, c .before .before .before .before .before .before .before .before .before .width-of .ensures .0, c .before .before .n .given .1) at (c .before .before .before .before .aim .ensures)) (rw (c .stop .ensures))
+returns-2 c = rw (← c .before .before .before .before .before .before .before .before .before .width-of .ensures .0, ← c .before .before .before .before .before .before .before .moved-set .ensures, ← c .before .before .before .before .aim .ensures, c .before .before .n .given .1) (rw (c .stop .ensures))
 
 pub step-access-spec : {M : Type 1} → statement M
 step-access-spec =

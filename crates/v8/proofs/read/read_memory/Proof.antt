@@ -8,61 +8,61 @@ use Rattle.v8.proofs.read.read_memory.Tie as tie
 op3-of-requires : tie.Need-op3-of-requires
 op3-of-requires c κs = search needs
 
-load-requires : tie.Need-load-requires
-load-requires c κs = search needs
+read-access-requires : tie.Need-read-access-requires
+read-access-requires c κs = search needs
 
-load-requires-2 : tie.Need-load-requires-2
-load-requires-2 c κs = search needs
+read-access-requires-2 : tie.Need-read-access-requires-2
+read-access-requires-2 c κs = search needs
 
-load-requires-3 : tie.Need-load-requires-3
-load-requires-3 c κs = search needs
+read-access-requires-3 : tie.Need-read-access-requires-3
+read-access-requires-3 c κs = search needs
 
-store-requires : tie.Need-store-requires
-store-requires c κs = search needs
+read-access-requires-4 : tie.Need-read-access-requires-4
+read-access-requires-4 c κs = search needs
 
-store-requires-2 : tie.Need-store-requires-2
-store-requires-2 c κs = search needs
+read-access-requires-5 : tie.Need-read-access-requires-5
+read-access-requires-5 c κs = search needs
 
-store-requires-3 : tie.Need-store-requires-3
-store-requires-3 c κs = search needs
+read-access-requires-6 : tie.Need-read-access-requires-6
+read-access-requires-6 c κs = search needs
 
-load-requires-4 : tie.Need-load-requires-4
-load-requires-4 c κs = search needs
+read-access-requires-7 : tie.Need-read-access-requires-7
+read-access-requires-7 c κs = search needs
 
-load-requires-5 : tie.Need-load-requires-5
-load-requires-5 c κs = search needs
+read-access-requires-8 : tie.Need-read-access-requires-8
+read-access-requires-8 c κs = search needs
 
 returns : tie.Need-returns
 unfolding memoryOf
-returns c = rw (← c .before .before .op3-of .ensures) (simp (c .before .match .keys1) (c .load .ensures))
+returns c = rw (← c .before .before .op3-of .ensures) (simp (c .before .match .keys1) (c .read-access .ensures))
 
 returns-2 : tie.Need-returns-2
 unfolding memoryOf
-returns-2 c = rw (← c .before .before .op3-of .ensures) (simp (c .before .match .keys2) (c .load2 .ensures))
+returns-2 c = rw (← c .before .before .op3-of .ensures) (simp (c .before .match .keys2) (c .read-access2 .ensures))
 
 returns-3 : tie.Need-returns-3
 unfolding memoryOf
-returns-3 c = rw (← c .before .before .op3-of .ensures) (simp (c .before .match .keys3) (c .load3 .ensures))
+returns-3 c = rw (← c .before .before .op3-of .ensures) (simp (c .before .match .keys3) (c .read-access3 .ensures))
 
 returns-4 : tie.Need-returns-4
 unfolding memoryOf
-returns-4 c = rw (← c .before .before .op3-of .ensures) (simp (c .before .match .keys4) (c .store .ensures))
+returns-4 c = rw (← c .before .before .op3-of .ensures) (simp (c .before .match .keys4) (c .read-access4 .ensures))
 
 returns-5 : tie.Need-returns-5
 unfolding memoryOf
-returns-5 c = rw (← c .before .before .op3-of .ensures) (simp (c .before .match .keys5) (c .store2 .ensures))
+returns-5 c = rw (← c .before .before .op3-of .ensures) (simp (c .before .match .keys5) (c .read-access5 .ensures))
 
 returns-6 : tie.Need-returns-6
 unfolding memoryOf
-returns-6 c = rw (← c .before .before .op3-of .ensures) (simp (c .before .match .keys6) (c .store3 .ensures))
+returns-6 c = rw (← c .before .before .op3-of .ensures) (simp (c .before .match .keys6) (c .read-access6 .ensures))
 
 returns-7 : tie.Need-returns-7
 unfolding memoryOf
-returns-7 c = rw (← c .before .before .op3-of .ensures) (simp (c .before .match .keys7) (c .load4 .ensures))
+returns-7 c = rw (← c .before .before .op3-of .ensures) (simp (c .before .match .keys7) (c .read-access7 .ensures))
 
 returns-8 : tie.Need-returns-8
 unfolding memoryOf
-returns-8 c = rw (← c .before .before .op3-of .ensures) (simp (c .before .match .keys8) (c .load5 .ensures))
+returns-8 c = rw (← c .before .before .op3-of .ensures) (simp (c .before .match .keys8) (c .read-access8 .ensures))
 
 returns-9 : tie.Need-returns-9
 unfolding memoryOf
@@ -75,14 +75,14 @@ read-memory-spec =
     tie.close
     (tie.spec
     op3-of-requires
-    load-requires
-    load-requires-2
-    load-requires-3
-    store-requires
-    store-requires-2
-    store-requires-3
-    load-requires-4
-    load-requires-5
+    read-access-requires
+    read-access-requires-2
+    read-access-requires-3
+    read-access-requires-4
+    read-access-requires-5
+    read-access-requires-6
+    read-access-requires-7
+    read-access-requires-8
     returns
     returns-2
     returns-3

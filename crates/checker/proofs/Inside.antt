@@ -1,0 +1,41 @@
+-- A word whose flow is right has edges that end at words of the code, whose rows lie among the rows; a word that is not examined needs none.
+use Prim.Native.Nat.{ℕ, _*_, _<_}
+use mathlib.Core.Path.{_≡_, refl, sym, ap, _∙_, subst}
+use mathlib.Core.Bool.{Bool, true}
+use mathlib.Core.List.{List}
+use native.Mathlib.Omega.{arith}
+use lib.ListN.{length}
+use Rattle.v8.specs.Numbers.{badFlow}
+use Rattle.v8.specs.declared.Instruction.{Instruction}
+use Rattle.v8.specs.declared.Reading.{Reading}
+use Rattle.v8.specs.declared.Reading.the-variants.{Read, Unread}
+use Rattle.flow.specs.declared.Destination.{Destination}
+use Rattle.flow.specs.declared.Destination.the-variants.{To, Caller}
+use Rattle.flow.specs.Edge.{edgeOf}
+use Rattle.flow.specs.Readings.{readingsOf, readingAt, examined}
+use Rattle.flow.proofs.Fetched.{read-count}
+use Rattle.checker.specs.Answer.{passes}
+use Rattle.checker.specs.Routine.{rowBytes}
+use Rattle.checker.specs.Passes.{flowOf, flowPass}
+use Rattle.checker.specs.Laws.{InCode}
+use Rattle.checker.specs.Lent.{EndIn, ReadingIn}
+use Rattle.checker.proofs.Accepted.{need-holds}
+use Rattle.checker.proofs.Looked.{instruction-flows}
+
+-- a word that pass 3 accepts has its flow
+flow-holds : (readings : List Reading) (w : ℕ) → passes (flowPass readings w) ≡ true → flowOf readings w (readingAt readings w) ≡ true
+unfolding flowPass
+flow-holds readings w e = need-holds (flowOf readings w (readingAt readings w)) badFlow w 0 refl e
+
+module _ (words : List ℕ) (n : ℕ) (rows : rowBytes * length words ≡ n) where
+  end-in : (d : Destination) → InCode (readingsOf words) d → EndIn d n
+  end-in (To w) l = omega (arith, read-count words, rows, l)
+  end-in Caller l = tt
+
+  reading-in : (w : ℕ) (x : Reading) → flowOf (readingsOf words) w x ≡ true → examined (readingsOf words) w ≡ true → ReadingIn w x n
+  reading-in w (Read x) f e = λ taken t. end-in (edgeOf w x taken .to) (instruction-flows (readingsOf words) w x f .ends e taken t)
+  reading-in w (Unread number) f e = tt
+
+  pub word-in : (w : ℕ) (x : Reading) → x ≡ readingAt (readingsOf words) w → passes (flowPass (readingsOf words) w) ≡ true
+      → examined (readingsOf words) w ≡ true → ReadingIn w x n
+  word-in w x q f e = reading-in w x (subst (λ (y : Reading). flowOf (readingsOf words) w y ≡ true) (sym q) (flow-holds (readingsOf words) w f)) e

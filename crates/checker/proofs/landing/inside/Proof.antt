@@ -1,0 +1,15 @@
+-- As many words are read as there are.
+use denote.Ref.{now}
+use Rattle.flow.proofs.Fetched.{read-count}
+use borrow.Author.Needs.{needs}
+use Rattle.checker.proofs.landing.inside.Statement.{statement}
+use Rattle.checker.proofs.landing.inside.Tie as tie
+
+cast-i : tie.Need-cast-i
+cast-i c = search needs
+
+returns : tie.Need-returns
+returns c = rw (read-count (now (c .before .args .words)))
+
+pub inside-spec : {M : Type 1} → statement M
+inside-spec = tie.close (tie.spec cast-i returns)

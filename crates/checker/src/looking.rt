@@ -1,0 +1,105 @@
+// The words' pass: each word that is examined, with its row (specs/Passes.antt).
+ghost use mathlib.Core.Path.{_≡_};
+ghost use mathlib.Core.Bool.{true, cond};
+ghost use Prim.Native.Nat.{_+_, _*_, _<_, _≤_};
+ghost use lib.ListN.{length};
+ghost use Rattle.v8.specs.Numbers.{mostWords};
+ghost use Rattle.v8.specs.declared.Reading.the-variants.{Read};
+ghost use Rattle.flow.specs.Readings.{readingsOf, Reads, Examines};
+ghost use Rattle.checker.specs.Answer.{accepted, passes, passOf};
+ghost use Rattle.checker.specs.Routine.{rowBytes, entryBytes};
+ghost use Rattle.checker.specs.Passes.{flowPass, look, wordPass};
+ghost use Rattle.checker.specs.Lent.{RowIn, EdgesIn, ReadingIn};
+use crate::Answer;
+use crate::answers::accept;
+use crate::answers::refuse;
+use crate::arrival::row_at;
+use crate::edges::edges_of;
+use policy::Policy;
+use rows::row_with;
+use rules::Change;
+use rules::change_of;
+use v8::Instruction;
+use v8::Reading;
+use v8::WordIndex;
+use v8::numbers::ACCEPTED;
+use v8::numbers::MOST_WORDS;
+use v8::numbers::NOT_READ;
+
+// An instruction in its row: its own conditions, then its edges. Its slot is read as x.
+fn look_at(
+    policy: Policy,
+    rows: &[u8],
+    result: &[u8],
+    at: WordIndex,
+    instruction: Instruction,
+    x: Reading,
+) -> Answer
+    requires { ⌜ (at .0 < mostWords) × (entryBytes ≤ length (now result)) × RowIn (at .0) (length (now rows)) × EdgesIn (at .0) instruction (length (now rows)) ⌝ }
+    ensures { λ r. ⌜ r ≡ look policy (now (rows .entry)) (now (result .entry)) (at .0) (Read instruction) x ⌝ }
+{
+    let row = row_at(rows, at);
+    match change_of(policy, row, instruction) {
+        Change::Writes(register, entry, note) => edges_of(
+            policy,
+            rows,
+            result,
+            at,
+            instruction,
+            x,
+            row_with(row, register, entry, note),
+        ),
+        Change::Keeps => edges_of(policy, rows, result, at, instruction, x, row),
+        Change::Breaks(number, register) => refuse(number, at, register),
+    }
+}
+
+// A word read as x, its slot as `slot`: looked at where it is examined.
+fn word_in(
+    policy: Policy,
+    rows: &[u8],
+    result: &[u8],
+    at: WordIndex,
+    examined: bool,
+    x: Reading,
+    slot: Reading,
+) -> Answer
+    requires { ⌜ (at .0 < mostWords) × (entryBytes ≤ length (now result)) × RowIn (at .0) (length (now rows)) × (examined ≡ true → ReadingIn (at .0) x (length (now rows))) ⌝ }
+    ensures { λ r. ⌜ r ≡ cond examined (look policy (now (rows .entry)) (now (result .entry)) (at .0) x slot) accepted ⌝ }
+{
+    if !examined {
+        return accept();
+    }
+    match x {
+        Reading::Read(instruction) => look_at(policy, rows, result, at, instruction, slot),
+        Reading::Unread(number) => refuse(number, at, 0),
+    }
+}
+
+// The words' pass, where the flow is right.
+pub fn word_pass(
+    policy: Policy,
+    words: &[u32],
+    readings: [Reading; MOST_WORDS],
+    marks: &[bool; MOST_WORDS],
+    rows: &[u8],
+    result: &[u8],
+) -> Answer
+    requires { ⌜ (length (now words) ≤ mostWords) × Reads readings (now words) × Examines (now marks) (now words) × (rowBytes * length (now words) ≡ length (now rows)) × (entryBytes ≤ length (now result)) × (passes (passOf (flowPass (readingsOf (now words))) (length (now words))) ≡ true) ⌝ }
+    ensures { λ r. ⌜ r ≡ passOf (wordPass policy (readingsOf (now (words .entry))) (now (rows .entry)) (now (result .entry))) (length (now (words .entry))) ⌝ }
+{
+    let mut i: usize = 0;
+    while i < words.len() {
+        let x = readings[i];
+        let mut slot = Reading::Unread(NOT_READ);
+        if i + 1 < MOST_WORDS {
+            slot = readings[i + 1];
+        }
+        let found = word_in(policy, rows, result, WordIndex(i as u32), marks[i], x, slot);
+        if found.number != ACCEPTED {
+            return found;
+        }
+        i += 1;
+    }
+    accept()
+}

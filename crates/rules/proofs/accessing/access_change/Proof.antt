@@ -1,0 +1,78 @@
+-- The operands and a stored register are set, and the access lies in a field, at one of the 128 places.
+use mathlib.Core.Path.{sym, _∙_}
+use Rattle.policy.specs.Policy.{fieldAt}
+use Rattle.rows.specs.Entry.{fieldEntry}
+use Rattle.rules.specs.Change.{accessChange}
+use Rattle.rules.proofs.Placed.{placed}
+use Rattle.rules.proofs.Parts.{reach-part}
+use borrow.Author.Tests.{ne-eqb}
+use borrow.Author.Needs.{needs}
+use Rattle.rules.proofs.accessing.access_change.Statement.{statement}
+use Rattle.rules.proofs.accessing.access_change.Tie as tie
+
+returns : tie.Need-returns
+unfolding accessChange
+returns c = rw (c .if1 .taken)
+
+returns-2 : tie.Need-returns-2
+unfolding accessChange
+returns-2 c = rw (ne-eqb _ 0 (c .before .before .if1 .left), c .if2 .taken)
+
+stores-requires : tie.Need-stores-requires
+stores-requires c κs = search needs
+
+returns-3 : tie.Need-returns-3
+unfolding accessChange
+returns-3 c =
+    let second = c .before .before .before in
+    rw (ne-eqb _ 0 (second .before .before .if1 .left), ne-eqb _ 0 (second .if2 .left), ← c .before .before .stores .ensures, c .if3 .taken)
+
+reach-of-requires : tie.Need-reach-of-requires
+reach-of-requires c κs = search needs
+
+enum-known-place : tie.Need-enum-known-place
+enum-known-place c = search needs
+
+held-at-requires : tie.Need-held-at-requires
+held-at-requires c κs = placed _ _ _ _ _ _ _ (sym (c .before .before .before .reach-of .ensures) ∙ c .before .place .given .1)
+
+accessed-requires : tie.Need-accessed-requires
+accessed-requires c κs = search needs
+
+enum-known-number : tie.Need-enum-known-number
+enum-known-number c = search needs
+
+returns-4 : tie.Need-returns-4
+unfolding accessChange fieldAt fieldEntry
+returns-4 c =
+    let reach = c .before .before .before .before .before in
+    let stored = reach .before in
+    let second = stored .before .before .before in
+    rw
+    (ne-eqb _ 0 (second .before .before .if1 .left), ne-eqb _ 0 (second .if2 .left), ← stored .before .before .stores .ensures, stored .if3 .left, ← reach-part _ _ _ _ _ _, ← reach .reach-of .ensures, c .before .before .before .place .given .1, ← c .before .held-at .ensures)
+    (c .accessed .ensures)
+
+returns-5 : tie.Need-returns-5
+unfolding accessChange
+returns-5 c =
+    let reach = c .before .before .before in
+    let stored = reach .before in
+    let second = stored .before .before .before in
+    rw
+    (ne-eqb _ 0 (second .before .before .if1 .left), ne-eqb _ 0 (second .if2 .left), ← stored .before .before .stores .ensures, stored .if3 .left, ← reach-part _ _ _ _ _ _, ← reach .reach-of .ensures, c .before .number .given .1)
+
+pub access-change-spec : {M : Type 1} → statement M
+access-change-spec =
+    tie.close
+    (tie.spec
+    returns
+    returns-2
+    stores-requires
+    returns-3
+    reach-of-requires
+    enum-known-place
+    held-at-requires
+    accessed-requires
+    enum-known-number
+    returns-4
+    returns-5)

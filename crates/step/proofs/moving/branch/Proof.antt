@@ -1,0 +1,41 @@
+-- A branch, by whether it reads codes that are unset; the slot and where it goes are those of its edge.
+use borrow.Author.Needs.{needs}
+use Rattle.step.proofs.moving.branch.Statement.{statement}
+use Rattle.step.proofs.moving.branch.Tie as tie
+
+reads-codes-requires : tie.Need-reads-codes-requires
+reads-codes-requires c κs = search needs
+
+stop-requires : tie.Need-stop-requires
+stop-requires c κs = search needs
+
+returns : tie.Need-returns
+returns c = λ values marks memory. rw (c .stop .ensures, ← c .before .before .reads-codes .ensures, c .before .if1 .taken)
+
+holds-requires : tie.Need-holds-requires
+holds-requires c κs = search needs
+
+slot-runs-requires : tie.Need-slot-runs-requires
+slot-runs-requires c κs = search needs
+
+landing-of-requires : tie.Need-landing-of-requires
+landing-of-requires c κs = search needs
+
+depart-requires : tie.Need-depart-requires
+depart-requires c κs = search needs
+
+returns-2 : tie.Need-returns-2
+returns-2 c = λ values marks memory. rw (← c .before .before .before .before .before .before .reads-codes .ensures, c .before .before .before .before .before .if1 .left, ← c .before .before .before .holds .ensures, ← c .before .before .slot-runs .ensures, ← c .before .landing-of .ensures) (c .depart .ensures values marks memory)
+
+pub branch-spec : {M : Type 1} → statement M
+branch-spec =
+    tie.close
+    (tie.spec
+    reads-codes-requires
+    stop-requires
+    returns
+    holds-requires
+    slot-runs-requires
+    landing-of-requires
+    depart-requires
+    returns-2)

@@ -1,0 +1,50 @@
+-- The return, by its three tests.
+use borrow.Author.Tests.{not-true, not-false, eq-eqb, ne-eqb}
+use borrow.Author.Needs.{needs}
+use Rattle.step.proofs.moving.leave.Statement.{statement}
+use Rattle.step.proofs.moving.leave.Tie as tie
+
+is-set-requires : tie.Need-is-set-requires
+is-set-requires c κs = search needs
+
+stop-requires : tie.Need-stop-requires
+stop-requires c κs = search needs
+
+returns : tie.Need-returns
+returns c = λ memory. rw (c .stop .ensures, ← c .before .before .is-set .ensures, not-true (c .before .before .is-set .result) (c .before .if1 .taken))
+
+value-requires : tie.Need-value-requires
+value-requires c κs = search needs
+
+stop-requires-2 : tie.Need-stop-requires-2
+stop-requires-2 c κs = search needs
+
+returns-2 : tie.Need-returns-2
+returns-2 c = λ memory. rw (c .stop2 .ensures, ← c .before .before .before .before .is-set .ensures, not-false (c .before .before .before .before .is-set .result) (c .before .before .before .if1 .left), ← c .before .before .value .ensures, ne-eqb _ 0 (c .before .if2 .taken))
+
+stop-requires-3 : tie.Need-stop-requires-3
+stop-requires-3 c κs = search needs
+
+returns-3 : tie.Need-returns-3
+returns-3 c = λ memory. rw (c .stop3 .ensures, ← c .before .before .before .before .before .is-set .ensures, not-false (c .before .before .before .before .before .is-set .result) (c .before .before .before .before .if1 .left), ← c .before .before .before .value .ensures, eq-eqb _ 0 (c .before .before .if2 .left), ne-eqb _ _ (c .before .if3 .taken))
+
+depart-requires : tie.Need-depart-requires
+depart-requires c κs = search needs
+
+returns-4 : tie.Need-returns-4
+returns-4 c = λ memory. rw (← c .before .before .before .before .before .is-set .ensures, not-false (c .before .before .before .before .before .is-set .result) (c .before .before .before .before .if1 .left), ← c .before .before .before .value .ensures, eq-eqb _ 0 (c .before .before .if2 .left), eq-eqb _ _ (c .before .if3 .left)) (c .depart .ensures _ _ memory)
+
+pub leave-spec : {M : Type 1} → statement M
+leave-spec =
+    tie.close
+    (tie.spec
+    is-set-requires
+    stop-requires
+    returns
+    value-requires
+    stop-requires-2
+    returns-2
+    stop-requires-3
+    returns-3
+    depart-requires
+    returns-4)

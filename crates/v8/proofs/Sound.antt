@@ -1,0 +1,86 @@
+-- The number in an instruction that is read is a word: sign extension gives one, and a shift's count is below 32. A word that is not read has
+-- its number.
+use Prim.Native.Nat.{ℕ, _-_, _^_, _<_}
+use mathlib.Core.Path.{refl}
+use mathlib.Core.Bool.{Bool, true, false}
+use native.Mathlib.Omega.{arith}
+use lib.Dec.{leb, ltb, eqb}
+use Rattle.v8.specs.Choice.{cond-both}
+use Rattle.v8.specs.Signed.{signExtend}
+use Rattle.v8.specs.Field.{opOf, op2Of, op3Of, iOf, unusedOf, simm13Of}
+use Rattle.v8.specs.declared.AluOp.{AluOp}
+use Rattle.v8.specs.declared.ShiftOp.{ShiftOp}
+use Rattle.v8.specs.declared.ShiftOp.the-variants.{Sll, Srl, Sra}
+use Rattle.v8.specs.declared.Operand.the-variants.{Reg, Imm}
+use Rattle.v8.specs.declared.Displacement.{Displacement}
+use Rattle.v8.specs.declared.read.OperandReading.{OperandReading}
+use Rattle.v8.specs.declared.read.OperandReading.the-variants.{Second, Reserved}
+use Rattle.v8.specs.Read.{readingOf, format00, format10, memoryOf, memoryWith, operandOf, countOf, aluWith, shiftWith, displacementOf, aluOpOf, leafReturn}
+use Rattle.v8.specs.Laws.{OperandSmall, DisplacementSmall, ReadingSound, ReadsSound}
+
+abbrev SecondSmall : OperandReading → Type 0
+SecondSmall (Second x) = OperandSmall x
+SecondSmall Reserved = Unit {0}
+
+extended : (x : ℕ) → x < 2 ^ 13 → signExtend 13 x < 4294967296
+unfolding signExtend
+extended x l = cond-both (λ (v : ℕ). v < 4294967296) (ltb x (2 ^ 12)) (λ _. omega arith) (λ _. omega arith)
+
+operand-small : (w : ℕ) → SecondSmall (operandOf w)
+unfolding operandOf
+operand-small w =
+    cond-both SecondSmall (eqb (iOf w) 1) (λ _. extended (simm13Of w) (omega arith))
+    λ _. cond-both SecondSmall (eqb (unusedOf w) 0) (λ _. tt) (λ _. tt)
+
+count-small : (w : ℕ) → SecondSmall (countOf w)
+unfolding countOf
+count-small w =
+    cond-both SecondSmall (eqb (unusedOf w) 0)
+    (λ _. cond-both SecondSmall (eqb (iOf w) 1) (λ _. omega arith) (λ _. tt)) (λ _. tt)
+
+alu-with : (op : AluOp) (cc : Bool) (w : ℕ) (x : OperandReading) → SecondSmall x → ReadingSound (aluWith op cc w x)
+alu-with op cc w (Second x) l = l
+alu-with op cc w Reserved l = refl
+
+shift-with : (op : ShiftOp) (w : ℕ) (x : OperandReading) → SecondSmall x → ReadingSound (shiftWith op w x)
+shift-with op w (Second x) l = l
+shift-with op w Reserved l = refl
+
+format00-small : (w : ℕ) → ReadingSound (format00 w)
+unfolding format00
+format00-small w = cond-both ReadingSound (eqb (op2Of w) 4) (λ _. tt) λ _. cond-both ReadingSound (eqb (op2Of w) 2) (λ _. tt) (λ _. refl)
+
+format10-small : (w : ℕ) → ReadingSound (format10 w)
+unfolding format10
+format10-small w =
+    cond-both ReadingSound (leb (op3Of w) 0x07) (λ _. alu-with (aluOpOf (op3Of w)) false w (operandOf w) (operand-small w))
+    λ _. cond-both ReadingSound (ltb (op3Of w) 0x10) (λ _. refl)
+    λ _. cond-both ReadingSound (leb (op3Of w) 0x17) (λ _. alu-with (aluOpOf (op3Of w - 0x10)) true w (operandOf w) (operand-small w))
+    λ _. cond-both ReadingSound (eqb (op3Of w) 0x25) (λ _. shift-with Sll w (countOf w) (count-small w))
+    λ _. cond-both ReadingSound (eqb (op3Of w) 0x26) (λ _. shift-with Srl w (countOf w) (count-small w))
+    λ _. cond-both ReadingSound (eqb (op3Of w) 0x27) (λ _. shift-with Sra w (countOf w) (count-small w))
+    λ _. cond-both ReadingSound (eqb w leafReturn) (λ _. tt) (λ _. refl)
+
+memory-small : (w : ℕ) (d : Displacement) → DisplacementSmall d → ReadingSound (memoryOf w d)
+unfolding memoryOf
+memory-small w d l =
+    cond-both ReadingSound (eqb (op3Of w) 0x00) (λ _. l)
+    λ _. cond-both ReadingSound (eqb (op3Of w) 0x01) (λ _. l)
+    λ _. cond-both ReadingSound (eqb (op3Of w) 0x02) (λ _. l)
+    λ _. cond-both ReadingSound (eqb (op3Of w) 0x04) (λ _. l)
+    λ _. cond-both ReadingSound (eqb (op3Of w) 0x05) (λ _. l)
+    λ _. cond-both ReadingSound (eqb (op3Of w) 0x06) (λ _. l)
+    λ _. cond-both ReadingSound (eqb (op3Of w) 0x09) (λ _. l)
+    λ _. cond-both ReadingSound (eqb (op3Of w) 0x0A) (λ _. l) (λ _. refl)
+
+memory-with : (w : ℕ) (x : OperandReading) → SecondSmall x → ReadingSound (memoryWith w x)
+memory-with w (Second (Reg r)) l = memory-small w (displacementOf (Reg r)) tt
+memory-with w (Second (Imm v)) l = memory-small w (displacementOf (Imm v)) l
+memory-with w Reserved l = refl
+
+pub reads-sound : ReadsSound
+unfolding readingOf
+reads-sound w =
+    cond-both ReadingSound (eqb (opOf w) 0) (λ _. format00-small w)
+    λ _. cond-both ReadingSound (eqb (opOf w) 2) (λ _. format10-small w)
+    λ _. cond-both ReadingSound (eqb (opOf w) 3) (λ _. memory-with w (operandOf w) (operand-small w)) (λ _. refl)
