@@ -24,12 +24,12 @@ use Rattle.rows.specs.Row.{entryAt, rowWith, misfit}
 use Rattle.rows.proofs.Tests.{and-went, or-went, false-true}
 use Rattle.rules.specs.declared.Change.{Change}
 use Rattle.rules.specs.declared.Change.the-variants.{Writes, Keeps, Breaks}
-use Rattle.rules.specs.Narrow.{RowLeft, left, narrowRow}
+use Rattle.rules.specs.Narrow.{RowLeft, left, narrows, narrowRow}
 use Rattle.rules.proofs.Numbered.{Numbered, change-numbered}
 use Rattle.checker.specs.declared.Answer.{Answer}
 use Rattle.checker.specs.Answer.{accepted, passes}
 use Rattle.checker.specs.Routine.{rowAt, resultEntry}
-use Rattle.checker.specs.Passes.{inCode, offSlots, takenFlow, otherFlow, transferFlow, edgeFlow, made, changeBy, cross, ifLeft, narrowedEdge, edgePass, resultRegister}
+use Rattle.checker.specs.Passes.{inCode, offSlots, takenFlow, otherFlow, transferFlow, edgeFlow, made, changeBy, arrive, cross, ifLeft, narrowedEdge, edgePass, resultRegister}
 use Rattle.checker.specs.Laws.{InCode, InstructionFlows, After, WordMakes, EdgesLooked, SlotApplied, SlotSkipped, Arrives}
 use Rattle.checker.proofs.Accepted.{both-pass, need-holds, no-fault}
 
@@ -101,6 +101,12 @@ module _ (p : Policy) (rows result : List ℕ) where
   edge-looked w slot e row q t narrowed n =
       subst (λ (x : RowLeft). passes (ifLeft (cross p rows result w slot e) x) ≡ true) n
       (subst (λ (b : Bool). passes (cond b (narrowedEdge p rows result w slot e row) accepted) ≡ true) t q)
+
+  -- an edge without a slot that narrows nothing only arrives
+  pub straight : (w : ℕ) (x : Reading) (e : Edge) (row : Row) → e .slot ≡ false → narrows (e .narrowing) ≡ false
+      → arrive rows result w (e .to) row ≡ narrowedEdge p rows result w x e row
+  unfolding narrowedEdge cross narrowRow
+  straight w x e row a b = rw (b, a)
 
 pub edges-looked : EdgesLooked
 edges-looked p rows result w x slot row e taken =

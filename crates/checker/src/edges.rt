@@ -83,7 +83,15 @@ fn narrowed_edge(
         let register = note.register;
         match narrow_entry(class, entry_at(row, register), note.number) {
             Remainder::Left(entry) => {
-                return cross(policy, rows, result, at, x, e, row_with(row, register, entry, note));
+                return cross(
+                    policy,
+                    rows,
+                    result,
+                    at,
+                    x,
+                    e,
+                    row_with(row, register, entry, note),
+                );
             }
             Remainder::Nothing => {
                 return accept();
@@ -94,7 +102,7 @@ fn narrowed_edge(
 }
 
 // The edges of an instruction, from the row that it makes: the taken one, then the other. The slot is
-// read as x.
+// read as x. An edge that has none and narrows nothing only arrives.
 pub fn edges_of(
     policy: Policy,
     rows: &[u8],
@@ -115,8 +123,13 @@ pub fn edges_of(
         }
     }
     let other = edge_of(at, instruction, false);
-    if other.exists {
-        return narrowed_edge(policy, rows, result, at, x, other, row);
+    if !other.exists {
+        return accept();
     }
-    accept()
+    let class = other.narrowing;
+    if !other.slot & !narrows(class) {
+        let to = other.to;
+        return arrive(rows, result, at, to, row);
+    }
+    narrowed_edge(policy, rows, result, at, x, other, row)
 }

@@ -32,12 +32,7 @@ fn inside(words: &[u32], at: WordIndex) -> bool
 }
 
 // Whether an edge may end at a word: it is of the code, and no slot if the edge is the taken one.
-fn lands_at(
-    words: &[u32],
-    marks: &[bool; MOST_WORDS],
-    at: WordIndex,
-    taken: bool,
-) -> bool
+fn lands_at(words: &[u32], marks: &[bool; MOST_WORDS], at: WordIndex, taken: bool) -> bool
     requires { ⌜ (length (now words) ≤ mostWords) × Examines (now marks) (now words) ⌝ }
     ensures { λ r. ⌜ r ≡ cond taken (ltb (at .0) (length (readingsOf (now (words .entry)))) && examined (readingsOf (now (words .entry))) (at .0)) (ltb (at .0) (length (readingsOf (now (words .entry))))) ⌝ }
 {
@@ -74,7 +69,12 @@ fn edges_flow(words: &[u32], marks: &[bool; MOST_WORDS], at: WordIndex, x: Instr
 
 // The flow of an instruction: the slot of a transfer is of the code, and it is in no slot itself; the
 // edges of a word outside slots end where they may.
-fn instruction_flow(words: &[u32], marks: &[bool; MOST_WORDS], at: WordIndex, x: Instruction) -> bool
+fn instruction_flow(
+    words: &[u32],
+    marks: &[bool; MOST_WORDS],
+    at: WordIndex,
+    x: Instruction,
+) -> bool
     requires { ⌜ (at .0 < length (now words)) × (length (now words) ≤ mostWords) × Examines (now marks) (now words) ⌝ }
     ensures { λ r. ⌜ r ≡ flowOf (readingsOf (now (words .entry))) (at .0) (Read x) ⌝ }
 {

@@ -38,20 +38,17 @@ fn look_at(
     requires { ⌜ (at .0 < mostWords) × (entryBytes ≤ length (now result)) × RowIn (at .0) (length (now rows)) × EdgesIn (at .0) instruction (length (now rows)) ⌝ }
     ensures { λ r. ⌜ r ≡ look policy (now (rows .entry)) (now (result .entry)) (at .0) (Read instruction) x ⌝ }
 {
-    let row = row_at(rows, at);
+    let mut row = row_at(rows, at);
     match change_of(policy, row, instruction) {
-        Change::Writes(register, entry, note) => edges_of(
-            policy,
-            rows,
-            result,
-            at,
-            instruction,
-            x,
-            row_with(row, register, entry, note),
-        ),
-        Change::Keeps => edges_of(policy, rows, result, at, instruction, x, row),
-        Change::Breaks(number, register) => refuse(number, at, register),
+        Change::Writes(register, entry, note) => {
+            row = row_with(row, register, entry, note);
+        }
+        Change::Keeps => {}
+        Change::Breaks(number, register) => {
+            return refuse(number, at, register);
+        }
     }
+    edges_of(policy, rows, result, at, instruction, x, row)
 }
 
 // A word read as x, its slot as `slot`: looked at where it is examined.

@@ -6,11 +6,12 @@ use mathlib.Core.List.{List, [], _∷_}
 use native.Mathlib.Omega.{arith}
 use native.Mathlib.Nat.{zero-add}
 use lib.ListN.{length, getD}
-use Rattle.v8.specs.Laws.{ReadingSmall}
+use Rattle.v8.specs.Laws.{ReadingSound}
 use Rattle.policy.specs.declared.Policy.{Policy}
 use Rattle.policy.specs.Laws.{WellFormed}
 use Rattle.access.specs.Layout.{layoutOf}
-use Rattle.step.specs.Setting.{Setting, readingAt}
+use Rattle.flow.specs.Readings.{readingAt}
+use Rattle.step.specs.Setting.{Setting}
 use Rattle.step.specs.Step.{State, Step, stopped, next, returned, stepOf}
 use Rattle.machine.specs.declared.End.the-variants.{Returned, Spent}
 use Rattle.machine.specs.Run.{Run, ended, afterStep, tracedStep, runFrom, traceFrom}
@@ -18,7 +19,7 @@ use Rattle.machine.proofs.RunLaws.{counts-trace}
 use Rattle.rows.specs.Matches.{Host}
 use Rattle.rows.specs.Laws.{EntryRules}
 use Rattle.rules.specs.Laws.{Laid}
-use Rattle.checker.specs.Routine.{Routine, wordAt, resultEntry}
+use Rattle.checker.specs.Routine.{Routine, resultEntry}
 use Rattle.checker.specs.Laws.{Checked}
 use Rattle.guarantee.specs.Fields.{Declared, Framed}
 use Rattle.guarantee.specs.Safe.{ReadingSafe}
@@ -32,8 +33,8 @@ framed-on p a b c f g =
     record { length-kept = g .length-kept ∙ f .length-kept; bytes-kept = λ i o. g .bytes-kept i o ∙ f .bytes-kept i o }
 
 module _ (t : Routine) (bases : List ℕ) (returns : ℕ) (wf : WellFormed (t .policy)) (laid : Laid (t .policy .regions) (t .policy .sizes) (hostOf bases returns))
-    (four : returns % 4 ≡ 0) (ch : Checked t) (small : (w : ℕ) → ReadingSmall (wordAt t w))
-    (result : EntryRules (t .policy .regions) (t .policy .sizes) (resultEntry t)) where
+    (four : returns % 4 ≡ 0) (ch : Checked t) (sound : (w : ℕ) → ReadingSound (readingAt (t .readings) w))
+    (result : EntryRules (t .policy .regions) (t .policy .sizes) (resultEntry (t .result))) where
   abbrev h : Host
   h = hostOf bases returns
 
@@ -45,7 +46,7 @@ module _ (t : Routine) (bases : List ℕ) (returns : ℕ) (wf : WellFormed (t .p
 
   -- what is claimed of a run, but for the count of its steps
   record Claimed (start : State) (run : Run) (trace : List State) : Type 0 where
-    ends : EndsWell h (resultEntry t) (run .outcome .registers) (run .outcome .end)
+    ends : EndsWell h (resultEntry (t .result)) (run .outcome .registers) (run .outcome .end)
     first : 0 < length trace → getD trace 0 noState ≡ start
     linked : (i : ℕ) → suc i < length trace → stepOf s (getD trace i noState) ≡ next (getD trace (suc i) noState)
     last : 0 < length trace → LastStep run (stepOf s (getD trace (length trace - 1) noState))
@@ -120,11 +121,11 @@ module _ (t : Routine) (bases : List ℕ) (returns : ℕ) (wf : WellFormed (t .p
         framed = framed-self (t .policy) (st .core .memory);
       }
   claimed (suc n) k st i =
-      let g = step-sound t bases returns wf laid four ch small result st i in
+      let g = step-sound t bases returns wf laid four ch sound result st i in
       extend st n k (g .0) (claimed n (k + 1)) (stepOf s st) refl (g .1)
 
   -- the guarantee from any state of the invariant
-  pub guaranteed : (n : ℕ) (st : State) → Invariant t h st → Guaranteed (t .policy) (resultEntry t) s h st (runFrom s n 0 st) (traceFrom s n st)
+  pub guaranteed : (n : ℕ) (st : State) → Invariant t h st → Guaranteed (t .policy) (resultEntry (t .result)) s h st (runFrom s n 0 st) (traceFrom s n st)
   guaranteed n st i =
       let r = claimed n 0 st i in
       record {

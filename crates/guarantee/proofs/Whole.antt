@@ -9,12 +9,14 @@ use lib.Dec.{ltb, eqb}
 use lib.ListN.{length, getD, set, length-set}
 use lib.Seq.{getD-set-same, getD-set-other}
 use borrow.Author.Tests.{le-ltb, eqb-true, eqb-false}
+use Rattle.v8.specs.Numbers.{mostWords}
 use Rattle.policy.specs.declared.Policy.{Policy}
 use Rattle.policy.specs.Laws.{WellFormed}
 use Rattle.policy.proofs.WellFormed.{obeys}
 use Rattle.step.specs.declared.Registers.{Registers}
 use Rattle.step.specs.Registers.{valueIn, setIn, valueOf, isSet, withZero}
-use Rattle.step.specs.Setting.{readingsOf}
+use Rattle.flow.proofs.Fetched.{read-count}
+use Rattle.flow.proofs.Examined.{first-examined}
 use Rattle.machine.specs.Run.{Run, settingOf, startState, refusalOf, runOf, runFrom, traceFrom}
 use Rattle.rows.specs.declared.Row.{Row}
 use Rattle.rows.specs.Entry.{entryOk}
@@ -27,7 +29,7 @@ use Rattle.rows.proofs.Obeying.{entry-obeys, row-obeys}
 use Rattle.rules.specs.Laws.{Laid}
 use Rattle.memory.specs.Memory.{byteAt}
 use Rattle.checker.specs.Answer.{accepted}
-use Rattle.checker.specs.Routine.{Routine, routineOf, rowAt, entryRow, isSlot, examined}
+use Rattle.checker.specs.Routine.{Routine, routineOf, rowAt, entryRow, rowBytes}
 use Rattle.checker.specs.Passes.{checkOf}
 use Rattle.checker.specs.Laws.{Checked}
 use Rattle.checker.proofs.Accepted.{accepts}
@@ -35,13 +37,8 @@ use Rattle.guarantee.specs.Guarantee.{hostOf, heldOf, Words, Start, Guar
 use Rattle.guarantee.specs.Invariant.{CoreOk, Invariant}
 use Rattle.guarantee.proofs.Writing.{read-small}
 use Rattle.guarantee.proofs.Placed.{memory-long, return-aligned, laid}
-use Rattle.guarantee.proofs.Numbers.{readings-small}
+use Rattle.guarantee.proofs.Numbers.{readings-sound}
 use Rattle.guarantee.proofs.Running.{guaranteed}
-
--- as many words are read as there are
-read-count : (words : List ℕ) → length (readingsOf words) ≡ length words
-read-count [] = refl
-read-count (x ∷ xs) = ap suc (read-count xs)
 
 -- r0 reads as a set zero whether or not it is one
 module _ (g : Registers) where
@@ -108,16 +105,12 @@ module _ (p : Policy) (words rows entry result : List ℕ) (e : checkOf p words 
         rw (
           checked .policy,
           le-ltb (length words) 1 (subst (λ (n : ℕ). 1 ≤ n) (read-count words) (checked .some)),
-          le-ltb 128 (length words) (subst (λ (n : ℕ). n ≤ 128) (read-count words) (checked .most)),
+          le-ltb mostWords (length words) (subst (λ (n : ℕ). n ≤ mostWords) (read-count words) (checked .most)),
           start .placed,
         )
 
     is-laid : Laid (p .regions) (p .sizes) (hostOf bases returns)
     is-laid = laid (p .regions) (p .sizes) bases returns memory (start .placed) (wf .regions-most)
-
-    first-free : examined t 0 ≡ true
-    unfolding isSlot
-    first-free = refl
 
     core-ok : CoreOk p (hostOf bases returns) (startState g memory .core)
     core-ok =
@@ -128,8 +121,8 @@ module _ (p : Policy) (words rows entry result : List ℕ) (e : checkOf p words 
           declared = start .fields;
         }
 
-    row-rules : RowRules (p .regions) (p .sizes) (rowAt t 0)
-    row-rules = row-obeys (p .regions) (p .sizes) rows (392 * 0) (checked .rows-formed 0 (checked .some))
+    row-rules : RowRules (p .regions) (p .sizes) (rowAt rows 0)
+    row-rules = row-obeys (p .regions) (p .sizes) rows (rowBytes * 0) (checked .rows-formed 0 (checked .some))
 
     -- the invariant holds at the start
     pub invariant-start : Invariant (routineOf p words rows entry result) (hostOf bases returns) (startState g memory)
@@ -139,13 +132,13 @@ module _ (p : Policy) (words rows entry result : List ℕ) (e : checkOf p words 
           ready =
               record {
                 inside = checked .some;
-                free = first-free;
+                free = first-examined (t .readings);
                 fitted =
                     record {
                       rules = row-rules;
-                      matches = row-fits (hostOf bases returns) (p .regions) (p .sizes) (entryRow t) (rowAt t 0) (heldOf (withZero g))
+                      matches = row-fits (hostOf bases returns) (p .regions) (p .sizes) (entryRow entry) (rowAt rows 0) (heldOf (withZero g))
                           (read-small (withZero g) (zero-words g (start .words))) (row-obeys (p .regions) (p .sizes) entry 0 (checked .entry-formed)) row-rules
-                          (checked .entry) (zero-matches g (hostOf bases returns) (entryRow t) (start .row));
+                          (checked .entry) (zero-matches g (hostOf bases returns) (entryRow entry) (start .row));
                     };
               };
         }
@@ -158,7 +151,7 @@ module _ (p : Policy) (words rows entry result : List ℕ) (e : checkOf p words 
         (runFrom (settingOf p words bases returns) allowance 0 (startState g memory)) (traceFrom (settingOf p words bases returns) allowance (startState g memory))
     whole allowance =
         guaranteed (routineOf p words rows entry result) bases returns wf is-laid (return-aligned (p .regions) (p .sizes) bases returns memory (start .placed)) checked
-        (readings-small words) result-rules allowance (startState g memory) invariant-start
+        (readings-sound words) result-rules allowance (startState g memory) invariant-start
 
 pub running-guarantee : RunningGuarantee
 running-guarantee p words rows entry result e bases returns g memory start allowance =

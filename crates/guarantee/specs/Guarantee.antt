@@ -11,8 +11,9 @@ use Rattle.alu.specs.declared.codes.Codes.{Codes}
 use Rattle.memory.specs.Memory.{Bytes}
 use Rattle.step.specs.declared.Registers.{Registers}
 use Rattle.step.specs.Registers.{valueOf, isSet}
-use Rattle.step.specs.Setting.{Setting, readingAt}
-use Rattle.step.specs.Transfer.{goTo}
+use Rattle.flow.specs.Readings.{readingAt}
+use Rattle.step.specs.Setting.{Setting}
+use Rattle.step.specs.Control.{goTo}
 use Rattle.step.specs.Effect.{Core}
 use Rattle.step.specs.Step.{State, Step, stopped, next, returned, stepOf}
 use Rattle.machine.specs.declared.End.{End}

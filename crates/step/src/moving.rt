@@ -2,8 +2,9 @@
 ghost use mathlib.Core.Path.{_≡_};
 ghost use Prim.Native.Nat.{_<_};
 ghost use Rattle.v8.specs.Numbers.{mostWords};
+ghost use Rattle.flow.specs.Edge.{branchEdge};
 ghost use Rattle.step.specs.Control.{inSlot, dueAt};
-ghost use Rattle.step.specs.Step.{depart, branchStep};
+ghost use Rattle.step.specs.Step.{follow, branchStep};
 ghost use Rattle.step.specs.Lent.{Does, Arrives, Leaves};
 use crate::Control;
 use crate::Pending;
@@ -46,64 +47,66 @@ pub fn stop(control: Control, codes: Codes, coded: bool, fault: u8) -> Went
     }
 }
 
-// Control goes to a word, or out.
-fn arrive(control: Control, codes: Codes, coded: bool, to: Destination) -> Went
-    ensures { λ r. ⌜ Arrives r codes coded to ⌝ }
+// Moves on past a word: to the next one, to where the transfer before it goes, or out.
+pub fn move_on(control: Control, codes: Codes, coded: bool) -> Went
+    requires { ⌜ control .at .0 < mostWords ⌝ }
+    ensures { λ r. ⌜ Arrives r codes coded (dueAt (control .at .0) (control .pending)) ⌝ }
 {
-    match to {
-        Destination::To(w) => Went {
+    let at = control.at;
+    let pending = control.pending;
+    match pending {
+        Pending::Nothing => Went {
             progress: Progress::Goes,
             control: Control {
-                at: w,
+                at: WordIndex(at.0 + 1),
                 pending: Pending::Nothing,
             },
             codes,
             coded,
         },
-        Destination::Caller => Went {
-            progress: Progress::Returned,
-            control,
-            codes,
-            coded,
+        Pending::Due(to) => match to {
+            Destination::To(w) => Went {
+                progress: Progress::Goes,
+                control: Control {
+                    at: w,
+                    pending: Pending::Nothing,
+                },
+                codes,
+                coded,
+            },
+            Destination::Caller => Went {
+                progress: Progress::Returned,
+                control,
+                codes,
+                coded,
+            },
         },
     }
 }
 
-// Where control goes after a word: to the next one, or where the transfer before it goes.
-fn due_at(control: Control) -> Destination
+// Follows the edge of a branch that is taken, or the other: over the slot where that runs.
+fn follow_branch(control: Control, codes: Codes, coded: bool, b: Bicc, taken: bool) -> Went
     requires { ⌜ control .at .0 < mostWords ⌝ }
-    ensures { λ r. ⌜ r ≡ dueAt (control .at .0) (control .pending) ⌝ }
+    ensures { λ r. ⌜ Does r codes coded (follow (control .at .0) (branchEdge (control .at .0) b taken)) ⌝ }
 {
     let at = control.at;
-    let pending = control.pending;
-    match pending {
-        Pending::Nothing => Destination::To(WordIndex(at.0 + 1)),
-        Pending::Due(to) => to,
+    let to = landing_of(at, b, taken);
+    if slot_runs(b, taken) {
+        return Went {
+            progress: Progress::Goes,
+            control: Control {
+                at: WordIndex(at.0 + 1),
+                pending: Pending::Due(Destination::To(to)),
+            },
+            codes,
+            coded,
+        };
     }
-}
-
-// Moves on past a word.
-pub fn move_on(control: Control, codes: Codes, coded: bool) -> Went
-    requires { ⌜ control .at .0 < mostWords ⌝ }
-    ensures { λ r. ⌜ Arrives r codes coded (dueAt (control .at .0) (control .pending)) ⌝ }
-{
-    arrive(control, codes, coded, due_at(control))
-}
-
-// Leaves a transfer for a destination, over the slot where that runs.
-fn depart(control: Control, codes: Codes, coded: bool, slot: bool, to: Destination) -> Went
-    requires { ⌜ control .at .0 < mostWords ⌝ }
-    ensures { λ r. ⌜ Does r codes coded (depart (control .at .0) slot to) ⌝ }
-{
-    if !slot {
-        return arrive(control, codes, coded, to);
-    }
-    let at = control.at;
     Went {
         progress: Progress::Goes,
         control: Control {
-            at: WordIndex(at.0 + 1),
-            pending: Pending::Due(to),
+            at: to,
+            pending: Pending::Nothing,
         },
         codes,
         coded,
@@ -118,11 +121,7 @@ pub fn branch(control: Control, codes: Codes, coded: bool, b: Bicc) -> Went
     if reads_codes(b.cond) & !coded {
         return stop(control, codes, coded, UNSET_READ);
     }
-    let at = control.at;
-    let taken = holds(b.cond, codes);
-    let slot = slot_runs(b, taken);
-    let to = Destination::To(landing_of(at, b, taken));
-    depart(control, codes, coded, slot, to)
+    follow_branch(control, codes, coded, b, holds(b.cond, codes))
 }
 
 // The leaf return: 102 where r15 is unset, 104 where it is no multiple of 4, 105 where it is not the
@@ -148,5 +147,14 @@ pub fn leave(
     if link != returns {
         return stop(control, codes, coded, WRONG_RETURN);
     }
-    depart(control, codes, coded, true, Destination::Caller)
+    let at = control.at;
+    Went {
+        progress: Progress::Goes,
+        control: Control {
+            at: WordIndex(at.0 + 1),
+            pending: Pending::Due(Destination::Caller),
+        },
+        codes,
+        coded,
+    }
 }

@@ -1,6 +1,5 @@
 -- The taken edge, if there is one, has its answer; where that accepts, or there is none, the other has.
 use mathlib.Core.Path.{_≡_, refl, sym, subst, _∙_}
-use mathlib.Core.Bool.{Bool, true, false, cond}
 use mathlib.Core.Logic.{⊎-elim}
 use lib.ListN.{length}
 use denote.Ref.{now}
@@ -10,15 +9,21 @@ use Rattle.checker.specs.declared.Answer.{Answer}
 use Rattle.checker.specs.Answer.{accepted, andThen}
 use Rattle.checker.specs.Passes.{narrowedEdge}
 use Rattle.checker.specs.Lent.{EndIn}
+use Rattle.checker.proofs.Looked.{straight}
 use Rattle.checker.proofs.Stages.{goes, stops}
+use mathlib.Core.Bool.{Bool, true, false, cond, not}
+use borrow.Author.Tests.{not-true, not-false}
+use Rattle.rows.proofs.Tests.{and-went}
 use borrow.Author.Needs.{needs}
 use Rattle.checker.proofs.edges.edges_of.Statement.{statement}
 use Rattle.checker.proofs.edges.edges_of.Tie as tie
 use Rattle.checker.proofs.edges.edges_of.Reads as reads
 use Rattle.checker.proofs.edges.edges_of.Lts as lts
 use Rattle.checker.proofs.answers.accept.Reads as accept-reads
+use Rattle.checker.proofs.arrival.arrive.Reads as arrive-reads
 use Rattle.checker.proofs.edges.narrowed_edge.Reads as narrowed-edge-reads
 use Rattle.flow.proofs.edges.edge_of.Reads as edge-of-reads
+use Rattle.rules.proofs.narrows.Reads as narrows-reads
 
 -- the answer along an edge
 abbrev along : tie.Start → Edge → Answer
@@ -45,7 +50,7 @@ gone f e y q x = subst (λ (z : Edge). accepted ≡ cond (z .exists) (f z) accep
     at b t = rw t
 
 -- where the taken edge accepts, or there is none, the answer is the other's
-rest : (c : lts.Joined1 (edge-of-reads.Asked, edge-of-reads.Learnt, narrowed-edge-reads.Asked, narrowed-edge-reads.Learnt, accept-reads.Asked, accept-reads.Learnt) reads.Pre reads.Post)
+rest : (c : lts.Joined1 (edge-of-reads.Asked, edge-of-reads.Learnt, narrowed-edge-reads.Asked, narrowed-edge-reads.Learnt, accept-reads.Asked, accept-reads.Learnt, narrows-reads.Asked, narrows-reads.Learnt, arrive-reads.Asked, arrive-reads.Learnt) reads.Pre reads.Post)
     → let s = c .before .before .before .before in
     andThen (cond (edge s true .exists) (along s (edge s true)) accepted) (cond (edge s false .exists) (along s (edge s false)) accepted)
     ≡ cond (edge s false .exists) (along s (edge s false)) accepted
@@ -72,23 +77,40 @@ returns c =
 edge-of-requires-2 : tie.Need-edge-of-requires-2
 edge-of-requires-2 c κs = search needs
 
-narrowed-edge-requires-2 : tie.Need-narrowed-edge-requires-2
-narrowed-edge-requires-2 c κs =
-    let s = c .before .before .before .before .before .before in
-    (s .pre .0, s .pre .1, lies s false (c .before .edge-of2 .result) (c .before .edge-of2 .ensures) (c .if3 .taken))
-
-returns-2 : tie.Need-returns-2
-returns-2 c =
-    let s = c .before .before .before .before .before .before .before in
-    c .narrowed-edge2 .ensures ∙ there (along s) _ _ (c .before .before .edge-of2 .ensures) (c .before .if3 .taken) ∙ sym (rest (c .before .before .before))
-
 accept-requires : tie.Need-accept-requires
 accept-requires c κs = search needs
 
+returns-2 : tie.Need-returns-2
+returns-2 c =
+    let s = c .before .before .before .before .before .before .before .before in
+    c .accept .ensures ∙ gone (along s) _ _ (c .before .before .before .edge-of2 .ensures) (not-true _ (c .before .if3 .taken)) ∙ sym (rest (c .before .before .before .before))
+
+narrows-requires : tie.Need-narrows-requires
+narrows-requires c κs = search needs
+
+arrive-requires : tie.Need-arrive-requires
+arrive-requires c κs =
+    let s = c .before .before .before .before .before .before .before .before .before .before in
+    (s .pre .1, lies s false (c .before .before .before .before .before .edge-of2 .result) (c .before .before .before .before .before .edge-of2 .ensures) (not-false _ (c .before .before .before .if3 .left)))
+
 returns-3 : tie.Need-returns-3
 returns-3 c =
-    let s = c .before .before .before .before .before .before .before in
-    c .accept .ensures ∙ gone (along s) _ _ (c .before .before .edge-of2 .ensures) (c .before .if3 .left) ∙ sym (rest (c .before .before .before))
+    let s = c .before .before .before .before .before .before .before .before .before .before .before in
+    let e = c .before .before .before .before .before .before .edge-of2 .result in
+    let t = and-went (not (e .slot)) (not (c .before .before .narrows .result)) (c .before .if4 .taken) in
+    let none = sym (c .before .before .narrows .ensures) ∙ not-true (c .before .before .narrows .result) (t .1) in
+    c .arrive .ensures ∙ straight (s .args .policy) (now (s .args .rows)) (now (s .args .result)) (s .args .at .0) (s .args .x) e (s .args .row) (not-true (e .slot) (t .0)) none
+    ∙ there (along s) _ _ (c .before .before .before .before .before .before .edge-of2 .ensures) (not-false _ (c .before .before .before .before .if3 .left)) ∙ sym (rest (c .before .before .before .before .before .before .before))
+
+narrowed-edge-requires-2 : tie.Need-narrowed-edge-requires-2
+narrowed-edge-requires-2 c κs =
+    let s = c .before .before .before .before .before .before .before .before .before .before in
+    (s .pre .0, s .pre .1, lies s false (c .before .before .before .before .before .edge-of2 .result) (c .before .before .before .before .before .edge-of2 .ensures) (not-false _ (c .before .before .before .if3 .left)))
+
+returns-4 : tie.Need-returns-4
+returns-4 c =
+    let s = c .before .before .before .before .before .before .before .before .before .before .before in
+    c .narrowed-edge2 .ensures ∙ there (along s) _ _ (c .before .before .before .before .before .before .edge-of2 .ensures) (not-false _ (c .before .before .before .before .if3 .left)) ∙ sym (rest (c .before .before .before .before .before .before .before))
 
 pub edges-of-spec : {M : Type 1} → statement M
 edges-of-spec =
@@ -98,7 +120,10 @@ edges-of-spec =
     narrowed-edge-requires
     returns
     edge-of-requires-2
-    narrowed-edge-requires-2
-    returns-2
     accept-requires
-    returns-3)
+    returns-2
+    narrows-requires
+    arrive-requires
+    returns-3
+    narrowed-edge-requires-2
+    returns-4)

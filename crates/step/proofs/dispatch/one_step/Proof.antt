@@ -1,4 +1,6 @@
--- The word is not read, is a transfer in a slot, or is run.
+-- The word is not read, is a transfer in a slot, or is run by the function of its kind.
+use mathlib.Core.Bool.{and-false}
+use Rattle.step.specs.Control.{inSlot}
 use borrow.Author.Needs.{needs}
 use Rattle.step.proofs.dispatch.one_step.Statement.{statement}
 use Rattle.step.proofs.dispatch.one_step.Tie as tie
@@ -6,48 +8,126 @@ use Rattle.step.proofs.dispatch.one_step.Tie as tie
 enum-known-x : tie.Need-enum-known-x
 enum-known-x c = search needs
 
+enum-known-instruction : tie.Need-enum-known-instruction
+enum-known-instruction c = search needs
+
+enum-known-operation : tie.Need-enum-known-operation
+enum-known-operation c = search needs
+
+step-sethi-requires : tie.Need-step-sethi-requires
+step-sethi-requires c κs = rw (c .before .before .before .before .before .before .before .before .before .x .given .1) at (c .before .before .before .before .before .before .before .before .before .before .before .before .before .pre .0)
+
+enum-known-operation-2 : tie.Need-enum-known-operation-2
+enum-known-operation-2 c = search needs
+
+step-alu-requires : tie.Need-step-alu-requires
+step-alu-requires c κs = rw (c .before .before .before .before .before .before .before .before .before .x .given .1) at (c .before .before .before .before .before .before .before .before .before .before .before .before .before .pre .0)
+
+enum-known-operation-3 : tie.Need-enum-known-operation-3
+enum-known-operation-3 c = search needs
+
+step-shift-requires : tie.Need-step-shift-requires
+step-shift-requires c κs = rw (c .before .before .before .before .before .before .before .before .before .x .given .1) at (c .before .before .before .before .before .before .before .before .before .before .before .before .before .pre .0)
+
+enum-known-operation-4 : tie.Need-enum-known-operation-4
+enum-known-operation-4 c = search needs
+
+step-access-requires : tie.Need-step-access-requires
+step-access-requires c κs =
+    let p = c .before .before .before .before .before .before .before .before .before .before .before .before .before .before .pre in
+    (rw (c .before .before .before .before .before .before .before .before .before .before .x .given .1) at (p .0), p .1, p .2, p .3)
+
+enum-known-instruction-2 : tie.Need-enum-known-instruction-2
+enum-known-instruction-2 c = search needs
+
 in-slot-requires : tie.Need-in-slot-requires
 in-slot-requires c κs = search needs
-
-is-transfer-requires : tie.Need-is-transfer-requires
-is-transfer-requires c κs = search needs
 
 stop-requires : tie.Need-stop-requires
 stop-requires c κs = search needs
 
 returns : tie.Need-returns
-returns c = rw (c .before .before .before .before .before .x .given .1, ← c .before .before .before .in-slot .ensures, ← c .before .before .is-transfer .ensures, c .before .if1 .taken, c .stop .ensures)
+returns c = rw (c .before .before .before .before .before .before .before .x .given .1, c .before .before .before .before .instruction2 .given .1, ← c .before .before .in-slot .ensures, c .before .if1 .taken, c .stop .ensures)
 
-run-instruction-requires : tie.Need-run-instruction-requires
-run-instruction-requires c κs = let within = rw (c .before .before .before .before .before .before .before .x .given .1) at (c .before .before .before .before .before .before .before .before .before .before .before .pre .0) in (within, c .before .before .before .before .before .before .before .before .before .before .before .pre .1, c .before .before .before .before .before .before .before .before .before .before .before .pre .2, c .before .before .before .before .before .before .before .before .before .before .before .pre .3)
+branch-requires : tie.Need-branch-requires
+branch-requires c κs = rw (c .before .before .before .before .before .before .x .given .1) at (c .before .before .before .before .before .before .before .before .before .before .pre .0)
 
 enum-told : tie.Need-enum-told
 enum-told c = search needs
 
+in-slot-requires-2 : tie.Need-in-slot-requires-2
+in-slot-requires-2 c κs = search needs
+
 stop-requires-2 : tie.Need-stop-requires-2
 stop-requires-2 c κs = search needs
+
+returns-2 : tie.Need-returns-2
+returns-2 c = rw (c .before .before .before .before .before .before .x .given .1, c .before .before .before .enum-told .given .1, ← c .before .before .in-slot2 .ensures, c .before .if2 .taken, c .stop2 .ensures)
+
+leave-requires : tie.Need-leave-requires
+leave-requires c κs = rw (c .before .before .before .before .before .before .before .x .given .1) at (c .before .before .before .before .before .before .before .before .before .before .before .pre .0)
+
+enum-told-2 : tie.Need-enum-told-2
+enum-told-2 c = search needs
+
+stop-requires-3 : tie.Need-stop-requires-3
+stop-requires-3 c κs = search needs
+
+returns-3 : tie.Need-returns-3
+returns-3 c = rw (c .before .before .before .before .before .before .before .before .before .before .x .given .1, c .before .before .before .before .before .before .before .instruction .given .1, and-false (inSlot (c .before .before .before .before .before .before .before .before .before .before .before .before .before .before .args .control .pending)), c .before .before .before .before .operation .given .1) (c .step-sethi .ensures _)
+
+returns-4 : tie.Need-returns-4
+returns-4 c = rw (c .before .before .before .before .before .before .before .before .before .before .x .given .1, c .before .before .before .before .before .before .before .instruction .given .1, and-false (inSlot (c .before .before .before .before .before .before .before .before .before .before .before .before .before .before .args .control .pending)), c .before .before .before .before .operation2 .given .1) (c .step-alu .ensures _)
+
+returns-5 : tie.Need-returns-5
+returns-5 c = rw (c .before .before .before .before .before .before .before .before .before .before .x .given .1, c .before .before .before .before .before .before .before .instruction .given .1, and-false (inSlot (c .before .before .before .before .before .before .before .before .before .before .before .before .before .before .args .control .pending)), c .before .before .before .before .operation3 .given .1) (c .step-shift .ensures _)
 
 same-length : tie.Need-same-length
 same-length c = search needs
 
-returns-2 : tie.Need-returns-2
-returns-2 c = rw (c .before .before .before .before .before .before .before .before .before .before .x .given .1, ← c .before .before .before .before .before .before .before .before .in-slot .ensures, ← c .before .before .before .before .before .before .before .is-transfer .ensures, c .before .before .before .before .before .before .if1 .left) (c .before .before .run-instruction .ensures)
+returns-6 : tie.Need-returns-6
+returns-6 c = rw (c .before .before .before .before .before .before .before .before .before .before .before .before .before .x .given .1, c .before .before .before .before .before .before .before .before .before .before .instruction .given .1, and-false (inSlot (c .before .before .before .before .before .before .before .before .before .before .before .before .before .before .before .before .before .args .control .pending)), c .before .before .before .before .before .before .before .operation4 .given .1) (c .before .before .step-access .ensures)
 
-returns-3 : tie.Need-returns-3
-returns-3 c = rw (c .before .enum-told .given .1, c .stop2 .ensures)
+returns-7 : tie.Need-returns-7
+returns-7 c = rw (c .before .before .before .before .before .before .before .x .given .1, c .before .before .before .before .instruction2 .given .1, ← c .before .before .in-slot .ensures, c .before .if1 .left) (c .branch .ensures _ _ _)
+
+returns-8 : tie.Need-returns-8
+returns-8 c = rw (c .before .before .before .before .before .before .before .before .x .given .1, c .before .before .before .before .before .enum-told .given .1, ← c .before .before .before .before .in-slot2 .ensures, c .before .before .before .if2 .left) (c .leave .ensures _)
+
+returns-9 : tie.Need-returns-9
+returns-9 c = rw (c .before .enum-told2 .given .1, c .stop3 .ensures)
 
 pub one-step-spec : {M : Type 1} → statement M
 one-step-spec =
     tie.close
     (tie.spec
     enum-known-x
+    enum-known-instruction
+    enum-known-operation
+    step-sethi-requires
+    enum-known-operation-2
+    step-alu-requires
+    enum-known-operation-3
+    step-shift-requires
+    enum-known-operation-4
+    step-access-requires
+    enum-known-instruction-2
     in-slot-requires
-    is-transfer-requires
     stop-requires
     returns
-    run-instruction-requires
+    branch-requires
     enum-told
+    in-slot-requires-2
     stop-requires-2
-    same-length
     returns-2
-    returns-3)
+    leave-requires
+    enum-told-2
+    stop-requires-3
+    returns-3
+    returns-4
+    returns-5
+    same-length
+    returns-6
+    returns-7
+    returns-8
+    returns-9)

@@ -1,4 +1,4 @@
--- A branch, by whether it reads codes that are unset; the slot and where it goes are those of its edge.
+-- A branch, by whether it reads codes that are unset.
 use borrow.Author.Needs.{needs}
 use Rattle.step.proofs.moving.branch.Statement.{statement}
 use Rattle.step.proofs.moving.branch.Tie as tie
@@ -15,17 +15,11 @@ returns c = λ values marks memory. rw (c .stop .ensures, ← c .before .before 
 holds-requires : tie.Need-holds-requires
 holds-requires c κs = search needs
 
-slot-runs-requires : tie.Need-slot-runs-requires
-slot-runs-requires c κs = search needs
-
-landing-of-requires : tie.Need-landing-of-requires
-landing-of-requires c κs = search needs
-
-depart-requires : tie.Need-depart-requires
-depart-requires c κs = search needs
+follow-branch-requires : tie.Need-follow-branch-requires
+follow-branch-requires c κs = search needs
 
 returns-2 : tie.Need-returns-2
-returns-2 c = λ values marks memory. rw (← c .before .before .before .before .before .before .reads-codes .ensures, c .before .before .before .before .before .if1 .left, ← c .before .before .before .holds .ensures, ← c .before .before .slot-runs .ensures, ← c .before .landing-of .ensures) (c .depart .ensures values marks memory)
+returns-2 c = λ values marks memory. rw (← c .before .before .before .reads-codes .ensures, c .before .before .if1 .left, ← c .before .holds .ensures) (c .follow-branch .ensures values marks memory)
 
 pub branch-spec : {M : Type 1} → statement M
 branch-spec =
@@ -35,7 +29,5 @@ branch-spec =
     stop-requires
     returns
     holds-requires
-    slot-runs-requires
-    landing-of-requires
-    depart-requires
+    follow-branch-requires
     returns-2)

@@ -28,11 +28,11 @@ stop-requires-3 c κs = search needs
 returns-3 : tie.Need-returns-3
 returns-3 c = λ memory. rw (c .stop3 .ensures, ← c .before .before .before .before .before .is-set .ensures, not-false (c .before .before .before .before .before .is-set .result) (c .before .before .before .before .if1 .left), ← c .before .before .before .value .ensures, eq-eqb _ 0 (c .before .before .if2 .left), ne-eqb _ _ (c .before .if3 .taken))
 
-depart-requires : tie.Need-depart-requires
-depart-requires c κs = search needs
+add-t11 : tie.Need-add-t11
+add-t11 c = search needs
 
 returns-4 : tie.Need-returns-4
-returns-4 c = λ memory. rw (← c .before .before .before .before .before .is-set .ensures, not-false (c .before .before .before .before .before .is-set .result) (c .before .before .before .before .if1 .left), ← c .before .before .before .value .ensures, eq-eqb _ 0 (c .before .before .if2 .left), eq-eqb _ _ (c .before .if3 .left)) (c .depart .ensures _ _ memory)
+returns-4 c = λ memory. rw (← c .before .before .before .before .before .before .is-set .ensures, not-false (c .before .before .before .before .before .before .is-set .result) (c .before .before .before .before .before .if1 .left), ← c .before .before .before .before .value .ensures, eq-eqb _ 0 (c .before .before .before .if2 .left), eq-eqb _ _ (c .before .before .if3 .left))
 
 pub leave-spec : {M : Type 1} → statement M
 leave-spec =
@@ -46,5 +46,5 @@ leave-spec =
     returns-2
     stop-requires-3
     returns-3
-    depart-requires
+    add-t11
     returns-4)
