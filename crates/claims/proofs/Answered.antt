@@ -9,24 +9,27 @@ use native.Mathlib.Omega.{arith}
 use lib.ListN.{length}
 use borrow.Author.Tests.{le-ltb}
 use Rattle.v8.specs.Search.{first, lowest}
+use Rattle.v8.specs.Numbers.{badRow, entryMisfit}
 use Rattle.v8.specs.Read.{readingOf}
 use Rattle.v8.proofs.Worked.{nop-read, return-read, always-read}
 use Rattle.alu.specs.Result.{sethiOf}
 use Rattle.alu.specs.Condition.{conditionOf}
 use Rattle.policy.specs.declared.Policy.{Policy}
 use Rattle.memory.specs.Memory.{byteAt}
-use Rattle.step.specs.Transfer.{slotRuns, targetOf}
+use Rattle.flow.specs.Transfer.{slotRuns, targetOf}
+use Rattle.flow.specs.Readings.{transfers, isSlot}
 use Rattle.rows.specs.Entry.{isReturn, constant, fits}
 use Rattle.rows.specs.Row.{entryAt, entryOf, rowOf, formFault, misfit, places}
 use Rattle.rows.proofs.Tests.{other-kind}
 use Rattle.rules.specs.Change.{branchChange, returnChange}
+use Rattle.rules.specs.Narrow.{narrowRow}
 use Rattle.checker.specs.Answer.{accepted, refuse, passes, passOf}
-use Rattle.checker.specs.Routine.{Routine, routineOf, transfers, isSlot, rowBytes}
-use Rattle.checker.specs.Passes.{shapeOk, rowPass, readPass, flowPass, entryPass, edgeOf, branchEdge, branchEdges, wordPass, checkOf, badRow, entryMisfit}
+use Rattle.checker.specs.Routine.{Routine, routineOf, rowBytes}
+use Rattle.checker.specs.Passes.{shapeOk, rowPass, readPass, flowPass, entryPass, cross, narrowedEdge, wordPass, checkOf}
 use Rattle.claims.specs.Claims.{nop, returnWord, alwaysHere, WellFormedEntry, AllRowsEqual, ReturnThenNop, OneNop, LoopAccepted}
 use Rattle.claims.proofs.Agreeing.{Agree, same-row}
 use Rattle.claims.proofs.Passing.{unless-none, formed-too, all-pass, flow-answers, all-accept}
-use Rattle.claims.proofs.Keeping.{row-self, nop-keeps, narrowing-keeps}
+use Rattle.claims.proofs.Keeping.{row-self, nop-keeps}
 
 -- what holds of word 0 holds of each of one word; and of two
 below-one : (P : ℕ → Type 0) → P 0 → (w : ℕ) → w < 1 → P w
@@ -39,27 +42,27 @@ below-two P a b (suc zero) l = b
 below-two P a b (suc (suc w)) l = absurd (omega arith)
 
 -- a word whose row is well formed passes 1
-row-passes : (t : Routine) (w : ℕ) → places ≤ formFault (t .policy .regions) (t .policy .sizes) (t .rows) (rowBytes * w) → passes (rowPass t w) ≡ true
+row-passes : (p : Policy) (rows : List ℕ) (w : ℕ) → places ≤ formFault (p .regions) (p .sizes) rows (rowBytes * w) → passes (rowPass p rows w) ≡ true
 unfolding rowPass
-row-passes t w l = ap passes (unless-none badRow w (formFault (t .policy .regions) (t .policy .sizes) (t .rows) (rowBytes * w)) l)
+row-passes p rows w l = ap passes (unless-none badRow w (formFault (p .regions) (p .sizes) rows (rowBytes * w)) l)
 
 module _ (p : Policy) (rows entry result : List ℕ) (f : WellFormedEntry p entry result) where
   module _ (long : length rows ≡ 392) (formed : formFault (p .regions) (p .sizes) rows 0 ≡ places) where
     abbrev alone : Routine
     alone = routineOf p (nop ∷ []) rows entry result
 
-    alone-shape : shapeOk alone ≡ true
+    alone-shape : shapeOk p 1 rows entry result ≡ true
     unfolding shapeOk
     alone-shape = rw (long, f .entry-long, f .result-long, f .entry-formed, f .result-formed)
 
-    alone-rows : passOf (rowPass alone) 1 ≡ accepted
-    alone-rows = all-pass (rowPass alone) 1 (below-one (λ (w : ℕ). passes (rowPass alone w) ≡ true) (row-passes alone 0 (omega arith)))
+    alone-rows : passOf (rowPass p rows) 1 ≡ accepted
+    alone-rows = all-pass (rowPass p rows) 1 (below-one (λ (w : ℕ). passes (rowPass p rows w) ≡ true) (row-passes p rows 0 (omega arith)))
 
-    alone-reads : passOf (readPass alone) 1 ≡ accepted
+    alone-reads : passOf (readPass (alone .readings)) 1 ≡ accepted
     unfolding passOf first lowest readPass
     alone-reads = rw nop-read
 
-    alone-flow : passOf (flowPass alone) 1 ≡ refuse 3 0 0
+    alone-flow : passOf (flowPass (alone .readings)) 1 ≡ refuse 3 0 0
     unfolding passOf first lowest flowPass isSlot
     alone-flow = rw nop-read
 
@@ -96,29 +99,29 @@ module _ (p : Policy) (rows entry result : List ℕ) (f : WellFormedEntry p entr
     abbrev pair : Routine
     pair = routineOf p (word ∷ nop ∷ []) rows entry result
 
-    pair-shape : shapeOk pair ≡ true
+    pair-shape : shapeOk p 2 rows entry result ≡ true
     unfolding shapeOk
     pair-shape = rw (e .long, f .entry-long, f .result-long, f .entry-formed, f .result-formed)
 
-    pair-rows : passOf (rowPass pair) 2 ≡ accepted
-    pair-rows = all-pass (rowPass pair) 2 (λ w l. row-passes pair w (row-formed w l))
+    pair-rows : passOf (rowPass p rows) 2 ≡ accepted
+    pair-rows = all-pass (rowPass p rows) 2 (λ w l. row-passes p rows w (row-formed w l))
 
-    pair-entry : entryPass pair ≡ accepted
+    pair-entry : entryPass rows entry ≡ accepted
     unfolding entryPass
     pair-entry = unless-none entryMisfit 0 (misfit (rowOf entry 0) (rowOf rows (392 * 0))) entry-fits
 
     -- a transfer that passes each pass makes a routine that does: its slot is read, is no transfer, and is not looked at by itself
-    module _ (reads : passes (readPass pair 0) ≡ true) (slot : transfers (readingOf word) ≡ true) (flows : passes (flowPass pair 0) ≡ true)
-        (accepts : passes (wordPass pair 0) ≡ true) where
-      slot-reads : passes (readPass pair 1) ≡ true
+    module _ (reads : passes (readPass (pair .readings) 0) ≡ true) (slot : transfers (readingOf word) ≡ true) (flows : passes (flowPass (pair .readings) 0) ≡ true)
+        (accepts : passes (wordPass p (pair .readings) rows result 0) ≡ true) where
+      slot-reads : passes (readPass (pair .readings) 1) ≡ true
       unfolding readPass
       slot-reads = rw nop-read
 
-      slot-flows : passes (flowPass pair 1) ≡ true
+      slot-flows : passes (flowPass (pair .readings) 1) ≡ true
       unfolding flowPass isSlot
       slot-flows = rw (nop-read, slot)
 
-      slot-accepts : passes (wordPass pair 1) ≡ true
+      slot-accepts : passes (wordPass p (pair .readings) rows result 1) ≡ true
       unfolding wordPass isSlot
       slot-accepts = rw slot
 
@@ -126,26 +129,26 @@ module _ (p : Policy) (rows entry result : List ℕ) (f : WellFormedEntry p entr
       unfolding checkOf
       pair-answer =
           all-accept pair (f .policy) pair-shape pair-rows
-          (all-pass (readPass pair) 2 (below-two (λ (w : ℕ). passes (readPass pair w) ≡ true) reads slot-reads))
-          (all-pass (flowPass pair) 2 (below-two (λ (w : ℕ). passes (flowPass pair w) ≡ true) flows slot-flows))
+          (all-pass (readPass (pair .readings)) 2 (below-two (λ (w : ℕ). passes (readPass (pair .readings) w) ≡ true) reads slot-reads))
+          (all-pass (flowPass (pair .readings)) 2 (below-two (λ (w : ℕ). passes (flowPass (pair .readings) w) ≡ true) flows slot-flows))
           pair-entry
-          (all-pass (wordPass pair) 2 (below-two (λ (w : ℕ). passes (wordPass pair w) ≡ true) accepts slot-accepts))
+          (all-pass (wordPass p (pair .readings) rows result) 2 (below-two (λ (w : ℕ). passes (wordPass p (pair .readings) rows result w) ≡ true) accepts slot-accepts))
 
   -- the return
   module _ (links : isReturn (entryAt (rowOf entry 0) 15) ≡ true) (fitting : fits (entryAt (rowOf entry 0) 8) (entryOf result 0) ≡ true) where
     abbrev home : Routine
     home = routineOf p (returnWord ∷ nop ∷ []) rows entry result
 
-    return-reads : passes (readPass home 0) ≡ true
+    return-reads : passes (readPass (home .readings) 0) ≡ true
     unfolding readPass
     return-reads = rw return-read
 
-    return-flows : passes (flowPass home 0) ≡ true
+    return-flows : passes (flowPass (home .readings) 0) ≡ true
     unfolding flowPass isSlot
     return-flows = rw return-read
 
-    return-accepts : passes (wordPass home 0) ≡ true
-    unfolding wordPass isSlot edgeOf returnChange
+    return-accepts : passes (wordPass p (home .readings) rows result 0) ≡ true
+    unfolding wordPass isSlot narrowedEdge narrowRow cross returnChange
     return-accepts =
         rw (
           return-read,
@@ -164,23 +167,22 @@ module _ (p : Policy) (rows entry result : List ℕ) (f : WellFormedEntry p entr
   abbrev loop : Routine
   loop = routineOf p (alwaysHere ∷ nop ∷ []) rows entry result
 
-  loop-reads : passes (readPass loop 0) ≡ true
+  loop-reads : passes (readPass (loop .readings) 0) ≡ true
   unfolding readPass
   loop-reads = rw always-read
 
-  loop-flows : passes (flowPass loop 0) ≡ true
+  loop-flows : passes (flowPass (loop .readings) 0) ≡ true
   unfolding flowPass isSlot targetOf
   loop-flows = rw always-read
 
-  loop-accepts : passes (wordPass loop 0) ≡ true
-  unfolding wordPass isSlot edgeOf branchChange branchEdges branchEdge conditionOf slotRuns targetOf
+  loop-accepts : passes (wordPass p (loop .readings) rows result 0) ≡ true
+  unfolding wordPass isSlot narrowedEdge narrowRow cross branchChange conditionOf slotRuns targetOf
   loop-accepts =
       rw (
         always-read,
         nop-read,
         row-is 0 (omega arith),
         and-false,
-        narrowing-keeps (p .regions) (p .sizes) entry 0 entry-formed,
         nop-keeps (p .regions) (p .sizes) entry 0 entry-formed (constant (sethiOf 0)),
         le-ltb (misfit (rowOf entry 0) (rowOf rows (392 * 0))) places entry-fits,
       )

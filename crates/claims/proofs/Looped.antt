@@ -10,10 +10,11 @@ use Rattle.v8.specs.Read.{readingOf, format00}
 use Rattle.alu.specs.Condition.{condHolds}
 use Rattle.policy.specs.declared.Policy.{Policy}
 use Rattle.step.specs.declared.Registers.{Registers}
-use Rattle.step.specs.declared.Pending.the-variants.{Jump}
 use Rattle.step.specs.Registers.{valuesWith, marksWith}
 use Rattle.step.specs.Setting.{Setting}
-use Rattle.step.specs.Transfer.{slotRuns, targetOf, goTo}
+use Rattle.flow.specs.Transfer.{slotRuns, targetOf}
+use Rattle.flow.specs.Edge.{toWord}
+use Rattle.step.specs.Control.{goTo, atSlot}
 use Rattle.step.specs.Effect.{Core}
 use Rattle.step.specs.Step.{State, next, stepOf}
 use Rattle.machine.specs.declared.End.the-variants.{Spent}
@@ -26,7 +27,7 @@ abbrev branching : Core → State
 branching c = record { control = goTo 0; core = c }
 
 abbrev slotted : Core → State
-slotted c = record { control = record { at = record { 0 = 1 }; pending = Jump (record { 0 = 0 }) }; core = c }
+slotted c = record { control = atSlot 0 (toWord 0); core = c }
 
 module _ (p : Policy) (bases : List ℕ) (returns : ℕ) where
   abbrev setting : Setting

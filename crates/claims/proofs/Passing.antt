@@ -45,15 +45,16 @@ unfolding passOf
 all-pass f n h = rw (le-ltb (first (refuses f) 0 n) n (none-found (refuses f) n (λ w l. ap not (h w l))))
 
 -- the passes before the flow of the words
-module _ (t : Routine) (policy : policyOk (t .policy) ≡ true) (shape : shapeOk t ≡ true)
-    (rows : passOf (rowPass t) (count t) ≡ accepted) (reads : passOf (readPass t) (count t) ≡ accepted) where
+module _ (t : Routine) (policy : policyOk (t .policy) ≡ true) (shape : shapeOk (t .policy) (count t) (t .rows) (t .entry) (t .result) ≡ true)
+    (rows : passOf (rowPass (t .policy) (t .rows)) (count t) ≡ accepted) (reads : passOf (readPass (t .readings)) (count t) ≡ accepted) where
   -- a check that goes as far as the flow answers what that pass does, if it refuses
-  pub flow-answers : (a : Answer) → passOf (flowPass t) (count t) ≡ a → passes a ≡ false → answerOf t ≡ a
+  pub flow-answers : (a : Answer) → passOf (flowPass (t .readings)) (count t) ≡ a → passes a ≡ false → answerOf t ≡ a
   unfolding answerOf
   flow-answers a e f = rw (policy, shape, rows, reads, e, f)
 
   -- a check all of whose passes accept does
   pub all-accept :
-      passOf (flowPass t) (count t) ≡ accepted → entryPass t ≡ accepted → passOf (wordPass t) (count t) ≡ accepted → answerOf t ≡ accepted
+      passOf (flowPass (t .readings)) (count t) ≡ accepted → entryPass (t .rows) (t .entry) ≡ accepted
+      → passOf (wordPass (t .policy) (t .readings) (t .rows) (t .result)) (count t) ≡ accepted → answerOf t ≡ accepted
   unfolding answerOf
   all-accept flows entry words = rw (policy, shape, rows, reads, flows, entry, words)

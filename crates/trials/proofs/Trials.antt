@@ -9,6 +9,8 @@ use Rattle.v8.specs.Read.{readingOf, format00, format10, memoryOf, operandOf, c
 use Rattle.writer.specs.Write.{writingOf, packed, packOf, sethiWord, signedBits, fiveBits}
 use Rattle.alu.specs.Codes.{codesOf}
 use Rattle.alu.specs.Condition.{condHolds, conditionOf}
+use Rattle.flow.specs.Transfer.{slotRuns, targetOf}
+use Rattle.flow.specs.Readings.{isSlot}
 use Rattle.policy.specs.Element.{widthOf, leastOf, mostOf}
 use Rattle.policy.specs.Policy.{fieldAt, valuesOk, fieldOk, endBefore, fieldFits, fieldAtOk, regionOk, policyOk}
 use Rattle.policy.specs.Find.{holdsIn, stopOf, findIn}
@@ -17,7 +19,6 @@ use Rattle.memory.specs.Place.{startOf}
 use Rattle.step.specs.Registers.{valueIn, setIn, valuesWith, marksWith}
 use Rattle.access.specs.Locate.{insideRegion, regionIn, locate}
 use Rattle.step.specs.Effect.{aimIn}
-use Rattle.step.specs.Transfer.{slotRuns, targetOf}
 use Rattle.step.specs.Step.{stepOf}
 use Rattle.machine.specs.Placement.{disjointIn, placedIn}
 use Rattle.machine.specs.Run.{runFrom, refusalOf, runOf}
@@ -28,11 +29,10 @@ use Rattle.rows.specs.Entry.{sizeIn, entryOk, fits, noteOk, fitsNote, fieldEntr
 use Rattle.rows.specs.Row.{entryAt, entriesWith, entryOf, noteOf, rowOf, formedAt, formFault, fitsAt, misfit}
 use Rattle.rules.specs.Result.{offsetsGive, addressSum, addressDifference, aluResult, shiftResult}
 use Rattle.rules.specs.Reach.{inField, inRegion, reachOf}
-use Rattle.rules.specs.Change.{noteAfter, codesNote, aluChange, shiftChange, loadChange, storeChange, branchChange, returnChange}
+use Rattle.rules.specs.Change.{noteAfter, codesNote, aluChange, shiftChange, accessChange, branchChange, returnChange}
 use Rattle.rules.specs.Narrow.{narrowEntry, narrowRow}
 use Rattle.checker.specs.Answer.{passOf}
-use Rattle.checker.specs.Routine.{isSlot}
-use Rattle.checker.specs.Passes.{shapeOk, rowPass, readPass, flowPass, entryPass, edgeOf, branchEdge, branchEdges, wordPass, answerOf, checkOf}
+use Rattle.checker.specs.Passes.{shapeOk, rowPass, readPass, flowPass, entryPass, cross, narrowedEdge, wordPass, answerOf, checkOf}
 use Rattle.trials.specs.Case.{Row, Outcome, outcome, given, expected}
 use Rattle.claims.proofs.Answered.{return-then-nop, one-nop, loop-accepted}
 use Rattle.claims.proofs.Looped.{loop-never-returns}
@@ -51,11 +51,11 @@ both : (a b : List Row) → Holds a → Holds b → Holds (a ++ b)
 both a b p q = map-append found a b ∙ ap₂ (λ (x y : List Outcome). x ++ y) p q ∙ sym (map-append expected a b)
 
 machine-rows-hold : Holds machineTable
-unfolding readingOf format00 format10 memoryOf operandOf countOf signExtend writingOf packed packOf sethiWord signedBits fiveBits codesOf condHolds xor all widthOf leastOf mostOf fieldAt valuesOk fieldOk endBefore fieldFits fieldAtOk regionOk policyOk regionNumber fieldNumber built startOf lowest first holdsIn stopOf findIn valueIn setIn valuesWith marksWith insideRegion regionIn locate aimIn slotRuns targetOf stepOf disjointIn placedIn runFrom refusalOf runOf
+unfolding readingOf format00 format10 memoryOf operandOf countOf signExtend writingOf packed packOf sethiWord signedBits fiveBits codesOf condHolds conditionOf isSlot xor all widthOf leastOf mostOf fieldAt valuesOk fieldOk endBefore fieldFits fieldAtOk regionOk policyOk regionNumber fieldNumber built startOf lowest first holdsIn stopOf findIn valueIn setIn valuesWith marksWith insideRegion regionIn locate aimIn slotRuns targetOf stepOf disjointIn placedIn runFrom refusalOf runOf
 machine-rows-hold = refl
 
 row-rows-hold : Holds rowTable
-unfolding readingOf format00 format10 memoryOf operandOf countOf signExtend conditionOf lowest first widthOf fieldAt holdsIn stopOf findIn ended setOk fitsSet within addSets subSets andSets sllSet sraSet srlSet atMost atLeast lessThan isMember only without sizeIn entryOk fits noteOk fitsNote fieldEntry entryAt entriesWith entryOf noteOf formedAt formFault fitsAt misfit offsetsGive addressSum addressDifference aluResult shiftResult inField inRegion reachOf noteAfter codesNote aluChange shiftChange loadChange storeChange branchChange returnChange narrowEntry narrowRow
+unfolding readingOf format00 format10 memoryOf operandOf countOf signExtend conditionOf lowest first widthOf fieldAt holdsIn stopOf findIn ended setOk fitsSet within addSets subSets andSets sllSet sraSet srlSet atMost atLeast lessThan isMember only without sizeIn entryOk fits noteOk fitsNote fieldEntry entryAt entriesWith entryOf noteOf formedAt formFault fitsAt misfit offsetsGive addressSum addressDifference aluResult shiftResult inField inRegion reachOf noteAfter codesNote aluChange shiftChange accessChange branchChange returnChange narrowEntry narrowRow
 row-rows-hold = refl
 
 pass-rows-hold : Holds passTable
@@ -63,7 +63,7 @@ unfolding readingOf format00 format10 memoryOf operandOf countOf signExtend lowe
 pass-rows-hold = refl
 
 edge-rows-hold : Holds edgeTable
-unfolding readingOf format00 format10 memoryOf operandOf countOf signExtend conditionOf lowest first all widthOf leastOf mostOf fieldAt valuesOk fieldOk endBefore fieldFits fieldAtOk regionOk policyOk holdsIn stopOf findIn slotRuns targetOf ended setOk fitsSet within addSets subSets andSets sllSet sraSet srlSet atMost atLeast lessThan isMember only without sizeIn entryOk fits noteOk fitsNote fieldEntry entryAt entriesWith entryOf noteOf formedAt formFault fitsAt misfit rowOf offsetsGive addressSum addressDifference aluResult shiftResult inField inRegion reachOf noteAfter codesNote aluChange shiftChange loadChange storeChange branchChange returnChange narrowEntry narrowRow passOf isSlot shapeOk rowPass readPass flowPass entryPass edgeOf branchEdge branchEdges wordPass answerOf checkOf
+unfolding readingOf format00 format10 memoryOf operandOf countOf signExtend conditionOf lowest first all widthOf leastOf mostOf fieldAt valuesOk fieldOk endBefore fieldFits fieldAtOk regionOk policyOk holdsIn stopOf findIn slotRuns targetOf ended setOk fitsSet within addSets subSets andSets sllSet sraSet srlSet atMost atLeast lessThan isMember only without sizeIn entryOk fits noteOk fitsNote fieldEntry entryAt entriesWith entryOf noteOf formedAt formFault fitsAt misfit rowOf offsetsGive addressSum addressDifference aluResult shiftResult inField inRegion reachOf noteAfter codesNote aluChange shiftChange accessChange branchChange returnChange narrowEntry narrowRow passOf isSlot shapeOk rowPass readPass flowPass entryPass cross narrowedEdge wordPass answerOf checkOf
 edge-rows-hold = refl
 
 every-claim-holds : (c : Claim) → Says c

@@ -4,7 +4,7 @@ use Prim.Native.Nat.{ℕ, zero, suc, _+_, _/_, _%_, _^_}
 use mathlib.Core.Bool.{Bool, cond}
 use mathlib.Core.List.{List, [], _∷_}
 use lib.Dec.{eqb}
-use lib.ListN.{take}
+use lib.ListN.{length, take}
 use Rattle.v8.specs.declared.AluOp.{AluOp}
 use Rattle.v8.specs.declared.ShiftOp.{ShiftOp}
 use Rattle.v8.specs.declared.LoadOp.{LoadOp}
@@ -19,6 +19,10 @@ use Rattle.alu.specs.declared.codes.Codes.{Codes}
 use Rattle.alu.specs.Result.{aluOf, shiftOf}
 use Rattle.alu.specs.Codes.{codesOf}
 use Rattle.alu.specs.Condition.{condHolds, conditionOf}
+use Rattle.flow.specs.declared.Edge.{Edge}
+use Rattle.flow.specs.Transfer.{registerWritten}
+use Rattle.flow.specs.Edge.{edgeOf}
+use Rattle.flow.specs.Readings.{readingsOf, examined}
 use Rattle.policy.specs.declared.Field.{Field}
 use Rattle.policy.specs.declared.Policy.{Policy}
 use Rattle.policy.specs.declared.Built.{Built}
@@ -57,6 +61,12 @@ pub data Given : Type 0 where
   -- the same, of which document 01's number is asked
   readAnswer : ℕ → Given
   writeAnswer : Instruction → Given
+  -- the word at an index, and the edge of it that is taken or the other
+  edge : ℕ → ℕ → Bool → Given
+  -- a word, of which the register is asked that it writes
+  writing : ℕ → Given
+  -- words, of which each is asked whether it is examined
+  examining : List ℕ → Given
   -- an operation and its two operands
   operation : AluOp → ℕ → ℕ → Given
   -- a shift, the word shifted and the count
@@ -94,6 +104,10 @@ pub data Given : Type 0 where
 pub data Outcome : Type 0 where
   reads : Reading → Outcome
   writes : Writing → Outcome
+  -- an edge; a word that is not read has none
+  goes : Edge → Outcome
+  -- for each word, whether it is examined
+  marks : List Bool → Outcome
   -- the result, and the codes that the code-setting form sets, as the digit NZVC
   sets : ℕ → ℕ → Outcome
   -- the result, or the number of an answer
@@ -142,6 +156,20 @@ abbrev pub meetingBelow : ℕ → ℕ → ℕ
 meetingBelow k zero = 0
 meetingBelow k (suc n) = cond (condHolds k (codesAt n)) (2 ^ n) 0 + meetingBelow k n
 
+-- the edges of a word, and the register that it writes, as it is read
+abbrev pub edgeBy : ℕ → Bool → Reading → Outcome
+edgeBy at taken (Read x) = goes (edgeOf at x taken)
+edgeBy at taken (Unread n) = reads (Unread n)
+
+abbrev pub writtenBy : Reading → Outcome
+writtenBy (Read x) = yields (registerWritten x)
+writtenBy (Unread n) = reads (Unread n)
+
+-- which of the words up to an index are examined, the last first
+abbrev pub examinedBelow : List Reading → ℕ → List Bool
+examinedBelow readings zero = []
+examinedBelow readings (suc n) = examined readings n ∷ examinedBelow readings n
+
 -- one add
 abbrev pub addOf : Policy → Addition → Built
 addOf p (region size) = addRegionOf p size
@@ -170,6 +198,9 @@ outcome (word w) = reads (readingOf w)
 outcome (instruction x) = writes (writingOf x)
 outcome (readAnswer w) = yields (readNumber (readingOf w))
 outcome (writeAnswer x) = yields (writeNumber (writingOf x))
+outcome (edge at w taken) = edgeBy at taken (readingOf w)
+outcome (writing w) = writtenBy (readingOf w)
+outcome (examining words) = marks (examinedBelow (readingsOf words) (length words))
 outcome (operation op x y) = sets (aluOf op x y) (digitOf (codesOf op x y))
 outcome (shift op x n) = yields (shiftOf op x n)
 outcome (condition k) = meets (meetingBelow k 16)

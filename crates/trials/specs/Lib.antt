@@ -1,6 +1,7 @@
 pub mod Case
 pub mod Words
 pub mod Arithmetic
+pub mod Flows
 pub mod Policies
 pub mod Memories
 pub mod Runs

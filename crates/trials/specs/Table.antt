@@ -6,6 +6,7 @@ use Rattle.claims.specs.Claims.{ReturnThenNop, OneNop, LoopAccepted, LoopNeverR
 use Rattle.trials.specs.Case.{Row, outcome, given, expected}
 use Rattle.trials.specs.Words.{wordRows, writeRows, answerRows}
 use Rattle.trials.specs.Arithmetic.{additionRows, subtractionRows, logicRows, shiftRows, conditionRows}
+use Rattle.trials.specs.Flows.{flowRows}
 use Rattle.trials.specs.Policies.{addRows}
 use Rattle.trials.specs.Memories.{memoryRows}
 use Rattle.trials.specs.Runs.{runRows}
@@ -16,11 +17,11 @@ use Rattle.trials.specs.ChangeRows.{changeRows}
 use Rattle.trials.specs.NarrowRows.{narrowRows}
 use Rattle.trials.specs.CheckRows.{passRows, edgePassRows}
 
--- words, arithmetic, policies, memories and runs
+-- words, arithmetic, flow, policies, memories and runs
 abbrev pub machineTable : List Row
 machineTable =
     wordRows ++ writeRows ++ answerRows
-    ++ additionRows ++ subtractionRows ++ logicRows ++ shiftRows ++ conditionRows
+    ++ additionRows ++ subtractionRows ++ logicRows ++ shiftRows ++ conditionRows ++ flowRows
     ++ addRows ++ memoryRows ++ runRows
 
 -- rows, and what words do to them
