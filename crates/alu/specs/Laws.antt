@@ -1,7 +1,7 @@
 -- What the definitions of this crate mean, in statements that others use: results are words, the codes are the carry, the
 -- borrow, the overflow and the order of signed numbers (in excess form, v8's Signed), and the conditions say what document 01
 -- reads from them.
-use Prim.Native.Nat.{ℕ, _+_, _-_, _%_, _<_}
+use Prim.Native.Nat.{ℕ, _+_, _-_, _<_}
 use mathlib.Core.Path.{_≡_}
 use mathlib.Core.Bool.{Bool, not, xor, _&&_, _||_}
 use lib.Dec.{ltb, leb, eqb}

@@ -1,13 +1,12 @@
 -- What an accepted word shows of its flow, its edges and what arrives, each from the definition's own tests.
 use Prim.Native.Nat.{ℕ, _+_}
-use mathlib.Core.Path.{_≡_, refl, sym, ap, _∙_, subst}
+use mathlib.Core.Path.{_≡_, refl, sym, _∙_, subst}
 use mathlib.Core.Bool.{Bool, true, false, not, cond, _&&_, _||_}
 use mathlib.Core.List.{List}
 use lib.Dec.{ltb}
 use lib.ListN.{length}
 use borrow.Author.Tests.{ltb-true}
 use Rattle.v8.specs.Numbers.{edgeMisfit, resultMisfit}
-use Rattle.v8.specs.declared.Instruction.{Instruction}
 use Rattle.v8.specs.declared.Reading.{Reading}
 use Rattle.v8.specs.declared.Reading.the-variants.{Read, Unread}
 use Rattle.v8.specs.Laws.{ReadingSound}
@@ -21,7 +20,7 @@ use Rattle.policy.specs.declared.Policy.{Policy}
 use Rattle.rows.specs.declared.Row.{Row}
 use Rattle.rows.specs.Entry.{fits}
 use Rattle.rows.specs.Row.{entryAt, rowWith, misfit}
-use Rattle.rows.proofs.Tests.{and-went, or-went, false-true}
+use Rattle.rows.proofs.Tests.{and-went, false-true}
 use Rattle.rules.specs.declared.Change.{Change}
 use Rattle.rules.specs.declared.Change.the-variants.{Writes, Keeps, Breaks}
 use Rattle.rules.specs.Narrow.{RowLeft, left, narrows, narrowRow}

@@ -2,11 +2,10 @@
 -- values, marks and memory that are lent to it.
 use Prim.Native.Nat.{ℕ, _+_, _≤_, _<_}
 use mathlib.Core.Path.{_≡_}
-use mathlib.Core.Bool.{Bool, true}
+use mathlib.Core.Bool.{Bool}
 use mathlib.Core.List.{List}
 use lib.ListN.{getD}
 use Rattle.v8.specs.Numbers.{mostWords}
-use Rattle.v8.specs.declared.Operation.{Operation}
 use Rattle.v8.specs.declared.Reading.{Reading}
 use Rattle.v8.specs.declared.Reading.the-variants.{Read, Unread}
 use Rattle.alu.specs.declared.codes.Codes.{Codes}

@@ -3,8 +3,8 @@ use lib.ListN.{getD}
 use denote.Ref.{now}
 use Rattle.flow.specs.Readings.{readingsOf}
 use Rattle.checker.specs.Passes.{edgeFlow}
-use mathlib.Core.Path.{_≡_, refl, sym, _∙_}
-use mathlib.Core.Bool.{Bool, true, false, not, cond, _&&_, _||_}
+use mathlib.Core.Path.{_≡_, refl, sym}
+use mathlib.Core.Bool.{Bool, true, false, not, _&&_, _||_}
 use Rattle.rows.proofs.Tests.{false-true}
 use borrow.Author.Needs.{needs}
 use Rattle.checker.proofs.landing.instruction_flow.Statement.{statement}

@@ -1,6 +1,4 @@
 -- An access lies in its region's part of the memory, so that it can be read or written there; nowhere is 103.
-use Rattle.step.specs.Lent.{coreOf}
-use denote.Ref.{now}
 use native.Mathlib.Omega.{arith}
 use borrow.Author.Needs.{needs}
 use Rattle.step.proofs.loadstore.access_at.Statement.{statement}

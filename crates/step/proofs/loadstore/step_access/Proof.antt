@@ -1,6 +1,4 @@
 -- An access, by where it aims and where it lies.
-use Rattle.step.specs.Lent.{coreOf, layoutFrom}
-use denote.Ref.{now}
 use borrow.Author.Needs.{needs}
 use Rattle.step.proofs.loadstore.step_access.Statement.{statement}
 use Rattle.step.proofs.loadstore.step_access.Tie as tie
