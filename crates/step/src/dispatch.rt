@@ -46,15 +46,9 @@ pub fn one_step<'a>(
     match x {
         Reading::Read(instruction) => match instruction {
             Instruction::Plain(operation) => match operation {
-                Operation::Sethi { rd, imm22 } => step_sethi(
-                    control,
-                    codes,
-                    coded,
-                    values,
-                    marks,
-                    rd,
-                    imm22,
-                ),
+                Operation::Sethi { rd, imm22 } => {
+                    step_sethi(control, codes, coded, values, marks, rd, imm22)
+                }
                 Operation::Alu {
                     op,
                     cc,
@@ -73,17 +67,9 @@ pub fn one_step<'a>(
                     rs1,
                     operand,
                 ),
-                Operation::Shift { op, rd, rs1, count } => step_shift(
-                    control,
-                    codes,
-                    coded,
-                    values,
-                    marks,
-                    op,
-                    rd,
-                    rs1,
-                    count,
-                ),
+                Operation::Shift { op, rd, rs1, count } => {
+                    step_shift(control, codes, coded, values, marks, op, rd, rs1, count)
+                }
                 Operation::Memory {
                     access,
                     rd,
