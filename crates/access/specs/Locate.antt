@@ -8,6 +8,7 @@ use lib.ListN.{getD}
 use Rattle.v8.specs.Search.{first}
 use Rattle.policy.specs.declared.Found.{Found}
 use Rattle.policy.specs.declared.Found.the-variants as Found·
+use Rattle.policy.specs.declared.Fields.{Fields}
 use Rattle.policy.specs.Find.{findIn}
 use Rattle.v8.specs.declared.Access.{Access}
 use Rattle.access.specs.declared.Located.{Located}
@@ -29,29 +30,29 @@ unfoldable pub regionIn : ℕ → List ℕ → List ℕ → ℕ → ℕ
 regionIn regions sizes bases address = first (insideRegion sizes bases address) 0 regions
 
 abbrev pub regionOf : Layout → ℕ → ℕ
-regionOf l address = regionIn (l .regions) (l .sizes) (l .bases) address
+regionOf l address = regionIn (l .regions .count) (l .regions .sizes) (l .bases) address
 
 -- the base of region r
 abbrev pub baseIn : Layout → ℕ → ℕ
 baseIn l r = getD (l .bases) r 0
 
 -- the field at a place is one that an access may touch
-abbrev pub touches : List ℕ → List ℕ → Access → ℕ → Bool
-touches elements permissions a place = serves a (getD elements place 0) && allows a (getD permissions place 0)
+abbrev pub touches : Fields → Access → ℕ → Bool
+touches fields a place = serves a (getD (fields .elements) place 0) && allows a (getD (fields .permissions) place 0)
 
 -- an offset of region r, if the field found there is one that the access may touch
-abbrev pub located : List ℕ → List ℕ → Access → ℕ → ℕ → Found → Located
-located elements permissions a r offset (Found·.At place) = cond (touches elements permissions a place) (At r (record { 0 = offset })) Nowhere
-located elements permissions a r offset Found·.Nothing = Nowhere
+abbrev pub located : Fields → Access → ℕ → ℕ → Found → Located
+located fields a r offset (Found·.At place) = cond (touches fields a place) (At r (record { 0 = offset })) Nowhere
+located fields a r offset Found·.Nothing = Nowhere
 
--- where an access to an offset of region r lies, by the lists of the fields
-abbrev pub locateIn : List ℕ → List ℕ → List ℕ → List ℕ → List ℕ → Access → ℕ → ℕ → Located
-locateIn fields elements permissions offsets counts a r offset =
-    located elements permissions a r offset (findIn fields elements offsets counts r offset (offset + accessWidth a))
+-- where an access to an offset of region r lies, by how many fields each region has
+abbrev pub locateIn : List ℕ → Fields → Access → ℕ → ℕ → Located
+locateIn counts fields a r offset =
+    located fields a r offset (findIn counts (fields .elements) (fields .offsets) (fields .counts) r offset (offset + accessWidth a))
 
 -- where an access to an address lies
 unfoldable pub locate : Layout → Access → ℕ → Located
 locate l a address =
-    cond (ltb (regionOf l address) (l .regions))
-    (locateIn (l .fields) (l .elements) (l .permissions) (l .offsets) (l .counts) a (regionOf l address) (address - baseIn l (regionOf l address)))
+    cond (ltb (regionOf l address) (l .regions .count))
+    (locateIn (l .regions .fields) (l .fields) a (regionOf l address) (address - baseIn l (regionOf l address)))
     Nowhere

@@ -11,6 +11,7 @@ use Rattle.v8.specs.declared.LoadOp.{LoadOp}
 use Rattle.v8.specs.declared.LoadOp.the-variants.{Ld, Ldub, Lduh, Ldsb, Ldsh}
 use Rattle.v8.specs.declared.StoreOp.{StoreOp}
 use Rattle.v8.specs.declared.StoreOp.the-variants.{St, Stb, Sth}
+use Rattle.policy.specs.Policy.{readable, writable}
 use Rattle.memory.specs.Memory.{loadWidth, storeWidth}
 use Rattle.v8.specs.declared.Access.{Access}
 use Rattle.v8.specs.declared.Access.the-variants.{Loads, Stores}
@@ -41,8 +42,8 @@ serves (Stores op) e = storeServes op e
 
 -- a permission allows an access
 abbrev pub allows : Access → ℕ → Bool
-allows (Loads op) permission = eqb permission 1 || eqb permission 3
-allows (Stores op) permission = eqb permission 2 || eqb permission 3
+allows (Loads op) permission = readable permission
+allows (Stores op) permission = writable permission
 
 -- an address's second part, as the operand that is added
 abbrev pub addend : Displacement → Operand

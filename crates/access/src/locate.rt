@@ -3,21 +3,17 @@ ghost use mathlib.Core.Path.{_≡_};
 ghost use Prim.Native.Nat.{_≤_, _<_};
 ghost use lib.ListN.{length, getD};
 ghost use Rattle.access.specs.Serve.{accessWidth};
+ghost use Rattle.policy.specs.Policy.{fieldsFrom};
+ghost use Rattle.access.specs.Layout.{layoutFrom};
 ghost use Rattle.access.specs.Locate.{Near, regionIn, locateIn, locate};
 use crate::Located;
 use crate::serve::allowed;
 use crate::serve::serves_element;
+use memory::extent;
 use policy::Found;
 use policy::find_in;
 use v8::Access;
 use v8::ByteOffset;
-
-// A size as a number of bytes to add to a base.
-pub fn wide(size: u16) -> u64
-    ensures { λ r. ⌜ (r ≡ size) × (r ≤ 65535) ⌝ }
-{
-    size as u64
-}
 
 // The region that an address lies in; the number of regions if it lies in none.
 fn region_at(regions: u8, sizes: &[u16; 8], bases: &[u32], address: u32) -> u8
@@ -29,7 +25,7 @@ fn region_at(regions: u8, sizes: &[u16; 8], bases: &[u32], address: u32) -> u8
     while r < regions {
         let i = r as usize;
         let base = bases[i] as u64;
-        let top = base + wide(sizes[i]);
+        let top = base + extent(sizes[i]) as u64;
         if (base <= address as u64) & ((address as u64) < top) {
             return r;
         }
@@ -51,10 +47,12 @@ fn locate_in<'a>(
     offset: ByteOffset,
 ) -> Located
     requires { ⌜ (width ≡ accessWidth a) × (width ≤ 4) × (offset .0 ≤ 65535) ⌝ }
-    ensures { λ r. ⌜ r ≡ locateIn (now (fields .entry)) (now (elements .entry)) (now (permissions .entry)) (now (offsets .entry)) (now (counts .entry)) a region (offset .0) ⌝ }
+    ensures { λ r. ⌜ r ≡ locateIn (now (fields .entry)) (fieldsFrom (now (elements .entry)) (now (permissions .entry)) (now (offsets .entry)) (now (counts .entry))) a region (offset .0) ⌝ }
 {
     let end = ByteOffset(offset.0 + width);
-    match find_in(fields, elements, offsets, counts, region, offset, end) {
+    let search = find_in(fields, elements, offsets, counts, region, offset, end);
+    let found = search.found;
+    match found {
         Found::At(place) => {
             if place < 128 {
                 if serves_element(a, elements[place]) & allowed(a, permissions[place]) {
@@ -83,7 +81,7 @@ pub fn locate_access<'a>(
     address: u32,
 ) -> Located
     requires { ⌜ (regions ≤ 8) × (regions ≤ length (now bases)) × (width ≡ accessWidth a) × (width ≤ 4) ⌝ }
-    ensures { λ r. ⌜ r ≡ locate (record { regions = regions; sizes = now (sizes .entry); bases = now (bases .entry); fields = now (fields .entry); elements = now (elements .entry); permissions = now (permissions .entry); offsets = now (offsets .entry); counts = now (counts .entry) }) a address ⌝ }
+    ensures { λ r. ⌜ r ≡ locate (layoutFrom regions (now (sizes .entry)) (now (fields .entry)) (fieldsFrom (now (elements .entry)) (now (permissions .entry)) (now (offsets .entry)) (now (counts .entry))) (now (bases .entry))) a address ⌝ }
 {
     let r = region_at(regions, sizes, bases, address);
     if r < regions {

@@ -18,9 +18,9 @@ use crate::reading::word_at;
 use policy::Built;
 use policy::Field;
 use policy::Policy;
-use rows::entries::excess;
 use v8::ByteOffset;
 use v8::numbers::ACCEPTED;
+use v8::signed::excess;
 
 // The size of a region.
 fn region_size(bytes: &[u8], region: usize) -> u16

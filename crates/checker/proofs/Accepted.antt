@@ -53,9 +53,9 @@ each-passes f n e w l = at (ltb (first (refuses f) 0 n) n) refl e
 
 module _ (t : Routine) where
   row-formed : (w : ℕ) → passes (rowPass (t .policy) (t .rows) w) ≡ true
-      → places ≤ formFault (t .policy .regions) (t .policy .sizes) (t .rows) (rowBytes * w)
+      → places ≤ formFault (t .policy .regions .count) (t .policy .regions .sizes) (t .rows) (rowBytes * w)
   unfolding rowPass
-  row-formed w e = no-fault badRow w (formFault (t .policy .regions) (t .policy .sizes) (t .rows) (rowBytes * w)) refl e
+  row-formed w e = no-fault badRow w (formFault (t .policy .regions .count) (t .policy .regions .sizes) (t .rows) (rowBytes * w)) refl e
 
   pub word-flows : (w : ℕ) → passes (flowPass (t .readings) w) ≡ true → flowOf (t .readings) w (readingAt (t .readings) w) ≡ true
   unfolding flowPass
@@ -76,8 +76,8 @@ module _ (t : Routine) where
   record Shape : Type 0 where
     some : 1 ≤ count t
     most : count t ≤ mostWords
-    entry : formFault (t .policy .regions) (t .policy .sizes) (t .entry) 0 ≡ places
-    result : entryFormed (t .policy .regions) (t .policy .sizes) (t .result) 0 ≡ true
+    entry : formFault (t .policy .regions .count) (t .policy .regions .sizes) (t .entry) 0 ≡ places
+    result : entryFormed (t .policy .regions .count) (t .policy .regions .sizes) (t .result) 0 ≡ true
 
   shape : shapes ≡ true → Shape
   unfolding shapeOk
@@ -85,8 +85,8 @@ module _ (t : Routine) where
       record {
         some = needed-le shapes 1 (count t) e (λ f. simp f);
         most = needed-le shapes (count t) mostWords e (λ f. simp (f, and-false));
-        entry = needed-eq shapes (formFault (t .policy .regions) (t .policy .sizes) (t .entry) 0) places e (λ f. simp (f, and-false));
-        result = needed shapes (entryFormed (t .policy .regions) (t .policy .sizes) (t .result) 0) e (λ f. rw (f, and-false));
+        entry = needed-eq shapes (formFault (t .policy .regions .count) (t .policy .regions .sizes) (t .entry) 0) places e (λ f. simp (f, and-false));
+        result = needed shapes (entryFormed (t .policy .regions .count) (t .policy .regions .sizes) (t .result) 0) e (λ f. rw (f, and-false));
       }
 
   pub checked : passes (answerOf t) ≡ true → Checked t

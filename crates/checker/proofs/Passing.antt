@@ -54,12 +54,12 @@ module _ (f : ℕ → Answer) where
 
 module _ (p : Policy) (rows : List ℕ) (w : ℕ) where
   -- the lowest badly formed place of a row is named
-  pub row-broken : (place : ℕ) → formFault (p .regions) (p .sizes) rows (rowBytes * w) ≡ place → place < places → refuse badRow w place ≡ rowPass p rows w
+  pub row-broken : (place : ℕ) → formFault (p .regions .count) (p .regions .sizes) rows (rowBytes * w) ≡ place → place < places → refuse badRow w place ≡ rowPass p rows w
   unfolding rowPass
   row-broken place e l = rw (e, lt-ltb place places l)
 
   -- a well-formed row passes
-  pub row-formed : (place : ℕ) → formFault (p .regions) (p .sizes) rows (rowBytes * w) ≡ place → places ≤ place → accepted ≡ rowPass p rows w
+  pub row-formed : (place : ℕ) → formFault (p .regions .count) (p .regions .sizes) rows (rowBytes * w) ≡ place → places ≤ place → accepted ≡ rowPass p rows w
   unfolding rowPass
   row-formed place e l = rw (e, le-ltb place places l)
 

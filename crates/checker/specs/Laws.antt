@@ -35,10 +35,10 @@ pub record Checked (t : Routine) : Type 0 where
   -- 21
   pub some : 1 ≤ count t
   pub most : count t ≤ mostWords
-  pub entry-formed : places ≤ formFault (t .policy .regions) (t .policy .sizes) (t .entry) 0
-  pub result-formed : entryFormed (t .policy .regions) (t .policy .sizes) (t .result) 0 ≡ true
+  pub entry-formed : places ≤ formFault (t .policy .regions .count) (t .policy .regions .sizes) (t .entry) 0
+  pub result-formed : entryFormed (t .policy .regions .count) (t .policy .regions .sizes) (t .result) 0 ≡ true
   -- 1
-  pub rows-formed : (w : ℕ) → w < count t → places ≤ formFault (t .policy .regions) (t .policy .sizes) (t .rows) (rowBytes * w)
+  pub rows-formed : (w : ℕ) → w < count t → places ≤ formFault (t .policy .regions .count) (t .policy .regions .sizes) (t .rows) (rowBytes * w)
   -- 2
   pub reads : (w : ℕ) → w < count t → passes (readPass (t .readings) w) ≡ true
   -- 3

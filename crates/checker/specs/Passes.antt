@@ -43,15 +43,15 @@ policyPass p = need (policyOk p) badPolicy 0 0
 unfoldable pub shapeOk : Policy → ℕ → List ℕ → List ℕ → List ℕ → Bool
 shapeOk p n rows entry result =
     leb 1 n && leb n mostWords && eqb (length rows) (rowBytes * n) && eqb (length entry) rowBytes && eqb (length result) entryBytes
-    && eqb (formFault (p .regions) (p .sizes) entry 0) places
-    && entryFormed (p .regions) (p .sizes) result 0
+    && eqb (formFault (p .regions .count) (p .regions .sizes) entry 0) places
+    && entryFormed (p .regions .count) (p .regions .sizes) result 0
 
 abbrev pub shapePass : Policy → ℕ → List ℕ → List ℕ → List ℕ → Answer
 shapePass p n rows entry result = need (shapeOk p n rows entry result) badShape 0 0
 
 -- "1 row badly formed: its word; the lowest register of the earliest broken row is the one named, 32 for the note"
 unfoldable pub rowPass : Policy → List ℕ → ℕ → Answer
-rowPass p rows w = unlessFault badRow w (formFault (p .regions) (p .sizes) rows (rowBytes * w))
+rowPass p rows w = unlessFault badRow w (formFault (p .regions .count) (p .regions .sizes) rows (rowBytes * w))
 
 -- "2 word not read: its word", by the number of its reading
 abbrev pub ifRead : ℕ → Reading → Answer

@@ -46,8 +46,8 @@ fn shape_ok(policy: Policy, words: &[u32], rows: &[u8], entry: &[u8], result: &[
     if result.len() != ENTRY_BYTES {
         return false;
     }
-    let fault = form_fault(policy.regions, &policy.sizes, entry, 0);
-    let formed = entry_formed(policy.regions, &policy.sizes, result, 0);
+    let fault = form_fault(policy.regions.count, &policy.regions.sizes, entry, 0);
+    let formed = entry_formed(policy.regions.count, &policy.regions.sizes, result, 0);
     (fault == PLACES) & formed
 }
 

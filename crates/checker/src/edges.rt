@@ -19,7 +19,7 @@ use rows::entry_at;
 use rows::notes::NOTE_COMPARISON;
 use rows::row_with;
 use rules::Change;
-use rules::Remainder;
+use rules::EntryLeft;
 use rules::change_of;
 use rules::narrow_entry;
 use rules::narrows;
@@ -82,7 +82,7 @@ fn narrowed_edge(
     if narrows(class) & (note.kind == NOTE_COMPARISON) {
         let register = note.register;
         match narrow_entry(class, entry_at(row, register), note.number) {
-            Remainder::Left(entry) => {
+            EntryLeft::Left(entry) => {
                 return cross(
                     policy,
                     rows,
@@ -93,7 +93,7 @@ fn narrowed_edge(
                     row_with(row, register, entry, note),
                 );
             }
-            Remainder::Nothing => {
+            EntryLeft::Nothing => {
                 return accept();
             }
         }

@@ -38,8 +38,8 @@ pub fn row_pass(policy: Policy, rows: &[u8], count: WordIndex) -> Answer
         place = 0;
         while place < PLACES {
             if !formed_at(
-                policy.regions,
-                &policy.sizes,
+                policy.regions.count,
+                &policy.regions.sizes,
                 rows,
                 ROW_BYTES * at.0 as usize,
                 place,

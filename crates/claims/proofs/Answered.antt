@@ -42,12 +42,12 @@ below-two P a b (suc zero) l = b
 below-two P a b (suc (suc w)) l = absurd (omega arith)
 
 -- a word whose row is well formed passes 1
-row-passes : (p : Policy) (rows : List ℕ) (w : ℕ) → places ≤ formFault (p .regions) (p .sizes) rows (rowBytes * w) → passes (rowPass p rows w) ≡ true
+row-passes : (p : Policy) (rows : List ℕ) (w : ℕ) → places ≤ formFault (p .regions .count) (p .regions .sizes) rows (rowBytes * w) → passes (rowPass p rows w) ≡ true
 unfolding rowPass
-row-passes p rows w l = ap passes (unless-none badRow w (formFault (p .regions) (p .sizes) rows (rowBytes * w)) l)
+row-passes p rows w l = ap passes (unless-none badRow w (formFault (p .regions .count) (p .regions .sizes) rows (rowBytes * w)) l)
 
 module _ (p : Policy) (rows entry result : List ℕ) (f : WellFormedEntry p entry result) where
-  module _ (long : length rows ≡ 392) (formed : formFault (p .regions) (p .sizes) rows 0 ≡ places) where
+  module _ (long : length rows ≡ 392) (formed : formFault (p .regions .count) (p .regions .sizes) rows 0 ≡ places) where
     abbrev alone : Routine
     alone = routineOf p (nop ∷ []) rows entry result
 
@@ -85,15 +85,15 @@ module _ (p : Policy) (rows entry result : List ℕ) (f : WellFormedEntry p entr
   row-is : (w : ℕ) → w < 2 → rowOf rows (392 * w) ≡ rowOf entry 0
   row-is w l = same-row rows entry (392 * w) 0 (agree w l)
 
-  row-formed : (w : ℕ) → w < 2 → places ≤ formFault (p .regions) (p .sizes) rows (392 * w)
-  row-formed w l = formed-too (p .regions) (p .sizes) rows entry (392 * w) 0 (agree w l) (f .entry-formed)
+  row-formed : (w : ℕ) → w < 2 → places ≤ formFault (p .regions .count) (p .regions .sizes) rows (392 * w)
+  row-formed w l = formed-too (p .regions .count) (p .regions .sizes) rows entry (392 * w) 0 (agree w l) (f .entry-formed)
 
-  entry-formed : places ≤ formFault (p .regions) (p .sizes) entry 0
+  entry-formed : places ≤ formFault (p .regions .count) (p .regions .sizes) entry 0
   entry-formed = omega (arith, f .entry-formed)
 
   -- the entry row fits row 0
   entry-fits : places ≤ misfit (rowOf entry 0) (rowOf rows (392 * 0))
-  entry-fits = rw (row-is 0 (omega arith)) (row-self (p .regions) (p .sizes) entry 0 entry-formed)
+  entry-fits = rw (row-is 0 (omega arith)) (row-self (p .regions .count) (p .regions .sizes) entry 0 entry-formed)
 
   module _ (word : ℕ) where
     abbrev pair : Routine
@@ -156,7 +156,7 @@ module _ (p : Policy) (rows entry result : List ℕ) (f : WellFormedEntry p entr
           row-is 0 (omega arith),
           other-kind (entryAt (rowOf entry 0) 15 .kind) 4 0 links (λ x. omega arith),
           links,
-          nop-keeps (p .regions) (p .sizes) entry 0 entry-formed (constant (sethiOf 0)),
+          nop-keeps (p .regions .count) (p .regions .sizes) entry 0 entry-formed (constant (sethiOf 0)),
           fitting,
         )
 
@@ -183,7 +183,7 @@ module _ (p : Policy) (rows entry result : List ℕ) (f : WellFormedEntry p entr
         nop-read,
         row-is 0 (omega arith),
         and-false,
-        nop-keeps (p .regions) (p .sizes) entry 0 entry-formed (constant (sethiOf 0)),
+        nop-keeps (p .regions .count) (p .regions .sizes) entry 0 entry-formed (constant (sethiOf 0)),
         le-ltb (misfit (rowOf entry 0) (rowOf rows (392 * 0))) places entry-fits,
       )
 

@@ -32,9 +32,9 @@ alwaysHere = 0x10800000
 pub record WellFormedEntry (p : Policy) (entry result : List ℕ) : Type 0 where
   pub policy : policyOk p ≡ true
   pub entry-long : length entry ≡ 392
-  pub entry-formed : formFault (p .regions) (p .sizes) entry 0 ≡ places
+  pub entry-formed : formFault (p .regions .count) (p .regions .sizes) entry 0 ≡ places
   pub result-long : length result ≡ 12
-  pub result-formed : entryFormed (p .regions) (p .sizes) result 0 ≡ true
+  pub result-formed : entryFormed (p .regions .count) (p .regions .sizes) result 0 ≡ true
 
 -- "all rows equal to a well-formed entry row": n rows, each byte by byte the entry row
 pub record AllRowsEqual (rows entry : List ℕ) (n : ℕ) : Type 0 where
@@ -52,7 +52,7 @@ ReturnThenNop =
 abbrev pub OneNop : Type 0
 OneNop =
     (p : Policy) (rows entry result : List ℕ) → WellFormedEntry p entry result
-    → length rows ≡ 392 → formFault (p .regions) (p .sizes) rows 0 ≡ places
+    → length rows ≡ 392 → formFault (p .regions .count) (p .regions .sizes) rows 0 ≡ places
     → checkOf p (nop ∷ []) rows entry result ≡ refuse 3 0 0
 
 -- "10800000 (always, distance 0) then nop, both rows equal to the entry row: accepted, never returns." It is accepted ..

@@ -90,7 +90,7 @@ aimed : (g : Registers) (others : Bool) (rs1 : ℕ) (d : Displacement) (width : 
 unfolding aimIn
 aimed g others rs1 d width a b o z = rw (a, b, o, eq-eqb (add32 (valueOf g rs1) (operandValue g (addend d)) % width) 0 z)
 
-module _ (p : Policy) (bases : List ℕ) (returns : ℕ) (wf : WellFormed p) (laid : Laid (p .regions) (p .sizes) (hostOf bases returns)) where
+module _ (p : Policy) (bases : List ℕ) (returns : ℕ) (wf : WellFormed p) (laid : Laid (p .regions .count) (p .regions .sizes) (hostOf bases returns)) where
   abbrev host : Host
   host = hostOf bases returns
 
@@ -146,36 +146,36 @@ module _ (p : Policy) (bases : List ℕ) (returns : ℕ) (wf : WellFormed p) (la
         some b o n l e = omega arith
 
     -- the machine's search finds the region
-    in-region : insideRegion (p .sizes) bases (add32 x y) (q .region) ≡ true
+    in-region : insideRegion (p .regions .sizes) bases (add32 x y) (q .region) ≡ true
     unfolding insideRegion
     in-region =
         rw (
           le-leb (getD bases (q .region) 0) (add32 x y) (omega (arith, q .address)),
-          lt-ltb (add32 x y) (getD bases (q .region) 0 + getD (p .sizes) (q .region) 0) (end (getD bases (q .region) 0) (q .offset) (add32 x y) (accessWidth a) (getD (p .sizes) (q .region) 0) (q .address) inside (some-width (width-step a))),
+          lt-ltb (add32 x y) (getD bases (q .region) 0 + getD (p .regions .sizes) (q .region) 0) (end (getD bases (q .region) 0) (q .offset) (add32 x y) (accessWidth a) (getD (p .regions .sizes) (q .region) 0) (q .address) inside (some-width (width-step a))),
         )
       where
         end : (b o n w s : ℕ) → n ≡ b + o → o + w ≤ s → 1 ≤ w → n < b + s
         end b o n w s e l m = omega arith
 
-    region-found : regionIn (p .regions) (p .sizes) bases (add32 x y) ≡ q .region
+    region-found : regionIn (p .regions .count) (p .regions .sizes) bases (add32 x y) ≡ q .region
     unfolding regionIn
-    region-found = at (ltb (q .region) (first f 0 (p .regions))) refl
+    region-found = at (ltb (q .region) (first f 0 (p .regions .count))) refl
       where
         f : ℕ → Bool
-        f = insideRegion (p .sizes) bases (add32 x y)
+        f = insideRegion (p .regions .sizes) bases (add32 x y)
 
-        found : first f 0 (p .regions) < p .regions → first f 0 (p .regions) ≡ q .region
+        found : first f 0 (p .regions .count) < p .regions .count → first f 0 (p .regions .count) ≡ q .region
         found l =
-            let i = inside-says (p .sizes) bases (add32 x y) (first f 0 (p .regions)) (first-passes f 0 (p .regions) l) in
-            let j = inside-says (p .sizes) bases (add32 x y) (q .region) in-region in
-            laid .one (first f 0 (p .regions)) (q .region) (add32 x y) l (q .region-is) (i .0) (i .1) (j .0) (j .1)
+            let i = inside-says (p .regions .sizes) bases (add32 x y) (first f 0 (p .regions .count)) (first-passes f 0 (p .regions .count) l) in
+            let j = inside-says (p .regions .sizes) bases (add32 x y) (q .region) in-region in
+            laid .one (first f 0 (p .regions .count)) (q .region) (add32 x y) l (q .region-is) (i .0) (i .1) (j .0) (j .1)
 
-        at : (t : Bool) → ltb (q .region) (first f 0 (p .regions)) ≡ t → first f 0 (p .regions) ≡ q .region
-        at true t = false-true (sym (first-least f 0 (p .regions) (q .region) (omega arith) (ltb-true (q .region) (first f 0 (p .regions)) t)) ∙ in-region)
-        at false t = found (omega (arith, ltb-false (q .region) (first f 0 (p .regions)) t, q .region-is))
+        at : (t : Bool) → ltb (q .region) (first f 0 (p .regions .count)) ≡ t → first f 0 (p .regions .count) ≡ q .region
+        at true t = false-true (sym (first-least f 0 (p .regions .count) (q .region) (omega arith) (ltb-true (q .region) (first f 0 (p .regions .count)) t)) ∙ in-region)
+        at false t = found (omega (arith, ltb-false (q .region) (first f 0 (p .regions .count)) t, q .region-is))
 
     -- and there the field
-    touched : touches (p .elements) (p .permissions) a (placeOf (q .region) (q .field)) ≡ true
+    touched : touches (p .fields .elements) (p .fields .permissions) a (placeOf (q .region) (q .field)) ≡ true
     unfolding fieldAt
     touched = rw (element .serving, allowed)
 
@@ -190,15 +190,15 @@ module _ (p : Policy) (bases : List ℕ) (returns : ℕ) (wf : WellFormed p) (la
     located-there : locate (layoutOf p bases) a (add32 x y) ≡ Located·.At (q .region) (record { 0 = q .offset })
     unfolding locate
     located-there =
-        rw (region-found, lt-ltb (q .region) (p .regions) (q .region-is), rest (getD bases (q .region) 0) (q .offset) (add32 x y) (q .address), field-found, touched)
+        rw (region-found, lt-ltb (q .region) (p .regions .count) (q .region-is), rest (getD bases (q .region) 0) (q .offset) (add32 x y) (q .address), field-found, touched)
       where
         rest : (b o n : ℕ) → n ≡ b + o → n - b ≡ o
         rest b o n e = omega arith
 
     -- the entry that the field's load gives is well formed
-    entry-rules : EntryRules (p .regions) (p .sizes) (fieldEntry (fieldOf p (q .region) (q .field)))
+    entry-rules : EntryRules (p .regions .count) (p .regions .sizes) (fieldEntry (fieldOf p (q .region) (q .field)))
     entry-rules =
-        field-entry-obeys (p .regions) (sizeOf p (q .region)) (p .sizes) (fieldOf p (q .region) (q .field))
+        field-entry-obeys (p .regions .count) (sizeOf p (q .region)) (p .regions .sizes) (fieldOf p (q .region) (q .field))
         (wf .field (q .region) (q .field) (q .region-is) (q .field-is))
 
   module _ (row : Row) (c : Core) (ck : CoreOk p host c) (f : Fitted p host row c) (rs1 : ℕ) (d : Displacement) (l : OperandSmall (addend d)) where
@@ -262,7 +262,7 @@ module _ (p : Policy) (bases : List ℕ) (returns : ℕ) (wf : WellFormed p) (la
           cond-both (Covering (Stores op) rd) (fits (entryAt row rd) held)
           (λ t. makes (Stores op) rd place q (register-held p host row c ck f rd ud .0) row
           (store-kept op (valueOf (c .registers) rd) place q small
-          (fits-matches host (p .regions) (p .sizes) (entryAt row rd) held (isSet (c .registers) rd) (valueOf (c .registers) rd) small
+          (fits-matches host (p .regions .count) (p .regions .sizes) (entryAt row rd) held (isSet (c .registers) rd) (valueOf (c .registers) rd) small
           (f .rules .entries rd) (entry-rules (Stores op) x y place q) t (f .matches .entries rd) (entry-set (fieldOf p (q .region) (q .field))) .1)))
           (λ _. tt)
 

@@ -66,9 +66,9 @@ module _ (p : Policy) (h : Host) (row : Row) (c : Core) (ck : CoreOk p h c) (f :
   operand-held (Reg r) u = register-held r u
   operand-held (Imm v) u = (refl, constant-holds h v)
 
-  pub operand-rules : (x : Operand) → EntryRules (p .regions) (p .sizes) (operandEntry row x)
+  pub operand-rules : (x : Operand) → EntryRules (p .regions .count) (p .regions .sizes) (operandEntry row x)
   operand-rules (Reg r) = f .rules .entries r
-  operand-rules (Imm v) = constant-rules (p .regions) (p .sizes) v
+  operand-rules (Imm v) = constant-rules (p .regions .count) (p .regions .sizes) v
 
   pub operand-word : (x : Operand) → OperandSmall x → operandValue (c .registers) x < 4294967296
   operand-word (Reg r) l = read-small (c .registers) (ck .words) r
@@ -84,11 +84,11 @@ module _ (p : Policy) (h : Host) (row : Row) (c : Core) (ck : CoreOk p h c) (f :
   core-with g w = record { words = w; bytes = ck .bytes; long = ck .long; declared = ck .declared }
 
   -- a register is written, the codes are not
-  pub written-kept : (rd v : ℕ) (e : Entry) → v < 4294967296 → EntryRules (p .regions) (p .sizes) e → Holds h e v
+  pub written-kept : (rd v : ℕ) (e : Entry) → v < 4294967296 → EntryRules (p .regions .count) (p .regions .sizes) e → Holds h e v
       → Kept p h (rowWith row rd e (noteAfter (row .note) rd)) c (record { registers = written (c .registers) rd v; memory = c .memory })
   written-kept rd v e l re he =
       let w = wrote (c .registers) rd v (ck .words) in
-      let r = writes-row (p .regions) (p .sizes) h row (heldOf (c .registers)) (heldOf (written (c .registers) rd v)) rd v e (noteAfter (row .note) rd) w
+      let r = writes-row (p .regions .count) (p .regions .sizes) h row (heldOf (c .registers)) (heldOf (written (c .registers) rd v)) rd v e (noteAfter (row .note) rd) w
       (f .rules) (f .matches) re he (after-word (row .note) rd (f .rules .number))
       (keeps-note (row .note) (heldOf (c .registers)) (heldOf (written (c .registers) rd v)) rd v w refl refl (f .matches .note)) in
       record {
@@ -98,7 +98,7 @@ module _ (p : Policy) (h : Host) (row : Row) (c : Core) (ck : CoreOk p h c) (f :
       }
 
   -- a code-setting word's note has a word for its number
-  codes-word : (op : AluOp) (rd rs1 : ℕ) (b : Entry) → EntryRules (p .regions) (p .sizes) b → codesNote op rd rs1 b .number < 4294967296
+  codes-word : (op : AluOp) (rd rs1 : ℕ) (b : Entry) → EntryRules (p .regions .count) (p .regions .sizes) b → codesNote op rd rs1 b .number < 4294967296
   unfolding codesNote
   codes-word op rd rs1 b rb =
       cond-both (λ (x : Note). x .number < 4294967296) (isSub op && leb 1 rs1 && isConstant b && not (eqb rd rs1))
@@ -111,8 +111,8 @@ module _ (p : Policy) (h : Host) (row : Row) (c : Core) (ck : CoreOk p h c) (f :
       below p q = omega arith
 
   -- a register is written, and the codes are set
-  coded-kept : (op : AluOp) (rd rs1 y : ℕ) (b e : Entry) → y < 4294967296 → EntryRules (p .regions) (p .sizes) b → Holds h b y
-      → EntryRules (p .regions) (p .sizes) e → Holds h e (aluOf op (valueOf (c .registers) rs1) y)
+  coded-kept : (op : AluOp) (rd rs1 y : ℕ) (b e : Entry) → y < 4294967296 → EntryRules (p .regions .count) (p .regions .sizes) b → Holds h b y
+      → EntryRules (p .regions .count) (p .regions .sizes) e → Holds h e (aluOf op (valueOf (c .registers) rs1) y)
       → Kept p h (rowWith row rd e (codesNote op rd rs1 b)) c
       (record {
         registers = withCodes (written (c .registers) rd (aluOf op (valueOf (c .registers) rs1) y)) (codesOf op (valueOf (c .registers) rs1) y);
@@ -123,7 +123,7 @@ module _ (p : Policy) (h : Host) (row : Row) (c : Core) (ck : CoreOk p h c) (f :
       let v = aluOf op (valueOf (c .registers) rs1) y in
       let g′ = withCodes (written (c .registers) rd v) (codesOf op (valueOf (c .registers) rs1) y) in
       let w : Wrote (heldOf g) (heldOf g′) rd v = let s = wrote g rd v (ck .words) in record { here = s .here; others = s .others } in
-      let r = writes-row (p .regions) (p .sizes) h row (heldOf g) (heldOf g′) rd v e (codesNote op rd rs1 b) w
+      let r = writes-row (p .regions .count) (p .regions .sizes) h row (heldOf g) (heldOf g′) rd v e (codesNote op rd rs1 b) w
       (f .rules) (f .matches) re he (codes-word op rd rs1 b rb)
       (makes-note op h (heldOf g) (heldOf g′) rd rs1 v b y w l hb refl refl) in
       record {
@@ -139,13 +139,13 @@ module _ (p : Policy) (h : Host) (row : Row) (c : Core) (ck : CoreOk p h c) (f :
     sethi-covers rd imm22 = (
       tt,
       written-kept rd (sethiOf imm22) (constant (sethiOf imm22)) (sethi-small imm22)
-          (constant-rules (p .regions) (p .sizes) (sethiOf imm22)) (constant-holds h (sethiOf imm22)),
+          (constant-rules (p .regions .count) (p .regions .sizes) (sethiOf imm22)) (constant-holds h (sethiOf imm22)),
     )
 
     -- the change of a result that is right
     alu-made : (op : AluOp) (cc : Bool) (rd rs1 : ℕ) (x : Operand) → OperandSmall x
         → isUnset (entryAt row rs1) ≡ false → isUnset (operandEntry row x) ≡ false
-        → (res : Result) → Right (p .regions) (p .sizes) h res (aluOf op (valueOf (c .registers) rs1) (operandValue (c .registers) x))
+        → (res : Result) → Right (p .regions .count) (p .regions .sizes) h res (aluOf op (valueOf (c .registers) rs1) (operandValue (c .registers) x))
         → Covers p h row c (Alu op cc rd rs1 x) (effectOf (layoutOf p bases) c (Alu op cc rd rs1 x))
         (writing rd (cond cc (codesNote op rd rs1 (operandEntry row x)) (noteAfter (row .note) rd)) rs1 res)
     alu-made op true rd rs1 x l ua ub (Gives e) g =
@@ -163,14 +163,14 @@ module _ (p : Policy) (h : Host) (row : Row) (c : Core) (ck : CoreOk p h c) (f :
         )
     alu-made op cc rd rs1 x l ua ub (Fails n) g = tt
 
-    pub alu-covers : Laid (p .regions) (p .sizes) h → (op : AluOp) (cc : Bool) (rd rs1 : ℕ) (x : Operand) → OperandSmall x
+    pub alu-covers : Laid (p .regions .count) (p .regions .sizes) h → (op : AluOp) (cc : Bool) (rd rs1 : ℕ) (x : Operand) → OperandSmall x
         → Covers p h row c (Alu op cc rd rs1 x) (effectOf (layoutOf p bases) c (Alu op cc rd rs1 x)) (operationChange p row (Alu op cc rd rs1 x))
     unfolding aluChange
     alu-covers laid op cc rd rs1 x l =
         cond-both K (isUnset (entryAt row rs1)) (λ _. tt)
         λ ua. cond-both K (isUnset (operandEntry row x)) (λ _. tt)
-        λ ub. alu-made op cc rd rs1 x l ua ub (aluResult (p .sizes) op (entryAt row rs1) (operandEntry row x))
-        (alu-right (p .regions) (p .sizes) h laid op (entryAt row rs1) (operandEntry row x) (valueOf (c .registers) rs1) (operandValue (c .registers) x)
+        λ ub. alu-made op cc rd rs1 x l ua ub (aluResult (p .regions .sizes) op (entryAt row rs1) (operandEntry row x))
+        (alu-right (p .regions .count) (p .regions .sizes) h laid op (entryAt row rs1) (operandEntry row x) (valueOf (c .registers) rs1) (operandValue (c .registers) x)
         (f .rules .entries rs1) (operand-rules x) (read-small (c .registers) (ck .words) rs1) (operand-word x l)
         (register-held rs1 ua .1) (operand-held x ub .1))
       where
@@ -179,7 +179,7 @@ module _ (p : Policy) (h : Host) (row : Row) (c : Core) (ck : CoreOk p h c) (f :
 
     shift-made : (op : ShiftOp) (rd rs1 : ℕ) (x : Operand)
         → isUnset (entryAt row rs1) ≡ false → isUnset (operandEntry row x) ≡ false
-        → (res : Result) → Right (p .regions) (p .sizes) h res (shiftOf op (valueOf (c .registers) rs1) (operandValue (c .registers) x))
+        → (res : Result) → Right (p .regions .count) (p .regions .sizes) h res (shiftOf op (valueOf (c .registers) rs1) (operandValue (c .registers) x))
         → Covers p h row c (Shift op rd rs1 x) (effectOf (layoutOf p bases) c (Shift op rd rs1 x)) (writing rd (noteAfter (row .note) rd) rs1 res)
     shift-made op rd rs1 x ua ub (Gives e) g =
         let a = register-held rs1 ua in let b = operand-held x ub in (
@@ -197,7 +197,7 @@ module _ (p : Policy) (h : Host) (row : Row) (c : Core) (ck : CoreOk p h c) (f :
         cond-both K (isUnset (entryAt row rs1)) (λ _. tt)
         λ ua. cond-both K (isUnset (operandEntry row x)) (λ _. tt)
         λ ub. shift-made op rd rs1 x ua ub (shiftResult op (entryAt row rs1) (operandEntry row x))
-        (shift-right (p .regions) (p .sizes) h op (entryAt row rs1) (operandEntry row x) (valueOf (c .registers) rs1) (operandValue (c .registers) x)
+        (shift-right (p .regions .count) (p .regions .sizes) h op (entryAt row rs1) (operandEntry row x) (valueOf (c .registers) rs1) (operandValue (c .registers) x)
         (f .rules .entries rs1) (operand-rules x) (read-small (c .registers) (ck .words) rs1) (operand-word x l)
         (register-held rs1 ua .1) (operand-held x ub .1))
       where

@@ -17,7 +17,7 @@ use Rattle.guarantee.proofs.Numbers.{addend-small}
 use Rattle.guarantee.proofs.Computed.{sethi-covers, alu-covers, shift-covers}
 use Rattle.guarantee.proofs.Accessed.{access-covers}
 
-module _ (p : Policy) (bases : List ℕ) (returns : ℕ) (wf : WellFormed p) (laid : Laid (p .regions) (p .sizes) (hostOf bases returns)) where
+module _ (p : Policy) (bases : List ℕ) (returns : ℕ) (wf : WellFormed p) (laid : Laid (p .regions .count) (p .regions .sizes) (hostOf bases returns)) where
   pub covered : (x : Operation) → OperationSmall x → (row : Row) (c : Core) → CoreOk p (hostOf bases returns) c → Fitted p (hostOf bases returns) row c
       → Covers p (hostOf bases returns) row c x (effectOf (layoutOf p bases) c x) (operationChange p row x)
   covered (Sethi rd imm22) l row c ck f = sethi-covers p (hostOf bases returns) row c ck f bases rd imm22

@@ -19,7 +19,7 @@ use Rattle.policy.specs.Policy.{countOf}
 use Rattle.policy.specs.Laws.{WellFormed, InField}
 use Rattle.policy.proofs.Bytes.{in-region, in-one-field}
 use Rattle.memory.specs.Memory.{loadWidth, storeWidth}
-use Rattle.memory.specs.Place.{startOf}
+use Rattle.memory.specs.Place.{partStart}
 use Rattle.memory.specs.Laws.{InPart, lowOf}
 use Rattle.memory.proofs.Starts.{one-part}
 use Rattle.access.specs.Serve.{loadServes, storeServes}
@@ -101,14 +101,14 @@ one-index = by-step (λ (w : ℕ). (i j b : ℕ) → w * i ≤ b → b < w * i +
 
 -- byte b of region r lies in element i of field k
 pub record InElementOf (p : Policy) (r k i b : ℕ) : Type 0 where
-  pub region : r < p .regions
+  pub region : r < p .regions .count
   pub field : k < countOf p r
   pub index : i < fieldOf p r k .count
   pub low : fieldOf p r k .offset .0 + widthOf (fieldOf p r k .element) * i ≤ b
   pub high : b < fieldOf p r k .offset .0 + widthOf (fieldOf p r k .element) * i + widthOf (fieldOf p r k .element)
 
 module _ (p : Policy) (wf : WellFormed p) where
-  field-step : (r k : ℕ) → r < p .regions → k < countOf p r → Step (widthOf (fieldOf p r k .element))
+  field-step : (r k : ℕ) → r < p .regions .count → k < countOf p r → Step (widthOf (fieldOf p r k .element))
   field-step r k l m = let rules = wf .field r k l m in element-step (fieldOf p r k .element) (rules .element-least) (rules .element-most)
 
   pub in-field : (r k i b : ℕ) → InElementOf p r k i b → InField (fieldOf p r k) b
@@ -120,14 +120,14 @@ module _ (p : Policy) (wf : WellFormed p) where
       inside : (from a w c : ℕ) → from + a ≤ b → b < from + a + w → a + w ≤ c → (from ≤ b) × (b < from + c)
       inside from a w c l m n = (omega arith, omega arith)
 
-  in-part : (r k i b : ℕ) → InElementOf p r k i b → InPart (p .sizes) r (byteOf p r b)
+  in-part : (r k i b : ℕ) → InElementOf p r k i b → InPart (p .regions .sizes) r (byteOf p r b)
   in-part r k i b t = let l = in-region p wf r k b (t .region) (t .field) (in-field r k i b t) in (omega arith, omega arith)
 
   -- a byte of the lent memory lies in one element at most
   pub one-element : (r k i b r′ k′ i′ b′ : ℕ) → InElementOf p r k i b → InElementOf p r′ k′ i′ b′ → byteOf p r b ≡ byteOf p r′ b′
       → (r ≡ r′) × (k ≡ k′) × (i ≡ i′)
   one-element r k i b r′ k′ i′ b′ t t′ e =
-      let er : r ≡ r′ = one-part (p .sizes) r r′ (byteOf p r b) (in-part r k i b t) (subst (InPart (p .sizes) r′) (sym e) (in-part r′ k′ i′ b′ t′)) in
+      let er : r ≡ r′ = one-part (p .regions .sizes) r r′ (byteOf p r b) (in-part r k i b t) (subst (InPart (p .regions .sizes) r′) (sym e) (in-part r′ k′ i′ b′ t′)) in
       let rest = in-region-one r′ er t′ e in
       (er, rest .0, rest .1)
     where
@@ -143,7 +143,7 @@ module _ (p : Policy) (wf : WellFormed p) where
       in-region-one : (r′ : ℕ) → r ≡ r′ → InElementOf p r′ k′ i′ b′ → byteOf p r b ≡ byteOf p r′ b′ → (k ≡ k′) × (i ≡ i′)
       in-region-one r′ er t′ e =
           let u : InElementOf p r k′ i′ b′ = subst (λ (n : ℕ). InElementOf p n k′ i′ b′) (sym er) t′ in
-          let eb : b′ ≡ b = same (startOf (p .sizes) r) (e ∙ ap (λ (n : ℕ). byteOf p n b′) (sym er)) in
+          let eb : b′ ≡ b = same (partStart (p .regions .sizes) r) (e ∙ ap (λ (n : ℕ). byteOf p n b′) (sym er)) in
           let v : InElementOf p r k′ i′ b = subst (InElementOf p r k′ i′) eb u in
           let ek : k ≡ k′ = in-one-field p wf r k k′ b (t .region) (t .field) (v .field) (in-field r k i b t) (in-field r k′ i′ b v) in
           (ek, in-field-one k′ ek v)

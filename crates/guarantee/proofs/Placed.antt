@@ -9,7 +9,7 @@ use lib.ListN.{length, getD}
 use borrow.Author.Tests.{eqb-true, leb-true, ltb-true, ltb-false}
 use Rattle.v8.specs.Search.{all, all-at, needed, needed-eq}
 use Rattle.memory.specs.Place.{lengthOf}
-use Rattle.machine.specs.Placement.{baseIn, apartIn, disjointIn, placedIn}
+use Rattle.machine.specs.Placement.{basePlacedAt, apartIn, disjointIn, placedIn}
 use Rattle.rows.proofs.Tests.{and-went, or-went}
 use Rattle.rules.specs.Laws.{Laid}
 use Rattle.guarantee.specs.Guarantee.{hostOf}
@@ -23,11 +23,11 @@ module _ (regions : ℕ) (sizes bases : List ℕ) (returns : ℕ) (memory : List
   unfolding placedIn
   return-aligned = needed-eq (placedIn regions sizes bases returns memory) (returns % 4) 0 e (λ f. simp f)
 
-  based : (r : ℕ) → r < regions → baseIn sizes bases r ≡ true
+  based : (r : ℕ) → r < regions → basePlacedAt sizes bases r ≡ true
   unfolding placedIn
   based r l =
-      all-at (baseIn sizes bases) regions r
-      (needed (placedIn regions sizes bases returns memory) (all (baseIn sizes bases) regions) e (λ f. rw (f, and-false))) l
+      all-at (basePlacedAt sizes bases) regions r
+      (needed (placedIn regions sizes bases returns memory) (all (basePlacedAt sizes bases) regions) e (λ f. rw (f, and-false))) l
 
   disjoint : (r : ℕ) → r < regions → disjointIn sizes bases r ≡ true
   unfolding placedIn

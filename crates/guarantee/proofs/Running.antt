@@ -32,9 +32,9 @@ framed-on : (p : Policy) (a b c : List ℕ) → Framed p a b → Framed p b c �
 framed-on p a b c f g =
     record { length-kept = g .length-kept ∙ f .length-kept; bytes-kept = λ i o. g .bytes-kept i o ∙ f .bytes-kept i o }
 
-module _ (t : Routine) (bases : List ℕ) (returns : ℕ) (wf : WellFormed (t .policy)) (laid : Laid (t .policy .regions) (t .policy .sizes) (hostOf bases returns))
+module _ (t : Routine) (bases : List ℕ) (returns : ℕ) (wf : WellFormed (t .policy)) (laid : Laid (t .policy .regions .count) (t .policy .regions .sizes) (hostOf bases returns))
     (four : returns % 4 ≡ 0) (ch : Checked t) (sound : (w : ℕ) → ReadingSound (readingAt (t .readings) w))
-    (result : EntryRules (t .policy .regions) (t .policy .sizes) (resultEntry (t .result))) where
+    (result : EntryRules (t .policy .regions .count) (t .policy .regions .sizes) (resultEntry (t .result))) where
   abbrev h : Host
   h = hostOf bases returns
 

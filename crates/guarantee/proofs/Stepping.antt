@@ -98,9 +98,9 @@ unnarrowed : (row : Row) → narrowRow Unrelated row ≡ left row
 unfolding narrowRow
 unnarrowed row = refl
 
-module _ (t : Routine) (bases : List ℕ) (returns : ℕ) (wf : WellFormed (t .policy)) (laid : Laid (t .policy .regions) (t .policy .sizes) (hostOf bases returns))
+module _ (t : Routine) (bases : List ℕ) (returns : ℕ) (wf : WellFormed (t .policy)) (laid : Laid (t .policy .regions .count) (t .policy .regions .sizes) (hostOf bases returns))
     (four : returns % 4 ≡ 0) (ch : Checked t) (sound : (w : ℕ) → ReadingSound (readingAt (t .readings) w))
-    (result : EntryRules (t .policy .regions) (t .policy .sizes) (resultEntry (t .result))) where
+    (result : EntryRules (t .policy .regions .count) (t .policy .regions .sizes) (resultEntry (t .result))) where
   abbrev h : Host
   h = hostOf bases returns
 
@@ -110,8 +110,8 @@ module _ (t : Routine) (bases : List ℕ) (returns : ℕ) (wf : WellFormed (t .p
   abbrev word : ℕ → Reading
   word w = readingAt (t .readings) w
 
-  row-rules : (w : ℕ) → w < count t → RowRules (t .policy .regions) (t .policy .sizes) (rowAt (t .rows) w)
-  row-rules w i = row-obeys (t .policy .regions) (t .policy .sizes) (t .rows) (rowBytes * w) (ch .rows-formed w i)
+  row-rules : (w : ℕ) → w < count t → RowRules (t .policy .regions .count) (t .policy .regions .sizes) (rowAt (t .rows) w)
+  row-rules w i = row-obeys (t .policy .regions .count) (t .policy .regions .sizes) (t .rows) (rowBytes * w) (ch .rows-formed w i)
 
   -- where a row may arrive
   abbrev Lands : Destination → Type 0
@@ -127,12 +127,12 @@ module _ (t : Routine) (bases : List ℕ) (returns : ℕ) (wf : WellFormed (t .p
         fitted =
             record {
               rules = row-rules (i .0) (lands .0);
-              matches = row-fits h (t .policy .regions) (t .policy .sizes) row (rowAt (t .rows) (i .0)) (heldOf (c .registers)) (read-small (c .registers) (ck .words))
+              matches = row-fits h (t .policy .regions .count) (t .policy .regions .sizes) row (rowAt (t .rows) (i .0)) (heldOf (c .registers)) (read-small (c .registers) (ck .words))
                   (f .rules) (row-rules (i .0) (lands .0)) (arrives (t .rows) (t .result) w (To i) row e) (f .matches);
             };
       }
   arrive-sound w Caller row lands e c ck f =
-      fits-matches h (t .policy .regions) (t .policy .sizes) (entryAt row resultRegister) (resultEntry (t .result)) (isSet (c .registers) resultRegister)
+      fits-matches h (t .policy .regions .count) (t .policy .regions .sizes) (entryAt row resultRegister) (resultEntry (t .result)) (isSet (c .registers) resultRegister)
       (valueOf (c .registers) resultRegister) (read-small (c .registers) (ck .words) resultRegister) (f .rules .entries resultRegister) result
       (arrives (t .rows) (t .result) w Caller row e) (f .matches .entries resultRegister)
 
@@ -251,11 +251,11 @@ module _ (t : Routine) (bases : List ℕ) (returns : ℕ) (wf : WellFormed (t .p
     -- an edge of a transfer that there is, where narrowing leaves a row that matches
     edge-followed : (x : Instruction) → word w ≡ Read x → transfers (Read x) ≡ true → At t h w c → (row : Row)
         → passes (edges (t .policy) (t .rows) (t .result) w (Read x) (word (w + 1)) row) ≡ true → (taken : Bool) → edgeOf w x taken .exists ≡ true
-        → LeftMatches (t .policy .regions) (t .policy .sizes) h (narrowRow (edgeOf w x taken .narrowing) row) (heldOf (c .registers))
+        → LeftMatches (t .policy .regions .count) (t .policy .regions .sizes) h (narrowRow (edgeOf w x taken .narrowing) row) (heldOf (c .registers))
         → StepGood t h c (follow w (edgeOf w x taken) c)
     edge-followed x q tr at row p taken e m = by (narrowRow (edgeOf w x taken .narrowing) row) refl m
       where
-        by : (n : RowLeft) → narrowRow (edgeOf w x taken .narrowing) row ≡ n → LeftMatches (t .policy .regions) (t .policy .sizes) h n (heldOf (c .registers))
+        by : (n : RowLeft) → narrowRow (edgeOf w x taken .narrowing) row ≡ n → LeftMatches (t .policy .regions .count) (t .policy .regions .sizes) h n (heldOf (c .registers))
             → StepGood t h c (follow w (edgeOf w x taken) c)
         by (left narrowed) k m =
             edge-sound (edgeOf w x taken) narrowed (λ _. (flows w (at .inside) x q .slot tr, ap transfers q ∙ tr)) (lands-on w x c q at taken e)
@@ -313,11 +313,11 @@ module _ (t : Routine) (bases : List ℕ) (returns : ℕ) (wf : WellFormed (t .p
   -- the condition that holds on an edge narrows to a row that matches
   module _ (w : ℕ) (b : Bicc) (c : Core) (ck : CoreOk (t .policy) h c) (row : Row) (fit : Fitted (t .policy) h row c) where
     narrowed : (taken : Bool) → condHolds (b .cond) (c .registers .codes) ≡ taken
-        → LeftMatches (t .policy .regions) (t .policy .sizes) h (narrowRow (edgeOf w (Branch b) taken .narrowing) row) (heldOf (c .registers))
+        → LeftMatches (t .policy .regions .count) (t .policy .regions .sizes) h (narrowRow (edgeOf w (Branch b) taken .narrowing) row) (heldOf (c .registers))
     narrowed true e =
-        narrows-row (t .policy .regions) (t .policy .sizes) h (b .cond) row (heldOf (c .registers)) (read-small (c .registers) (ck .words)) (fit .rules) (fit .matches) e
+        narrows-row (t .policy .regions .count) (t .policy .regions .sizes) h (b .cond) row (heldOf (c .registers)) (read-small (c .registers) (ck .words)) (fit .rules) (fit .matches) e
     narrowed false e =
-        narrows-row (t .policy .regions) (t .policy .sizes) h (oppositeOf (b .cond)) row (heldOf (c .registers)) (read-small (c .registers) (ck .words)) (fit .rules) (fit .matches)
+        narrows-row (t .policy .regions .count) (t .policy .regions .sizes) h (oppositeOf (b .cond)) row (heldOf (c .registers)) (read-small (c .registers) (ck .words)) (fit .rules) (fit .matches)
         (opposite-holds (b .cond) (c .registers .codes) ∙ ap not e)
 
   branch-step : (w : ℕ) (b : Bicc) (c : Core) → CoreOk (t .policy) h c → At t h w c → word w ≡ Read (Branch b)
@@ -345,7 +345,7 @@ module _ (t : Routine) (bases : List ℕ) (returns : ℕ) (wf : WellFormed (t .p
   return-held row after c f =
       cond-both (λ (k : Change). After row k after → R) (isUnset (entryAt row link)) (λ _ x. absurd x)
       λ u. cond-both (λ (k : Change). After row k after → R) (isReturn (entryAt row link))
-      (λ r x. let m = f .matches .entries link u in (m .0, m .1 .link r, x)) (λ _ x. absurd x)
+      (λ r x. let m = f .matches .entries link u in (m .0, m .1 .return r, x)) (λ _ x. absurd x)
     where
       R : Type 0
       R = (isSet (c .registers) link ≡ true) × (valueOf (c .registers) link ≡ returns) × (after ≡ row)
@@ -355,12 +355,12 @@ module _ (t : Routine) (bases : List ℕ) (returns : ℕ) (wf : WellFormed (t .p
   return-step w c ck at q =
       let m = looks w c at (Read Return) q in
       let r = return-held (rowAt (t .rows) w) (m .after) c (at .fitted) (m .change) in
-      let here : LeftMatches (t .policy .regions) (t .policy .sizes) h (left (rowAt (t .rows) w)) (heldOf (c .registers)) = (at .fitted .rules, at .fitted .matches) in (
+      let here : LeftMatches (t .policy .regions .count) (t .policy .regions .sizes) h (left (rowAt (t .rows) w)) (heldOf (c .registers)) = (at .fitted .rules, at .fitted .matches) in (
         (r .0, r .1),
         rw (r .0, eq-eqb (valueOf (c .registers) link % 4) 0 (ap (λ (v : ℕ). v % 4) (r .1) ∙ four), eq-eqb (valueOf (c .registers) link) returns (r .1))
             (edge-followed w c ck Return q refl at (rowAt (t .rows) w)
             (subst (λ (x : Row). passes (edges (t .policy) (t .rows) (t .result) w (Read Return) (word (w + 1)) x) ≡ true) (r .2) (m .passed)) true refl
-            (subst (λ (n : RowLeft). LeftMatches (t .policy .regions) (t .policy .sizes) h n (heldOf (c .registers))) (sym (unnarrowed (rowAt (t .rows) w))) here)),
+            (subst (λ (n : RowLeft). LeftMatches (t .policy .regions .count) (t .policy .regions .sizes) h n (heldOf (c .registers))) (sym (unnarrowed (rowAt (t .rows) w))) here)),
       )
 
   abbrev Steps : Core → Reading → Step → Type 0

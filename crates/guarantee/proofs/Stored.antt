@@ -20,7 +20,7 @@ use Rattle.policy.specs.Element.{widthOf}
 use Rattle.policy.specs.Policy.{sizeOf, countOf, fieldEnd}
 use Rattle.policy.specs.Laws.{WellFormed, FieldRules}
 use Rattle.memory.specs.Memory.{loadWidth, loadOf, storeWidth, storeOf}
-use Rattle.memory.specs.Place.{startOf, lengthOf}
+use Rattle.memory.specs.Place.{partStart, lengthOf}
 use Rattle.memory.specs.Laws.{Apart, lowOf}
 use Rattle.memory.proofs.Memory.{store-keeps-length, store-keeps-others, load-kept, load-after-store}
 use Rattle.memory.proofs.Starts.{part-ends}
@@ -77,13 +77,13 @@ value-whole regions size h f v rules small holds = at (ltb (f .element) 6) refl
         between n p q = omega arith
     at false t = word-whole (f .element) v (rules .element-least) (rules .element-most) (ltb-false (f .element) 6 t) small
 
-module _ (p : Policy) (h : Host) (wf : WellFormed p) (memory : List ℕ) (long : length memory ≡ lengthOf (p .sizes) (p .regions))
+module _ (p : Policy) (h : Host) (wf : WellFormed p) (memory : List ℕ) (long : length memory ≡ lengthOf (p .regions .sizes) (p .regions .count))
     (declared : Declared p h memory) (op : StoreOp) (r k offset v : ℕ) (here : InElement p (Stores op) r k offset) (small : v < 4294967296)
     (holds : Holds h (fieldEntry (fieldOf p r k)) v) where
   abbrev after : List ℕ
   after = storeOf op v (byteOf p r offset) memory
 
-  rules : FieldRules (p .regions) (sizeOf p r) (fieldOf p r k)
+  rules : FieldRules (p .regions .count) (sizeOf p r) (fieldOf p r k)
   rules = wf .field r k (here .region) (here .field)
 
   wide : storeWidth op ≡ widthOf (fieldOf p r k .element)
@@ -103,9 +103,9 @@ module _ (p : Policy) (h : Host) (wf : WellFormed p) (memory : List ℕ) (long :
       let read : loadOf (loadFor (f .element)) after (byteOf p r offset) ≡ v =
       load-after-store (loadFor (f .element)) op v (byteOf p r offset) memory
       (load-wide (f .element) (rules .element-least) (rules .element-most) ∙ sym wide)
-      (room (startOf (p .sizes) r) (lengthOf (p .sizes) (p .regions)) (length memory) (sizeOf p r) (storeWidth op) (fieldEnd f)
-      (part-ends (p .sizes) r (p .regions) (here .region)) long (rules .inside) (here .high))
-      ∙ value-whole (p .regions) (sizeOf p r) h f v rules small holds in
+      (room (partStart (p .regions .sizes) r) (lengthOf (p .regions .sizes) (p .regions .count)) (length memory) (sizeOf p r) (storeWidth op) (fieldEnd f)
+      (part-ends (p .regions .sizes) r (p .regions .count) (here .region)) long (rules .inside) (here .high))
+      ∙ value-whole (p .regions .count) (sizeOf p r) h f v rules small holds in
       subst (λ (n : ℕ). Holds h (fieldEntry f) (loadOf (loadFor (f .element)) after (byteOf p r n))) (stored .here)
       (subst (Holds h (fieldEntry f)) (sym read) holds)
     where
@@ -113,7 +113,7 @@ module _ (p : Policy) (h : Host) (wf : WellFormed p) (memory : List ℕ) (long :
       room start whole n size w end a b c d = omega arith
 
   -- every other element is as it was
-  other-now : (r′ k′ i′ : ℕ) → r′ < p .regions → k′ < countOf p r′ → isReadable (fieldOf p r′ k′) ≡ true → i′ < fieldOf p r′ k′ .count
+  other-now : (r′ k′ i′ : ℕ) → r′ < p .regions .count → k′ < countOf p r′ → isReadable (fieldOf p r′ k′) ≡ true → i′ < fieldOf p r′ k′ .count
       → (r ≡ r′ → k ≡ k′ → stored .index ≡ i′ → ⊥) → Now r′ k′ i′
   other-now r′ k′ i′ l m readable n other =
       let f′ = fieldOf p r′ k′ in
@@ -124,8 +124,8 @@ module _ (p : Policy) (h : Host) (wf : WellFormed p) (memory : List ℕ) (long :
       (subst (λ (w : ℕ). Apart (byteOf p r offset) (storeWidth op) (elementAt p r′ f′ i′) w)
       (sym (load-wide (f′ .element) (rules′ .element-least) (rules′ .element-most)))
       (λ j a b c d.
-      let s = startOf (p .sizes) r in
-      let s′ = startOf (p .sizes) r′ in
+      let s = partStart (p .regions .sizes) r in
+      let s′ = partStart (p .regions .sizes) r′ in
       let same = one-element p wf r k (stored .index) (j - s) r′ k′ i′ (j - s′)
       (record {
         region = here .region;
@@ -174,7 +174,7 @@ store-declared = now
 
 pub store-framed : StoreFramed
 store-framed p memory op r k offset v here writable =
-    let start = startOf (p .sizes) r in
+    let start = partStart (p .regions .sizes) r in
     record {
       length-kept = store-keeps-length op v (byteOf p r offset) memory;
       bytes-kept = λ a outside. store-keeps-others op v (byteOf p r offset) memory a

@@ -92,10 +92,10 @@ module _ (p : Policy) (words rows entry result : List ℕ) (e : checkOf p words 
   unfolding entryOf
   result-top = omega arith
 
-  result-rules : EntryRules (p .regions) (p .sizes) (entryOf result 0)
+  result-rules : EntryRules (p .regions .count) (p .regions .sizes) (entryOf result 0)
   result-rules =
-      entry-obeys (p .regions) (p .sizes) (entryOf result 0) result-top
-      (and-went (eqb (byteAt result 3) 0) (entryOk (p .regions) (p .sizes) (entryOf result 0)) (checked .result-formed) .1)
+      entry-obeys (p .regions .count) (p .regions .sizes) (entryOf result 0) result-top
+      (and-went (eqb (byteAt result 3) 0) (entryOk (p .regions .count) (p .regions .sizes) (entryOf result 0)) (checked .result-formed) .1)
 
   module _ (bases : List ℕ) (returns : ℕ) (g : Registers) (memory : List ℕ) (start : Start p entry bases returns g memory) where
     -- the run is not refused
@@ -109,20 +109,20 @@ module _ (p : Policy) (words rows entry result : List ℕ) (e : checkOf p words 
           start .placed,
         )
 
-    is-laid : Laid (p .regions) (p .sizes) (hostOf bases returns)
-    is-laid = laid (p .regions) (p .sizes) bases returns memory (start .placed) (wf .regions-most)
+    is-laid : Laid (p .regions .count) (p .regions .sizes) (hostOf bases returns)
+    is-laid = laid (p .regions .count) (p .regions .sizes) bases returns memory (start .placed) (wf .regions-most)
 
     core-ok : CoreOk p (hostOf bases returns) (startState g memory .core)
     core-ok =
         record {
           words = zero-words g (start .words);
           bytes = start .bytes;
-          long = memory-long (p .regions) (p .sizes) bases returns memory (start .placed);
+          long = memory-long (p .regions .count) (p .regions .sizes) bases returns memory (start .placed);
           declared = start .fields;
         }
 
-    row-rules : RowRules (p .regions) (p .sizes) (rowAt rows 0)
-    row-rules = row-obeys (p .regions) (p .sizes) rows (rowBytes * 0) (checked .rows-formed 0 (checked .some))
+    row-rules : RowRules (p .regions .count) (p .regions .sizes) (rowAt rows 0)
+    row-rules = row-obeys (p .regions .count) (p .regions .sizes) rows (rowBytes * 0) (checked .rows-formed 0 (checked .some))
 
     -- the invariant holds at the start
     pub invariant-start : Invariant (routineOf p words rows entry result) (hostOf bases returns) (startState g memory)
@@ -136,8 +136,8 @@ module _ (p : Policy) (words rows entry result : List ℕ) (e : checkOf p words 
                 fitted =
                     record {
                       rules = row-rules;
-                      matches = row-fits (hostOf bases returns) (p .regions) (p .sizes) (entryRow entry) (rowAt rows 0) (heldOf (withZero g))
-                          (read-small (withZero g) (zero-words g (start .words))) (row-obeys (p .regions) (p .sizes) entry 0 (checked .entry-formed)) row-rules
+                      matches = row-fits (hostOf bases returns) (p .regions .count) (p .regions .sizes) (entryRow entry) (rowAt rows 0) (heldOf (withZero g))
+                          (read-small (withZero g) (zero-words g (start .words))) (row-obeys (p .regions .count) (p .regions .sizes) entry 0 (checked .entry-formed)) row-rules
                           (checked .entry) (zero-matches g (hostOf bases returns) (entryRow entry) (start .row));
                     };
               };
@@ -150,7 +150,7 @@ module _ (p : Policy) (words rows entry result : List ℕ) (e : checkOf p words 
     whole : (allowance : ℕ) → Guaranteed p (entryOf result 0) (settingOf p words bases returns) (hostOf bases returns) (startState g memory)
         (runFrom (settingOf p words bases returns) allowance 0 (startState g memory)) (traceFrom (settingOf p words bases returns) allowance (startState g memory))
     whole allowance =
-        guaranteed (routineOf p words rows entry result) bases returns wf is-laid (return-aligned (p .regions) (p .sizes) bases returns memory (start .placed)) checked
+        guaranteed (routineOf p words rows entry result) bases returns wf is-laid (return-aligned (p .regions .count) (p .regions .sizes) bases returns memory (start .placed)) checked
         (readings-sound words) result-rules allowance (startState g memory) invariant-start
 
 pub running-guarantee : RunningGuarantee

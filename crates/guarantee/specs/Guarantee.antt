@@ -47,7 +47,7 @@ pub record Words (g : Registers) : Type 0 where
 pub record Start (p : Policy) (entry bases : List ℕ) (returns : ℕ) (g : Registers) (memory : List ℕ) : Type 0 where
   pub words : Words g
   pub bytes : Bytes memory
-  pub placed : placedIn (p .regions) (p .sizes) bases returns memory ≡ true
+  pub placed : placedIn (p .regions .count) (p .regions .sizes) bases returns memory ≡ true
   pub row : RowMatches (hostOf bases returns) (rowOf entry 0) (heldOf g)
   pub fields : Declared p (hostOf bases returns) memory
 

@@ -37,12 +37,12 @@ use Rattle.guarantee.specs.Guarantee.{heldOf, Words}
 pub record CoreOk (p : Policy) (h : Host) (c : Core) : Type 0 where
   pub words : Words (c .registers)
   pub bytes : Bytes (c .memory)
-  pub long : length (c .memory) ≡ lengthOf (p .sizes) (p .regions)
+  pub long : length (c .memory) ≡ lengthOf (p .regions .sizes) (p .regions .count)
   pub declared : Declared p h (c .memory)
 
 -- registers and codes match a well formed row
 pub record Fitted (p : Policy) (h : Host) (row : Row) (c : Core) : Type 0 where
-  pub rules : RowRules (p .regions) (p .sizes) row
+  pub rules : RowRules (p .regions .count) (p .regions .sizes) row
   pub matches : RowMatches h row (heldOf (c .registers))
 
 -- what an operation leaves: its row matches, and memory outside writable fields is as it was

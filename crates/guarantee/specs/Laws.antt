@@ -21,7 +21,7 @@ use Rattle.guarantee.specs.Fields.{isReadable, isWritable, fieldOf, byte
 
 -- an access at an offset of region r, inside its field k
 pub record InElement (p : Policy) (a : Access) (r k offset : ℕ) : Type 0 where
-  pub region : r < p .regions
+  pub region : r < p .regions .count
   pub field : k < countOf p r
   pub low : fieldOf p r k .offset .0 ≤ offset
   pub high : offset + accessWidth a ≤ fieldEnd (fieldOf p r k)
@@ -38,7 +38,7 @@ LoadDeclared =
 -- A store of a value that the field's entry holds keeps the declared values of every field.
 abbrev pub StoreDeclared : Type 0
 StoreDeclared =
-    (p : Policy) (h : Host) → WellFormed p → (memory : List ℕ) → length memory ≡ lengthOf (p .sizes) (p .regions) → Declared p h memory
+    (p : Policy) (h : Host) → WellFormed p → (memory : List ℕ) → length memory ≡ lengthOf (p .regions .sizes) (p .regions .count) → Declared p h memory
     → (op : StoreOp) (r k offset v : ℕ) → InElement p (Stores op) r k offset → v < 4294967296 → Holds h (fieldEntry (fieldOf p r k)) v
     → Declared p h (storeOf op v (byteOf p r offset) memory)
 

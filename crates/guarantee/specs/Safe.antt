@@ -29,7 +29,7 @@ pub record SafeAccess (p : Policy) (h : Host) (a : Access) (x y : ℕ) : Type 0 
   pub region : ℕ
   pub field : ℕ
   pub offset : ℕ
-  pub region-is : region < p .regions
+  pub region-is : region < p .regions .count
   pub field-is : field < countOf p region
   -- it lies at an offset of the region, inside the field
   pub address : add32 x y ≡ baseOf h region + offset

@@ -20,7 +20,7 @@ pub record Begun (p : Policy) (words bases : List ℕ) (returns : ℕ) (memory :
   pub ok : policyOk p ≡ true
   pub some : 1 ≤ length words
   pub most : length words ≤ mostWords
-  pub placed : placedIn (p .regions) (p .sizes) bases returns memory ≡ true
+  pub placed : placedIn (p .regions .count) (p .regions .sizes) bases returns memory ≡ true
 
 never : {A : Type 0} {n : ℕ} → suc n ≡ 0 → A
 never e = absurd (omega arith)
@@ -34,7 +34,7 @@ begun p words bases returns memory e =
     (λ some q.
     cond-went (ltb mostWords (length words)) _ _ _ q (λ t q. never q)
     (λ most q.
-    cond-went (placedIn (p .regions) (p .sizes) bases returns memory) _ _ _ q
+    cond-went (placedIn (p .regions .count) (p .regions .sizes) bases returns memory) _ _ _ q
     (λ placed q. record { ok = ok; some = ltb-false _ _ some; most = ltb-false _ _ most; placed = placed })
     (λ t q. never q))))
     (λ t q. never q)

@@ -27,35 +27,35 @@ use Rattle.access.specs.Locate.{touches, located, regionOf, locate}
 use Rattle.step.specs.Lent.{Covered, Lies, Covers}
 use Rattle.machine.specs.Placement.{placedIn}
 
-module _ (p : Policy) (bases : List ℕ) (returns : ℕ) (memory : List ℕ) (placed : placedIn (p .regions) (p .sizes) bases returns memory ≡ true) where
+module _ (p : Policy) (bases : List ℕ) (returns : ℕ) (memory : List ℕ) (placed : placedIn (p .regions .count) (p .regions .sizes) bases returns memory ≡ true) where
   -- memory is as long as all sizes together
-  pub long : length memory ≡ lengthOf (p .sizes) (p .regions)
+  pub long : length memory ≡ lengthOf (p .regions .sizes) (p .regions .count)
   unfolding placedIn
-  long = needed-eq _ (length memory) (lengthOf (p .sizes) (p .regions)) placed (λ e. simp (e, and-false))
+  long = needed-eq _ (length memory) (lengthOf (p .regions .sizes) (p .regions .count)) placed (λ e. simp (e, and-false))
 
   -- there is one base for each region
-  pub based : length bases ≡ p .regions
+  pub based : length bases ≡ p .regions .count
   unfolding placedIn
-  based = needed-eq _ (length bases) (p .regions) placed (λ e. simp (e, and-false))
+  based = needed-eq _ (length bases) (p .regions .count) placed (λ e. simp (e, and-false))
 
-  module _ (w : WellFormed p) (a : Access) (r offset : ℕ) (h : r < p .regions) where
-    at-place : (place : ℕ) → findField p r offset (offset + accessWidth a) ≡ Found·.At place → Covered (p .sizes) (length memory) (accessWidth a) r offset
+  module _ (w : WellFormed p) (a : Access) (r offset : ℕ) (h : r < p .regions .count) where
+    at-place : (place : ℕ) → findField p r offset (offset + accessWidth a) ≡ Found·.At place → Covered (p .regions .sizes) (length memory) (accessWidth a) r offset
     at-place place e =
         let f = found-holds p r offset (offset + accessWidth a) place e in
         record {
           region = f .region-most;
           inside = le-trans (f .holds .1) (w .field r (f .index) h (f .counted) .inside);
-          part = rw long (part-ends (p .sizes) r (p .regions) h);
+          part = rw long (part-ends (p .regions .sizes) r (p .regions .count) h);
         }
 
-    found : (x : Found) → findField p r offset (offset + accessWidth a) ≡ x → Lies (p .sizes) (length memory) (accessWidth a) (located (p .elements) (p .permissions) a r offset x)
+    found : (x : Found) → findField p r offset (offset + accessWidth a) ≡ x → Lies (p .regions .sizes) (length memory) (accessWidth a) (located (p .fields .elements) (p .fields .permissions) a r offset x)
     found (Found·.At place) e =
-        cond-both (Lies (p .sizes) (length memory) (accessWidth a)) (touches (p .elements) (p .permissions) a place) (λ t. at-place place e) (λ t. tt)
+        cond-both (Lies (p .regions .sizes) (length memory) (accessWidth a)) (touches (p .fields .elements) (p .fields .permissions) a place) (λ t. at-place place e) (λ t. tt)
     found Found·.Nothing e = tt
 
   pub covers : policyOk p ≡ true → Covers (layoutOf p bases) (length memory)
   unfolding locate
   covers ok a address =
-      cond-both (Lies (p .sizes) (length memory) (accessWidth a)) (ltb (regionOf (layoutOf p bases) address) (p .regions))
+      cond-both (Lies (p .regions .sizes) (length memory) (accessWidth a)) (ltb (regionOf (layoutOf p bases) address) (p .regions .count))
       (λ t. found (obeys p ok) a _ _ (ltb-true _ _ t) _ refl)
       (λ t. tt)

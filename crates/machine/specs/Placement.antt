@@ -17,8 +17,8 @@ apartFrom base size other otherSize = leb (base + size) other || leb (other + ot
 
 module _ (sizes bases : List ℕ) where
   -- region r has such a base
-  abbrev pub baseIn : ℕ → Bool
-  baseIn r = basePlaced (getD bases r 0) (getD sizes r 0)
+  abbrev pub basePlacedAt : ℕ → Bool
+  basePlacedAt r = basePlaced (getD bases r 0) (getD sizes r 0)
 
   -- regions r and q share no byte
   abbrev pub apartIn : ℕ → ℕ → Bool
@@ -30,7 +30,7 @@ module _ (sizes bases : List ℕ) where
 
   -- the first n regions have such bases and share no byte
   abbrev pub laidIn : ℕ → Bool
-  laidIn n = all baseIn n && all disjointIn n
+  laidIn n = all basePlacedAt n && all disjointIn n
 
 -- "The return address is a multiple of 4, bases are nonzero multiples of 8, base + size is below 2^32, regions are disjoint,
 -- memory is as long as all sizes together"; one base for each region
@@ -38,6 +38,6 @@ unfoldable pub placedIn : ℕ → List ℕ → List ℕ → ℕ → List ℕ →
 placedIn regions sizes bases returns memory =
     eqb (returns % 4) 0
     && eqb (length bases) regions
-    && all (baseIn sizes bases) regions
+    && all (basePlacedAt sizes bases) regions
     && all (disjointIn sizes bases) regions
     && eqb (length memory) (lengthOf sizes regions)

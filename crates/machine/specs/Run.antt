@@ -84,7 +84,7 @@ refusalOf p words bases returns memory =
     cond (policyOk p)
     (cond (ltb (length words) 1) badShape
     (cond (ltb mostWords (length words)) badShape
-    (cond (placedIn (p .regions) (p .sizes) bases returns memory) acceptance badPlacement)))
+    (cond (placedIn (p .regions .count) (p .regions .sizes) bases returns memory) acceptance badPlacement)))
     badPolicy
 
 -- "Refused, it changes nothing: 0 steps, registers and codes as handed in."

@@ -27,7 +27,13 @@ fn refusal(policy: Policy, words: &[u32], bases: &[u32], returns: u32, memory: &
     if MOST_WORDS < words.len() {
         return BAD_SHAPE;
     }
-    if !placed(policy.regions, &policy.sizes, bases, returns, memory) {
+    if !placed(
+        policy.regions.count,
+        &policy.regions.sizes,
+        bases,
+        returns,
+        memory,
+    ) {
         return BAD_PLACEMENT;
     }
     ACCEPTED
@@ -60,7 +66,7 @@ pub fn run(
     marks[0] = true;
     let codes = registers.codes;
     let coded = registers.coded;
-    let regions = policy.regions;
+    let regions = policy.regions.count;
     let r = run_steps(
         codes,
         coded,
@@ -70,13 +76,13 @@ pub fn run(
         words,
         returns,
         regions,
-        &policy.sizes,
+        &policy.regions.sizes,
         bases,
-        &policy.fields,
-        &policy.elements,
-        &policy.permissions,
-        &policy.offsets,
-        &policy.counts,
+        &policy.regions.fields,
+        &policy.fields.elements,
+        &policy.fields.permissions,
+        &policy.fields.offsets,
+        &policy.fields.counts,
         allowance,
     );
     let end = r.end;

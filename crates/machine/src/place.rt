@@ -4,7 +4,7 @@ ghost use mathlib.Core.Path.{_≡_};
 ghost use Prim.Native.Nat.{_≤_, _<_};
 ghost use lib.ListN.{length};
 ghost use Rattle.machine.specs.Placement.{basePlaced, apartFrom, disjointIn, laidIn, placedIn};
-use memory::start_of;
+use memory::part_start;
 
 // Whether a base is a nonzero multiple of 8 from which the region ends below 2^32.
 fn base_ok(base: u32, size: u16) -> bool
@@ -69,6 +69,6 @@ pub fn placed(regions: u8, sizes: &[u16; 8], bases: &[u32], returns: u32, memory
         return false;
     }
     let laid = all_laid(sizes, bases, count);
-    let long = start_of(sizes, regions);
+    let long = part_start(sizes, regions);
     (returns % 4 == 0) & laid & (memory.len() == long)
 }

@@ -8,24 +8,24 @@ use native.Mathlib.Nat.{eq-or-lt-of-le, le-of-suc-le-suc, le-of-eq, le-antisymm}
 use native.Mathlib.Numerals.{add-one}
 use native.Mathlib.Omega.{arith, by-contra}
 use lib.ListN.{getD}
-use Rattle.memory.specs.Place.{startOf}
+use Rattle.memory.specs.Place.{partStart}
 use Rattle.memory.specs.Laws.{StartGrows, PartEnds, OnePart, StoreKeepsParts}
 use Rattle.memory.proofs.Memory.{store-keeps-others}
 
 -- the definition's two equations, the second at the code's `region + 1`
-pub start-first : (sizes : List ℕ) → startOf sizes 0 ≡ 0
-unfolding startOf
+pub start-first : (sizes : List ℕ) → partStart sizes 0 ≡ 0
+unfolding partStart
 start-first sizes = refl
 
-pub start-next : (sizes : List ℕ) (region : ℕ) → startOf sizes (region + 1) ≡ startOf sizes region + getD sizes region 0
-unfolding startOf
+pub start-next : (sizes : List ℕ) (region : ℕ) → partStart sizes (region + 1) ≡ partStart sizes region + getD sizes region 0
+unfolding partStart
 start-next sizes region = rw add-one
 
 pub start-grows : StartGrows
-unfolding startOf
-start-grows sizes i zero l = let e : i ≡ 0 = omega arith in le-of-eq (ap (startOf sizes) e)
+unfolding partStart
+start-grows sizes i zero l = let e : i ≡ 0 = omega arith in le-of-eq (ap (partStart sizes) e)
 start-grows sizes i (suc j) l = ⊎-elim
-    (λ (e : i ≡ suc j). le-of-eq (ap (startOf sizes) e))
+    (λ (e : i ≡ suc j). le-of-eq (ap (partStart sizes) e))
     (λ (q : i < suc j). omega (arith, start-grows sizes i j (le-of-suc-le-suc q)))
     (eq-or-lt-of-le l)
 
@@ -37,4 +37,4 @@ one-part sizes i j a p q = le-antisymm (by-contra i j (λ l. omega (arith, part-
 
 pub store-keeps-parts : StoreKeepsParts
 store-keeps-parts sizes i j op v offset m a fits there other =
-    store-keeps-others op v (startOf sizes i + offset) m a (λ p q. other (one-part sizes i j a (omega arith, omega arith) there))
+    store-keeps-others op v (partStart sizes i + offset) m a (λ p q. other (one-part sizes i j a (omega arith, omega arith) there))

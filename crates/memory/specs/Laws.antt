@@ -9,7 +9,7 @@ use Rattle.v8.specs.declared.LoadOp.{LoadOp}
 use Rattle.v8.specs.declared.LoadOp.the-variants.{Ld, Ldub, Lduh, Ldsb, Ldsh}
 use Rattle.v8.specs.declared.StoreOp.{StoreOp}
 use Rattle.memory.specs.Memory.{byteAt, Bytes, loadWidth, loadOf, storeWidth, storeOf}
-use Rattle.memory.specs.Place.{startOf}
+use Rattle.memory.specs.Place.{partStart}
 
 -- Place i is none of the n places from a on.
 abbrev pub Outside : ℕ → ℕ → ℕ → Type 0
@@ -57,15 +57,15 @@ LoadFits = (op : LoadOp) (m : List ℕ) (a : ℕ) → Bytes m → loadOf op m a 
 
 -- A higher region's part begins no lower.
 abbrev pub StartGrows : Type 0
-StartGrows = (sizes : List ℕ) (i j : ℕ) → i ≤ j → startOf sizes i ≤ startOf sizes j
+StartGrows = (sizes : List ℕ) (i j : ℕ) → i ≤ j → partStart sizes i ≤ partStart sizes j
 
 -- A region's part ends where or before a higher region's part begins; so too before the end of a memory that has the region.
 abbrev pub PartEnds : Type 0
-PartEnds = (sizes : List ℕ) (i j : ℕ) → i < j → startOf sizes i + getD sizes i 0 ≤ startOf sizes j
+PartEnds = (sizes : List ℕ) (i j : ℕ) → i < j → partStart sizes i + getD sizes i 0 ≤ partStart sizes j
 
 -- place a lies in a region's part
 abbrev pub InPart : List ℕ → ℕ → ℕ → Type 0
-InPart sizes region a = (startOf sizes region ≤ a) × (a < startOf sizes region + getD sizes region 0)
+InPart sizes region a = (partStart sizes region ≤ a) × (a < partStart sizes region + getD sizes region 0)
 
 -- A place lies in the part of at most one region.
 abbrev pub OnePart : Type 0
@@ -76,4 +76,4 @@ abbrev pub StoreKeepsParts : Type 0
 StoreKeepsParts =
     (sizes : List ℕ) (i j : ℕ) (op : StoreOp) (v offset : ℕ) (m : List ℕ) (a : ℕ)
     → offset + storeWidth op ≤ getD sizes i 0 → InPart sizes j a → (i ≡ j → ⊥)
-    → byteAt (storeOf op v (startOf sizes i + offset) m) a ≡ byteAt m a
+    → byteAt (storeOf op v (partStart sizes i + offset) m) a ≡ byteAt m a

@@ -5,10 +5,10 @@ use mathlib.Core.List.{List}
 use lib.ListN.{getD}
 
 -- the sizes of all regions below the one numbered, added up
-unfoldable pub startOf : List ℕ → ℕ → ℕ
-startOf sizes zero = 0
-startOf sizes (suc region) = startOf sizes region + getD sizes region 0
+unfoldable pub partStart : List ℕ → ℕ → ℕ
+partStart sizes zero = 0
+partStart sizes (suc region) = partStart sizes region + getD sizes region 0
 
 -- the length of the memory of the first n regions
 abbrev pub lengthOf : List ℕ → ℕ → ℕ
-lengthOf sizes n = startOf sizes n
+lengthOf sizes n = partStart sizes n

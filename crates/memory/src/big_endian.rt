@@ -5,7 +5,7 @@ ghost use lib.ListN.{length};
 ghost use Rattle.memory.specs.Memory.{byteAt, halfAt, loadWidth, loadOf, storeWidth, storeOf};
 use v8::LoadOp;
 use v8::StoreOp;
-use v8::read::sign_extend;
+use v8::signed::sign_extend;
 
 // The byte at a place.
 fn byte_at(memory: &[u8], at: usize) -> u32

@@ -12,4 +12,5 @@ mod part;
 pub use big_endian::load;
 pub use part::load_in;
 pub use part::store_in;
-pub use place::start_of;
+pub use place::extent;
+pub use place::part_start;

@@ -12,10 +12,10 @@ pushed text i v l = rw (add-one i) (take-suc-set text i v l)
 
 -- no digit yet
 pub none-yet : (text ds : List ℕ) (at : ℕ) → take (at + 0) text ≡ take at text ++ take 0 ds
-none-yet text ds at = rw (plus-nought at) (sym (append-nil (take at text)))
+none-yet text ds at = rw (plus-bias at) (sym (append-nil (take at text)))
   where
-    plus-nought : (a : ℕ) → a + 0 ≡ a
-    plus-nought a = omega arith
+    plus-bias : (a : ℕ) → a + 0 ≡ a
+    plus-bias a = omega arith
 
 -- the first i digits stand after what was before; one digit more
 pub spelled-on : (text before ds : List ℕ) (at i : ℕ) → take (at + i) text ≡ before ++ take i ds → at + i < length text → i < length ds

@@ -25,6 +25,6 @@ end-next p r k e f g q = q ∙ ap fieldEnd g ∙ sym (rw (ne-eqb (k + 1) 0 (more
 
 -- the test of a field after those before it is the test of the field in its region
 pub follows-is : (p : Policy) (r k end : ℕ) (f : Field) → f ≡ fieldAt p (placeOf r k) → end ≡ endBefore p r k
-    → fieldFollows (p .regions) (sizeOf p r) end f ≡ fieldAtOk p r k
+    → fieldFollows (p .regions .count) (sizeOf p r) end f ≡ fieldAtOk p r k
 unfolding fieldAtOk fieldFits
 follows-is p r k end f e q = rw (e, q)

@@ -50,10 +50,10 @@ module _ (p : Policy) (r : ℕ) (f : Field) (s : Sized p) (a : FieldAccepted p r
   place-in = omega (arith, given .regions-most, a .region, a .room)
 
   count-here : countOf grown r ≡ count + 1
-  count-here = getD-set-same (p .fields) r (count + 1) 0 (omega (arith, s .fields, given .regions-most, a .region))
+  count-here = getD-set-same (p .regions .fields) r (count + 1) 0 (omega (arith, s .fields, given .regions-most, a .region))
 
   count-other : (q : ℕ) → (q ≡ r → ⊥) → countOf grown q ≡ countOf p q
-  count-other q d = getD-set-other (p .fields) r q (count + 1) 0 d
+  count-other q d = getD-set-other (p .regions .fields) r q (count + 1) 0 d
 
   here : (xs : List ℕ) (v : ℕ) → length xs ≡ 128 → getD (set xs place v) place 0 ≡ v
   here xs v e = getD-set-same xs place v 0 (omega (arith, place-in))
@@ -62,13 +62,13 @@ module _ (p : Policy) (r : ℕ) (f : Field) (s : Sized p) (a : FieldAccepted p r
   unfolding fieldAt
   field-here =
       simp (
-        here (p .elements) (f .element) (s .elements),
-        here (p .permissions) (f .permission) (s .permissions),
-        here (p .targets) (f .target) (s .targets),
-        here (p .offsets) (f .offset .0) (s .offsets),
-        here (p .counts) (f .count) (s .counts),
-        here (p .lows) (f .lo) (s .lows),
-        here (p .highs) (f .hi) (s .highs),
+        here (p .fields .elements) (f .element) (s .elements),
+        here (p .fields .permissions) (f .permission) (s .permissions),
+        here (p .values .targets) (f .target) (s .targets),
+        here (p .fields .offsets) (f .offset .0) (s .offsets),
+        here (p .fields .counts) (f .count) (s .counts),
+        here (p .values .lows) (f .lo) (s .lows),
+        here (p .values .highs) (f .hi) (s .highs),
       )
 
   other : (i : ℕ) → (i ≡ place → ⊥) → (xs : List ℕ) (v : ℕ) → getD (set xs place v) i 0 ≡ getD xs i 0
@@ -78,23 +78,23 @@ module _ (p : Policy) (r : ℕ) (f : Field) (s : Sized p) (a : FieldAccepted p r
   unfolding fieldAt
   field-other i d =
       simp (
-        other i d (p .elements) (f .element),
-        other i d (p .permissions) (f .permission),
-        other i d (p .targets) (f .target),
-        other i d (p .offsets) (f .offset .0),
-        other i d (p .counts) (f .count),
-        other i d (p .lows) (f .lo),
-        other i d (p .highs) (f .hi),
+        other i d (p .fields .elements) (f .element),
+        other i d (p .fields .permissions) (f .permission),
+        other i d (p .values .targets) (f .target),
+        other i d (p .fields .offsets) (f .offset .0),
+        other i d (p .fields .counts) (f .count),
+        other i d (p .values .lows) (f .lo),
+        other i d (p .values .highs) (f .hi),
       )
 
   -- the fields of the policy given stand at other places
-  elsewhere : (q k : ℕ) → q < p .regions → k < countOf p q → placeOf q k ≡ place → ⊥
+  elsewhere : (q k : ℕ) → q < p .regions .count → k < countOf p q → placeOf q k ≡ place → ⊥
   elsewhere q k l m =
       equal-or-not q r
       (λ e z. let b = rw e at m in omega (arith, rw e at z))
       (λ d. apart q r k count d (omega (arith, given .count-most q l)) (a .room))
 
-  field-old : (q k : ℕ) → q < p .regions → k < countOf p q → fieldAt grown (placeOf q k) ≡ fieldAt p (placeOf q k)
+  field-old : (q k : ℕ) → q < p .regions .count → k < countOf p q → fieldAt grown (placeOf q k) ≡ fieldAt p (placeOf q k)
   field-old q k l m = field-other (placeOf q k) (elsewhere q k l m)
 
   -- a field of the next policy is the one added, or was there
@@ -104,13 +104,13 @@ module _ (p : Policy) (r : ℕ) (f : Field) (s : Sized p) (a : FieldAccepted p r
       (λ e. last-or-before k count (rw count-here at (rw e at b)) (λ m. new e m) (λ m. was (rw e m)))
       (λ d. was (rw (count-other q d) at b))
 
-  counts-next : (q : ℕ) → q < p .regions → countOf grown q ≤ 16
+  counts-next : (q : ℕ) → q < p .regions .count → countOf grown q ≤ 16
   counts-next q l =
       equal-or-not q r
       (λ e. rw (e, count-here) (omega (arith, a .room)))
       (λ d. rw (count-other q d) (given .count-most q l))
 
-  rules-next : (q k : ℕ) → q < p .regions → k < countOf grown q → FieldRules (p .regions) (sizeOf p q) (fieldAt grown (placeOf q k))
+  rules-next : (q k : ℕ) → q < p .regions .count → k < countOf grown q → FieldRules (p .regions .count) (sizeOf p q) (fieldAt grown (placeOf q k))
   rules-next q k l b =
       new-or-old q k b
       (λ e m. rw (e, m, field-here) (fits-rules p r count f (a .fits)))
@@ -122,7 +122,7 @@ module _ (p : Policy) (r : ℕ) (f : Field) (s : Sized p) (a : FieldAccepted p r
       rw (field-old r k (a .region) (omega arith))
       (rw (← later p r k, e) (fits-follows p r count f (a .fits)))
 
-  ascending-grown : (q k : ℕ) → q < p .regions → k + 1 < countOf grown q → fieldEnd (fieldAt grown (placeOf q k)) ≤ fieldAt grown (placeOf q (k + 1)) .offset .0
+  ascending-grown : (q k : ℕ) → q < p .regions .count → k + 1 < countOf grown q → fieldEnd (fieldAt grown (placeOf q k)) ≤ fieldAt grown (placeOf q (k + 1)) .offset .0
   ascending-grown q k l b =
       new-or-old q (k + 1) b
       (λ e m. rw (e, m, field-here) (added-follows k m))

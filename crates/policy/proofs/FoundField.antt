@@ -9,7 +9,7 @@ use lib.Dec.{ltb}
 use lib.ListN.{getD}
 use Rattle.v8.specs.Choice.{cond-went, cond-both}
 use Rattle.v8.specs.Search.{first, first-from, first-passes, first-least, needed-le}
-use Rattle.policy.specs.Policy.{countOf, placeOf, endOf, fieldAt}
+use Rattle.policy.specs.Policy.{countOf, placeOf, elementsEnd, fieldAt}
 use Rattle.policy.specs.Find.{holdsIn, stopOf, findIn, findField}
 use Rattle.policy.specs.Laws.{Holds, FoundHere, FoundHolds, NoneHolds, Finds}
 use Rattle.policy.specs.declared.Policy.{Policy}
@@ -34,10 +34,10 @@ record Stop (n r stop : ℕ) : Type 0 where
 
 module _ (p : Policy) (r low end : ℕ) where
   abbrev holdsAt : ℕ → Bool
-  holdsAt = holdsIn (p .elements) (p .offsets) (p .counts) low end
+  holdsAt = holdsIn (p .fields .elements) (p .fields .offsets) (p .fields .counts) low end
 
   abbrev stop : ℕ
-  stop = stopOf (p .fields) r
+  stop = stopOf (p .regions .fields) r
 
   abbrev place : ℕ
   place = first holdsAt (16 * r) stop
@@ -52,8 +52,8 @@ module _ (p : Policy) (r low end : ℕ) where
   holds-of : (i : ℕ) → holdsAt i ≡ true → Holds (fieldAt p i) low end
   unfolding holdsIn fieldAt
   holds-of i h = (
-    needed-le _ (getD (p .offsets) i 0) low h (λ e. simp e),
-    needed-le _ end (endOf (getD (p .elements) i 0) (getD (p .offsets) i 0) (getD (p .counts) i 0)) h (λ e. simp (e, and-false)),
+    needed-le _ (getD (p .fields .offsets) i 0) low h (λ e. simp e),
+    needed-le _ end (elementsEnd (getD (p .fields .elements) i 0) (getD (p .fields .offsets) i 0) (getD (p .fields .counts) i 0)) h (λ e. simp (e, and-false)),
   )
 
   of-holds : (i : ℕ) → Holds (fieldAt p i) low end → holdsAt i ≡ true

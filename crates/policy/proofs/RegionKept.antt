@@ -69,44 +69,44 @@ module _ (p : Policy) (size : ℕ) (s : Sized p) (a : RegionAccepted p size) whe
   old : WellFormed p
   old = obeys p (a .ok)
 
-  last-size : sizeOf next (p .regions) ≡ size
-  last-size = getD-set-same (p .sizes) (p .regions) size 0 (omega (arith, s .sizes, a .room))
+  last-size : sizeOf next (p .regions .count) ≡ size
+  last-size = getD-set-same (p .regions .sizes) (p .regions .count) size 0 (omega (arith, s .sizes, a .room))
 
-  last-count : countOf next (p .regions) ≡ 0
-  last-count = getD-set-same (p .fields) (p .regions) 0 0 (omega (arith, s .fields, a .room))
+  last-count : countOf next (p .regions .count) ≡ 0
+  last-count = getD-set-same (p .regions .fields) (p .regions .count) 0 0 (omega (arith, s .fields, a .room))
 
-  module _ (r : ℕ) (l : r < p .regions) where
+  module _ (r : ℕ) (l : r < p .regions .count) where
     size-before : sizeOf next r ≡ sizeOf p r
-    size-before = getD-set-other (p .sizes) (p .regions) r size 0 (λ e. omega arith)
+    size-before = getD-set-other (p .regions .sizes) (p .regions .count) r size 0 (λ e. omega arith)
 
     count-before : countOf next r ≡ countOf p r
-    count-before = getD-set-other (p .fields) (p .regions) r 0 0 (λ e. omega arith)
+    count-before = getD-set-other (p .regions .fields) (p .regions .count) r 0 0 (λ e. omega arith)
 
   same-field : (i : ℕ) → fieldAt next i ≡ fieldAt p i
   unfolding fieldAt
   same-field i = refl
 
-  size-next : (r : ℕ) → r < p .regions + 1 → SizeRules (sizeOf next r)
+  size-next : (r : ℕ) → r < p .regions .count + 1 → SizeRules (sizeOf next r)
   size-next r l =
-      last-or-before r (p .regions) l
+      last-or-before r (p .regions .count) l
       (λ e. rw (e, last-size) (size-rules size (a .size-ok)))
       (λ m. rw (size-before r m) (old .size r m))
 
-  count-next : (r : ℕ) → r < p .regions + 1 → countOf next r ≤ 16
+  count-next : (r : ℕ) → r < p .regions .count + 1 → countOf next r ≤ 16
   count-next r l =
-      last-or-before r (p .regions) l
+      last-or-before r (p .regions .count) l
       (λ e. rw (e, last-count) (omega arith))
       (λ m. rw (count-before r m) (old .count-most r m))
 
-  field-next : (r k : ℕ) → r < p .regions + 1 → k < countOf next r → FieldRules (p .regions + 1) (sizeOf next r) (fieldAt next (placeOf r k))
+  field-next : (r k : ℕ) → r < p .regions .count + 1 → k < countOf next r → FieldRules (p .regions .count + 1) (sizeOf next r) (fieldAt next (placeOf r k))
   field-next r k l b =
-      last-or-before r (p .regions) l
+      last-or-before r (p .regions .count) l
       (λ e. absurd (omega (arith, rw e at b, last-count)))
       (λ m. rw (size-before r m, same-field) (more-regions _ _ _ (old .field r k m (rw (count-before r m) at b))))
 
-  ascending-next : (r k : ℕ) → r < p .regions + 1 → k + 1 < countOf next r → fieldEnd (fieldAt next (placeOf r k)) ≤ fieldAt next (placeOf r (k + 1)) .offset .0
+  ascending-next : (r k : ℕ) → r < p .regions .count + 1 → k + 1 < countOf next r → fieldEnd (fieldAt next (placeOf r k)) ≤ fieldAt next (placeOf r (k + 1)) .offset .0
   ascending-next r k l b =
-      last-or-before r (p .regions) l
+      last-or-before r (p .regions .count) l
       (λ e. absurd (omega (arith, rw e at b, last-count)))
       (λ m. simp same-field (old .ascending r k m (rw (count-before r m) at b)))
 

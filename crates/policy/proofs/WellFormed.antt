@@ -6,9 +6,10 @@ use native.Mathlib.Numerals.{add-one}
 use native.Mathlib.Omega.{arith}
 use borrow.Author.Tests.{ltb-true, ltb-false, lt-ltb, le-ltb, le-leb, eq-eqb, ne-eqb}
 use lib.Dec.{ltb}
+use Rattle.v8.specs.Signed.{bias}
 use Rattle.v8.specs.Choice.{cond-both}
 use Rattle.v8.specs.Search.{all, all-at, all-each, needed, needed-le, needed-lt, needed-eq, and-both}
-use Rattle.policy.specs.Element.{nought, widthOf, leastOf, mostOf}
+use Rattle.policy.specs.Element.{widthOf, leastOf, mostOf}
 use Rattle.policy.specs.Policy.{sizeOf, countOf, placeOf, fieldAt, fieldEnd, sizeOk, valuesOk, fieldOk, endBefore, fieldFits, fieldAtOk, regionOk, policyOk}
 use Rattle.policy.specs.Laws.{SizeRules, NumberRules, AddressRules, FieldRules, WellFormed, Obeys, Passes}
 use Rattle.policy.specs.declared.Field.{Field}
@@ -42,8 +43,8 @@ address-rules regions f h l =
     let t = le-ltb (f .element) 6 l in
     record {
       target = needed-lt _ (f .target) regions h (λ e. simp (t, e));
-      lo = needed-eq _ (f .lo) nought h (λ e. simp (t, e, and-false));
-      hi = needed-eq _ (f .hi) nought h (λ e. simp (t, e, and-false));
+      lo = needed-eq _ (f .lo) bias h (λ e. simp (t, e, and-false));
+      hi = needed-eq _ (f .hi) bias h (λ e. simp (t, e, and-false));
     }
 
 pub field-rules : (regions size : ℕ) (f : Field) → fieldOk regions size f ≡ true → FieldRules regions size f
@@ -84,9 +85,9 @@ field-passes regions size f s =
     )
 
 module _ (p : Policy) (r k : ℕ) (f : Field) (h : fieldFits p r k f ≡ true) where
-  pub fits-rules : FieldRules (p .regions) (sizeOf p r) f
+  pub fits-rules : FieldRules (p .regions .count) (sizeOf p r) f
   unfolding fieldFits
-  fits-rules = field-rules _ _ f (needed _ (fieldOk (p .regions) (sizeOf p r) f) h (λ e. simp e))
+  fits-rules = field-rules _ _ f (needed _ (fieldOk (p .regions .count) (sizeOf p r) f) h (λ e. simp e))
 
   pub fits-follows : endBefore p r k ≤ f .offset .0
   unfolding fieldFits
@@ -114,19 +115,19 @@ module _ (p : Policy) (r : ℕ) where
     unfolding regionOk fieldAtOk
     fits-at k l = all-at (fieldAtOk p r) (countOf p r) k (needed _ (all (fieldAtOk p r) (countOf p r)) ok (λ e. simp (e, and-false))) l
 
-    rules-at : (k : ℕ) → k < countOf p r → FieldRules (p .regions) (sizeOf p r) (fieldAt p (placeOf r k))
+    rules-at : (k : ℕ) → k < countOf p r → FieldRules (p .regions .count) (sizeOf p r) (fieldAt p (placeOf r k))
     rules-at k l = fits-rules p r k (fieldAt p (placeOf r k)) (fits-at k l)
 
     ascends-at : (k : ℕ) → k + 1 < countOf p r → fieldEnd (fieldAt p (placeOf r k)) ≤ fieldAt p (placeOf r (k + 1)) .offset .0
     ascends-at k l = rw (← later k) (fits-follows p r (k + 1) (fieldAt p (placeOf r (k + 1))) (fits-at (k + 1) l))
 
-region-at : (p : Policy) → policyOk p ≡ true → (r : ℕ) → r < p .regions → regionOk p r ≡ true
+region-at : (p : Policy) → policyOk p ≡ true → (r : ℕ) → r < p .regions .count → regionOk p r ≡ true
 unfolding policyOk
-region-at p ok r l = all-at (regionOk p) (p .regions) r (needed _ (all (regionOk p) (p .regions)) ok (λ e. simp (e, and-false))) l
+region-at p ok r l = all-at (regionOk p) (p .regions .count) r (needed _ (all (regionOk p) (p .regions .count)) ok (λ e. simp (e, and-false))) l
 
-pub regions-at-most : (p : Policy) → policyOk p ≡ true → p .regions ≤ 8
+pub regions-at-most : (p : Policy) → policyOk p ≡ true → p .regions .count ≤ 8
 unfolding policyOk
-regions-at-most p ok = needed-le _ (p .regions) 8 ok (λ e. simp e)
+regions-at-most p ok = needed-le _ (p .regions .count) 8 ok (λ e. simp e)
 
 pub obeys : Obeys
 obeys p ok =
@@ -139,15 +140,15 @@ obeys p ok =
     }
 
 module _ (p : Policy) (w : WellFormed p) where
-  follows : (r k : ℕ) → r < p .regions → k < countOf p r → endBefore p r k ≤ fieldAt p (placeOf r k) .offset .0
+  follows : (r k : ℕ) → r < p .regions .count → k < countOf p r → endBefore p r k ≤ fieldAt p (placeOf r k) .offset .0
   follows r zero l m = rw (none-before p r) zero-le
   follows r (suc k) l m = rw (← add-one k) (rw (later p r k) (w .ascending r k l (rw add-one m)))
 
-  pub passes-at : (r k : ℕ) → r < p .regions → k < countOf p r → fieldAtOk p r k ≡ true
+  pub passes-at : (r k : ℕ) → r < p .regions .count → k < countOf p r → fieldAtOk p r k ≡ true
   unfolding fieldAtOk fieldFits
   passes-at r k l m = and-both _ _ (field-passes _ _ _ (w .field r k l m)) (le-leb _ _ (follows r k l m))
 
-  pub passes-region : (r : ℕ) → r < p .regions → regionOk p r ≡ true
+  pub passes-region : (r : ℕ) → r < p .regions .count → regionOk p r ≡ true
   unfolding regionOk
   passes-region r l =
       and-both _ _ (and-both _ _ (size-passes _ (w .size r l)) (le-leb _ _ (w .count-most r l)))
@@ -155,4 +156,4 @@ module _ (p : Policy) (w : WellFormed p) where
 
 pub passes : Passes
 unfolding policyOk
-passes p w = and-both _ _ (le-leb _ _ (w .regions-most)) (all-each (regionOk p) (p .regions) (λ r l. passes-region p w r l))
+passes p w = and-both _ _ (le-leb _ _ (w .regions-most)) (all-each (regionOk p) (p .regions .count) (λ r l. passes-region p w r l))

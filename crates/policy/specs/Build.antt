@@ -5,8 +5,10 @@ use mathlib.Core.Bool.{cond}
 use lib.Dec.{leb, eqb}
 use lib.ListN.{set, replicate}
 use Rattle.v8.specs.Numbers.{acceptance, full, badSize, badPolicy}
-use Rattle.policy.specs.Policy.{countOf, placeOf, sizeOk, fieldFits, policyOk}
+use Rattle.policy.specs.Policy.{fieldsFrom, valuesFrom, countOf, placeOf, sizeOk, fieldFits, policyOk}
 use Rattle.policy.specs.declared.Field.{Field}
+use Rattle.policy.specs.declared.Fields.{Fields}
+use Rattle.policy.specs.declared.Values.{Values}
 use Rattle.policy.specs.declared.Policy.{Policy}
 use Rattle.policy.specs.declared.Built.{Built}
 
@@ -14,48 +16,47 @@ use Rattle.policy.specs.declared.Built.{Built}
 abbrev pub emptyPolicy : Policy
 emptyPolicy =
     record {
-      regions = 0;
-      sizes = replicate 8 0;
-      fields = replicate 8 0;
-      elements = replicate 128 0;
-      permissions = replicate 128 0;
-      targets = replicate 128 0;
-      offsets = replicate 128 0;
-      counts = replicate 128 0;
-      lows = replicate 128 0;
-      highs = replicate 128 0;
+      regions = record { count = 0; sizes = replicate 8 0; fields = replicate 8 0 };
+      fields = fieldsFrom (replicate 128 0) (replicate 128 0) (replicate 128 0) (replicate 128 0);
+      values = valuesFrom (replicate 128 0) (replicate 128 0) (replicate 128 0);
     }
 
 -- the policy with one region more, without fields
 abbrev pub withRegion : Policy → ℕ → Policy
 withRegion p size =
     record {
-      regions = p .regions + 1;
-      sizes = set (p .sizes) (p .regions) size;
-      fields = set (p .fields) (p .regions) 0;
-      elements = p .elements;
-      permissions = p .permissions;
-      targets = p .targets;
-      offsets = p .offsets;
-      counts = p .counts;
-      lows = p .lows;
-      highs = p .highs;
+      regions =
+          record {
+            count = p .regions .count + 1;
+            sizes = set (p .regions .sizes) (p .regions .count) size;
+            fields = set (p .regions .fields) (p .regions .count) 0;
+          };
+      fields = p .fields;
+      values = p .values;
     }
+
+-- the fields, and the values, with those of f at a place
+abbrev pub fieldsWith : Fields → ℕ → Field → Fields
+fieldsWith fields place f =
+    fieldsFrom (set (fields .elements) place (f .element)) (set (fields .permissions) place (f .permission))
+    (set (fields .offsets) place (f .offset .0)) (set (fields .counts) place (f .count))
+
+abbrev pub valuesWith : Values → ℕ → Field → Values
+valuesWith values place f =
+    valuesFrom (set (values .targets) place (f .target)) (set (values .lows) place (f .lo)) (set (values .highs) place (f .hi))
 
 -- the policy with f written at a place, as the last field of region r
 abbrev pub withFieldAt : Policy → ℕ → ℕ → Field → Policy
 withFieldAt p r place f =
     record {
-      regions = p .regions;
-      sizes = p .sizes;
-      fields = set (p .fields) r (countOf p r + 1);
-      elements = set (p .elements) place (f .element);
-      permissions = set (p .permissions) place (f .permission);
-      targets = set (p .targets) place (f .target);
-      offsets = set (p .offsets) place (f .offset .0);
-      counts = set (p .counts) place (f .count);
-      lows = set (p .lows) place (f .lo);
-      highs = set (p .highs) place (f .hi);
+      regions =
+          record {
+            count = p .regions .count;
+            sizes = p .regions .sizes;
+            fields = set (p .regions .fields) r (countOf p r + 1);
+          };
+      fields = fieldsWith (p .fields) place f;
+      values = valuesWith (p .values) place f;
     }
 
 -- the policy with one field more in region r
@@ -66,7 +67,7 @@ withField p r f = withFieldAt p r (placeOf r (countOf p r)) f
 unfoldable pub regionNumber : Policy → ℕ → ℕ
 regionNumber p size =
     cond (policyOk p)
-    (cond (leb 8 (p .regions)) full
+    (cond (leb 8 (p .regions .count)) full
     (cond (sizeOk size) acceptance
     badSize))
     badPolicy
@@ -75,7 +76,7 @@ regionNumber p size =
 unfoldable pub fieldNumber : Policy → ℕ → Field → ℕ
 fieldNumber p r f =
     cond (policyOk p)
-    (cond (leb (p .regions) r) badPolicy
+    (cond (leb (p .regions .count) r) badPolicy
     (cond (leb 16 (countOf p r)) full
     (cond (fieldFits p r (countOf p r) f) acceptance
     badPolicy)))

@@ -5,11 +5,7 @@ use mathlib.Core.Bool.{cond}
 use mathlib.Core.List.{List, [], _∷_}
 use lib.Dec.{ltb}
 use lib.ListN.{getD}
-use Rattle.v8.specs.Signed.{excess}
-
--- the number 0 in excess form
-abbrev pub nought : ℕ
-nought = excess 0
+use Rattle.v8.specs.Signed.{bias}
 
 -- the widths in bytes by the elements' numbers: "1 unsigned byte, 2 signed byte, 3 unsigned half, 4 signed half, 5 signed word,
 -- 6 address of a region's start, 7 such an address or null"; 0 is no element
@@ -22,11 +18,11 @@ widthOf e = cond (ltb e 8) (getD widths e 0) 1
 
 -- the least numbers by the elements' numbers: unsigned byte, signed byte, unsigned half, signed half, signed word
 abbrev pub leasts : List ℕ
-leasts = nought ∷ nought ∷ (nought - 128) ∷ nought ∷ (nought - 32768) ∷ (nought - 2147483648) ∷ []
+leasts = bias ∷ bias ∷ (bias - 128) ∷ bias ∷ (bias - 32768) ∷ (bias - 2147483648) ∷ []
 
 -- the greatest numbers, likewise
 abbrev pub mosts : List ℕ
-mosts = nought ∷ (nought + 255) ∷ (nought + 127) ∷ (nought + 65535) ∷ (nought + 32767) ∷ (nought + 2147483647) ∷ []
+mosts = bias ∷ (bias + 255) ∷ (bias + 127) ∷ (bias + 65535) ∷ (bias + 32767) ∷ (bias + 2147483647) ∷ []
 
 -- the least number of an element from 1 to 5
 unfoldable pub leastOf : ℕ → ℕ

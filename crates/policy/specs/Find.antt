@@ -6,15 +6,16 @@ use mathlib.Core.List.{List}
 use lib.Dec.{leb, ltb}
 use lib.ListN.{getD}
 use Rattle.v8.specs.Search.{first}
-use Rattle.policy.specs.Policy.{baseOf, placeOf, endOf}
+use Rattle.policy.specs.Policy.{firstPlace, placeOf, elementsEnd}
 use Rattle.policy.specs.declared.Policy.{Policy}
+use Rattle.policy.specs.declared.Search.{Search}
 use Rattle.policy.specs.declared.Found.{Found}
 use Rattle.policy.specs.declared.Found.the-variants.{At, Nothing}
 
 -- the field at a place holds the bytes from offset low up to end, which is not among them
 unfoldable pub holdsIn : List ℕ → List ℕ → List ℕ → ℕ → ℕ → ℕ → Bool
 holdsIn elements offsets counts low end place =
-    leb (getD offsets place 0) low && leb end (endOf (getD elements place 0) (getD offsets place 0) (getD counts place 0))
+    leb (getD offsets place 0) low && leb end (elementsEnd (getD elements place 0) (getD offsets place 0) (getD counts place 0))
 
 -- where the fields of region r end in the lists: 16 places at most are a region's
 unfoldable pub stopOf : List ℕ → ℕ → ℕ
@@ -28,9 +29,13 @@ foundAt place stop = cond (ltb place stop) (At place) Nothing
 unfoldable pub findIn : List ℕ → List ℕ → List ℕ → List ℕ → ℕ → ℕ → ℕ → Found
 findIn fields elements offsets counts r low end =
     cond (ltb r 8)
-    (foundAt (first (holdsIn elements offsets counts low end) (baseOf r) (stopOf fields r)) (stopOf fields r))
+    (foundAt (first (holdsIn elements offsets counts low end) (firstPlace r) (stopOf fields r)) (stopOf fields r))
     Nothing
 
--- the search in a policy
+-- what the search gives
+abbrev pub searchIn : List ℕ → List ℕ → List ℕ → List ℕ → ℕ → ℕ → ℕ → Search
+searchIn fields elements offsets counts r low end = record { found = findIn fields elements offsets counts r low end }
+
+-- the field found in a policy
 abbrev pub findField : Policy → ℕ → ℕ → ℕ → Found
-findField p r low end = findIn (p .fields) (p .elements) (p .offsets) (p .counts) r low end
+findField p r low end = findIn (p .regions .fields) (p .fields .elements) (p .fields .offsets) (p .fields .counts) r low end

@@ -4,8 +4,9 @@ use Prim.Native.Nat.{ℕ, _+_, _%_, _≤_, _<_}
 use mathlib.Core.Path.{_≡_}
 use mathlib.Core.Bool.{true}
 use lib.ListN.{length}
-use Rattle.policy.specs.Element.{nought, widthOf, leastOf, mostOf}
+use Rattle.policy.specs.Element.{widthOf, leastOf, mostOf}
 use Rattle.policy.specs.Policy.{sizeOf, countOf, placeOf, fieldAt, fieldEnd, sizeOk, fieldFits, policyOk}
+use Rattle.v8.specs.Signed.{bias}
 use Rattle.v8.specs.Numbers.{acceptance}
 use Rattle.policy.specs.Build.{emptyPolicy, regionNumber, fieldNumber, addRegionOf, addFieldOf}
 use Rattle.policy.specs.Find.{findField}
@@ -34,8 +35,8 @@ pub record NumberRules (f : Field) : Type 0 where
 -- a field of the elements 6 and 7: its target is a region
 pub record AddressRules (regions : ℕ) (f : Field) : Type 0 where
   pub target : f .target < regions
-  pub lo : f .lo ≡ nought
-  pub hi : f .hi ≡ nought
+  pub lo : f .lo ≡ bias
+  pub hi : f .hi ≡ bias
 
 -- a field of a region of this size
 pub record FieldRules (regions size : ℕ) (f : Field) : Type 0 where
@@ -51,11 +52,11 @@ pub record FieldRules (regions size : ℕ) (f : Field) : Type 0 where
 
 -- what the rules say of every region and every field
 pub record WellFormed (p : Policy) : Type 0 where
-  pub regions-most : p .regions ≤ 8
-  pub size : (r : ℕ) → r < p .regions → SizeRules (sizeOf p r)
-  pub count-most : (r : ℕ) → r < p .regions → countOf p r ≤ 16
-  pub field : (r k : ℕ) → r < p .regions → k < countOf p r → FieldRules (p .regions) (sizeOf p r) (fieldAt p (placeOf r k))
-  pub ascending : (r k : ℕ) → r < p .regions → k + 1 < countOf p r → fieldEnd (fieldAt p (placeOf r k)) ≤ fieldAt p (placeOf r (k + 1)) .offset .0
+  pub regions-most : p .regions .count ≤ 8
+  pub size : (r : ℕ) → r < p .regions .count → SizeRules (sizeOf p r)
+  pub count-most : (r : ℕ) → r < p .regions .count → countOf p r ≤ 16
+  pub field : (r k : ℕ) → r < p .regions .count → k < countOf p r → FieldRules (p .regions .count) (sizeOf p r) (fieldAt p (placeOf r k))
+  pub ascending : (r k : ℕ) → r < p .regions .count → k + 1 < countOf p r → fieldEnd (fieldAt p (placeOf r k)) ≤ fieldAt p (placeOf r (k + 1)) .offset .0
 
 -- The test passes the policies that obey the rules ..
 abbrev pub Obeys : Type 0
@@ -72,13 +73,13 @@ InField f b = (f .offset .0 ≤ b) × (b < fieldEnd f)
 -- A field's bytes lie in its region.
 abbrev pub InRegion : Type 0
 InRegion =
-    (p : Policy) → WellFormed p → (r k b : ℕ) → r < p .regions → k < countOf p r → InField (fieldAt p (placeOf r k)) b
+    (p : Policy) → WellFormed p → (r k b : ℕ) → r < p .regions .count → k < countOf p r → InField (fieldAt p (placeOf r k)) b
     → b < sizeOf p r
 
 -- One byte lies in at most one field of a region.
 abbrev pub InOneField : Type 0
 InOneField =
-    (p : Policy) → WellFormed p → (r k j b : ℕ) → r < p .regions → k < countOf p r → j < countOf p r
+    (p : Policy) → WellFormed p → (r k j b : ℕ) → r < p .regions .count → k < countOf p r → j < countOf p r
     → InField (fieldAt p (placeOf r k)) b → InField (fieldAt p (placeOf r j)) b → k ≡ j
 
 -- the field holds the bytes from low up to end, which is not among them
@@ -88,7 +89,7 @@ Holds f low end = (f .offset .0 ≤ low) × (end ≤ fieldEnd f)
 -- Some bytes are held by at most one field of a region.
 abbrev pub HeldByOne : Type 0
 HeldByOne =
-    (p : Policy) → WellFormed p → (r k j low end : ℕ) → r < p .regions → k < countOf p r → j < countOf p r → low < end
+    (p : Policy) → WellFormed p → (r k j low end : ℕ) → r < p .regions .count → k < countOf p r → j < countOf p r → low < end
     → Holds (fieldAt p (placeOf r k)) low end → Holds (fieldAt p (placeOf r j)) low end → k ≡ j
 
 -- the place that a search in region r found
@@ -114,19 +115,19 @@ NoneHolds =
 -- A field that holds some bytes is the one found.
 abbrev pub Finds : Type 0
 Finds =
-    (p : Policy) → WellFormed p → (r k low end : ℕ) → r < p .regions → k < countOf p r → low < end
+    (p : Policy) → WellFormed p → (r k low end : ℕ) → r < p .regions .count → k < countOf p r → low < end
     → Holds (fieldAt p (placeOf r k)) low end → findField p r low end ≡ At (placeOf r k)
 
 -- what an accepted region obeys
 pub record RegionAccepted (p : Policy) (size : ℕ) : Type 0 where
   pub ok : policyOk p ≡ true
-  pub room : p .regions < 8
+  pub room : p .regions .count < 8
   pub size-ok : sizeOk size ≡ true
 
 -- what an accepted field obeys
 pub record FieldAccepted (p : Policy) (r : ℕ) (f : Field) : Type 0 where
   pub ok : policyOk p ≡ true
-  pub region : r < p .regions
+  pub region : r < p .regions .count
   pub room : countOf p r < 16
   pub fits : fieldFits p r (countOf p r) f ≡ true
 
@@ -140,15 +141,15 @@ AcceptsField = (p : Policy) (r : ℕ) (f : Field) → fieldNumber p r f ≡ acce
 
 -- the lists are as long as the arrays that they stand for
 pub record Sized (p : Policy) : Type 0 where
-  pub sizes : length (p .sizes) ≡ 8
-  pub fields : length (p .fields) ≡ 8
-  pub elements : length (p .elements) ≡ 128
-  pub permissions : length (p .permissions) ≡ 128
-  pub targets : length (p .targets) ≡ 128
-  pub offsets : length (p .offsets) ≡ 128
-  pub counts : length (p .counts) ≡ 128
-  pub lows : length (p .lows) ≡ 128
-  pub highs : length (p .highs) ≡ 128
+  pub sizes : length (p .regions .sizes) ≡ 8
+  pub fields : length (p .regions .fields) ≡ 8
+  pub elements : length (p .fields .elements) ≡ 128
+  pub permissions : length (p .fields .permissions) ≡ 128
+  pub targets : length (p .values .targets) ≡ 128
+  pub offsets : length (p .fields .offsets) ≡ 128
+  pub counts : length (p .fields .counts) ≡ 128
+  pub lows : length (p .values .lows) ≡ 128
+  pub highs : length (p .values .highs) ≡ 128
 
 -- a policy of arrays that obeys the rules
 pub record Sound (p : Policy) : Type 0 where

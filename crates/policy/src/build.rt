@@ -2,11 +2,15 @@
 // behind their first test, for a policy that is known to obey the rules.
 ghost use mathlib.Core.Path.{_≡_};
 ghost use mathlib.Core.Bool.{true};
+ghost use Prim.Native.Nat.{_<_};
 ghost use Rattle.policy.specs.Policy.{policyOk};
-ghost use Rattle.policy.specs.Build.{emptyPolicy, addRegionOf, addFieldOf};
+ghost use Rattle.policy.specs.Build.{emptyPolicy, fieldsWith, valuesWith, addRegionOf, addFieldOf};
 use crate::Built;
 use crate::Field;
+use crate::Fields;
 use crate::Policy;
+use crate::Regions;
+use crate::Values;
 use crate::form::end_before;
 use crate::form::field_follows;
 use crate::form::size_ok;
@@ -15,22 +19,51 @@ use v8::numbers::BAD_POLICY;
 use v8::numbers::BAD_SIZE;
 use v8::numbers::FULL;
 
+// The fields with f at a place.
+fn fields_with(mut fields: Fields, place: usize, f: Field) -> Fields
+    requires { ⌜ place < 128 ⌝ }
+    ensures { λ r. ⌜ r ≡ fieldsWith fields place f ⌝ }
+{
+    fields.elements[place] = f.element;
+    fields.permissions[place] = f.permission;
+    fields.offsets[place] = f.offset.0;
+    fields.counts[place] = f.count;
+    fields
+}
+
+// The values with those of f at a place.
+fn values_with(mut values: Values, place: usize, f: Field) -> Values
+    requires { ⌜ place < 128 ⌝ }
+    ensures { λ r. ⌜ r ≡ valuesWith values place f ⌝ }
+{
+    values.targets[place] = f.target;
+    values.lows[place] = f.lo;
+    values.highs[place] = f.hi;
+    values
+}
+
 impl Policy {
     // The policy with no regions.
     pub fn empty() -> Policy
         ensures { λ r. ⌜ r ≡ emptyPolicy ⌝ }
     {
         Policy {
-            regions: 0,
-            sizes: [0; 8],
-            fields: [0; 8],
-            elements: [0; 128],
-            permissions: [0; 128],
-            targets: [0; 128],
-            offsets: [0; 128],
-            counts: [0; 128],
-            lows: [0; 128],
-            highs: [0; 128],
+            regions: Regions {
+                count: 0,
+                sizes: [0; 8],
+                fields: [0; 8],
+            },
+            fields: Fields {
+                elements: [0; 128],
+                permissions: [0; 128],
+                offsets: [0; 128],
+                counts: [0; 128],
+            },
+            values: Values {
+                targets: [0; 128],
+                lows: [0; 128],
+                highs: [0; 128],
+            },
         }
     }
 
@@ -40,7 +73,7 @@ impl Policy {
         requires { ⌜ policyOk self ≡ true ⌝ }
         ensures { λ r. ⌜ r ≡ addRegionOf self size ⌝ }
     {
-        if 8 <= self.regions {
+        if 8 <= self.regions.count {
             return Built {
                 policy: self,
                 number: FULL,
@@ -52,10 +85,12 @@ impl Policy {
                 number: BAD_SIZE,
             };
         }
-        let r = self.regions as usize;
-        self.sizes[r] = size;
-        self.fields[r] = 0;
-        self.regions += 1;
+        let mut regions = self.regions;
+        let r = regions.count as usize;
+        regions.sizes[r] = size;
+        regions.fields[r] = 0;
+        regions.count += 1;
+        self.regions = regions;
         Built {
             policy: self,
             number: ACCEPTED,
@@ -68,14 +103,15 @@ impl Policy {
         requires { ⌜ policyOk self ≡ true ⌝ }
         ensures { λ r. ⌜ r ≡ addFieldOf self region f ⌝ }
     {
-        if self.regions <= region {
+        if self.regions.count <= region {
             return Built {
                 policy: self,
                 number: BAD_POLICY,
             };
         }
         let r = region as usize;
-        let count = self.fields[r];
+        let mut regions = self.regions;
+        let count = regions.fields[r];
         if 16 <= count {
             return Built {
                 policy: self,
@@ -83,27 +119,23 @@ impl Policy {
             };
         }
         let end = end_before(
-            &self.elements,
-            &self.offsets,
-            &self.counts,
+            &self.fields.elements,
+            &self.fields.offsets,
+            &self.fields.counts,
             r,
             count as usize,
         );
-        if !field_follows(self.regions, self.sizes[r], end, f) {
+        if !field_follows(regions.count, regions.sizes[r], end, f) {
             return Built {
                 policy: self,
                 number: BAD_POLICY,
             };
         }
         let place = 16 * r + count as usize;
-        self.elements[place] = f.element;
-        self.permissions[place] = f.permission;
-        self.targets[place] = f.target;
-        self.offsets[place] = f.offset.0;
-        self.counts[place] = f.count;
-        self.lows[place] = f.lo;
-        self.highs[place] = f.hi;
-        self.fields[r] = count + 1;
+        self.fields = fields_with(self.fields, place, f);
+        self.values = values_with(self.values, place, f);
+        regions.fields[r] = count + 1;
+        self.regions = regions;
         Built {
             policy: self,
             number: ACCEPTED,

@@ -3,8 +3,6 @@ ghost use mathlib.Core.Path.{_≡_};
 ghost use Prim.Native.Nat.{_≤_};
 ghost use Rattle.policy.specs.Element.{widthOf};
 
-// The number 0 in excess form.
-pub const NOUGHT: u32 = 2147483648;
 // The width in bytes of each element, by its number; 0 is no element.
 pub const WIDTHS: [u8; 8] = [1, 1, 1, 2, 2, 4, 4, 4];
 // The least number of each of the elements 1 to 5, in excess form.

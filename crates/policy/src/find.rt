@@ -1,8 +1,9 @@
 // The search for the field of a region that holds some bytes (specs/Find.antt).
 ghost use mathlib.Core.Path.{_≡_};
-ghost use Rattle.policy.specs.Find.{findIn};
+ghost use Rattle.policy.specs.Find.{searchIn};
 use crate::Found;
-use crate::form::end_of;
+use crate::Search;
+use crate::form::elements_end;
 use v8::ByteOffset;
 
 // The lowest field of a region that holds the bytes from low up to end, which is not among them;
@@ -15,11 +16,13 @@ pub fn find_in<'a>(
     region: u8,
     low: ByteOffset,
     end: ByteOffset,
-) -> Found
-    ensures { λ r. ⌜ r ≡ findIn (now (fields .entry)) (now (elements .entry)) (now (offsets .entry)) (now (counts .entry)) region (low .0) (end .0) ⌝ }
+) -> Search
+    ensures { λ r. ⌜ r ≡ searchIn (now (fields .entry)) (now (elements .entry)) (now (offsets .entry)) (now (counts .entry)) region (low .0) (end .0) ⌝ }
 {
     if 8 <= region {
-        return Found::Nothing;
+        return Search {
+            found: Found::Nothing,
+        };
     }
     let r = region as usize;
     let count = fields[r];
@@ -30,11 +33,15 @@ pub fn find_in<'a>(
     let mut place = 16 * r;
     while place < stop {
         let offset = offsets[place];
-        let after = end_of(elements[place], offset, counts[place]);
+        let after = elements_end(elements[place], offset, counts[place]);
         if (offset <= low.0) & (end.0 as u64 <= after) {
-            return Found::At(place);
+            return Search {
+                found: Found::At(place),
+            };
         }
         place += 1;
     }
-    Found::Nothing
+    Search {
+        found: Found::Nothing,
+    }
 }

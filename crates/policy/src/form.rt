@@ -1,18 +1,18 @@
 // The rules that a policy obeys (specs/Policy.antt).
 ghost use mathlib.Core.Path.{_≡_};
 ghost use Prim.Native.Nat.{_<_, _≤_};
-ghost use Rattle.policy.specs.Policy.{endOf, sizeOk, valuesOk, fieldOk, fieldIn, endIn, fieldFollows, regionOk, policyOk};
+ghost use Rattle.policy.specs.Policy.{elementsEnd, sizeOk, valuesOk, fieldOk, fieldsFrom, valuesFrom, fieldIn, endIn, fieldFollows, regionOk, policyOk};
 use crate::Field;
 use crate::Policy;
 use crate::element::LEASTS;
 use crate::element::MOSTS;
-use crate::element::NOUGHT;
 use crate::element::width_of;
 use v8::ByteOffset;
+use v8::signed::BIAS;
 
 // The first byte after `count` elements that begin at an offset.
-pub fn end_of(element: u8, offset: u32, count: u16) -> u64
-    ensures { λ r. ⌜ r ≡ endOf element offset count ⌝ }
+pub fn elements_end(element: u8, offset: u32, count: u16) -> u64
+    ensures { λ r. ⌜ r ≡ elementsEnd element offset count ⌝ }
 {
     let width = width_of(element);
     offset as u64 + width as u64 * count as u64
@@ -36,7 +36,7 @@ fn values_ok(regions: u8, f: Field) -> bool
         let most = MOSTS[i];
         return (least <= f.lo) & (f.lo <= f.hi) & (f.hi <= most) & (f.target == 0);
     }
-    (f.target < regions) & (f.lo == NOUGHT) & (f.hi == NOUGHT)
+    (f.target < regions) & (f.lo == BIAS) & (f.hi == BIAS)
 }
 
 // Whether a field obeys the rules that concern it alone, in a region of this size.
@@ -48,7 +48,7 @@ fn field_ok(regions: u8, size: u16, f: Field) -> bool
     let offset = f.offset.0;
     let count = f.count;
     let width = width_of(element);
-    let end = end_of(element, offset, count);
+    let end = elements_end(element, offset, count);
     let values = values_ok(regions, f);
     (1 <= element)
         & (element <= 7)
@@ -73,15 +73,15 @@ pub fn field_follows(regions: u8, size: u16, end: u64, f: Field) -> bool
 pub fn field_in<'a>(
     elements: &'a [u8; 128],
     permissions: &'a [u8; 128],
-    targets: &'a [u8; 128],
     offsets: &'a [u32; 128],
     counts: &'a [u16; 128],
+    targets: &'a [u8; 128],
     lows: &'a [u32; 128],
     highs: &'a [u32; 128],
     place: usize,
 ) -> Field
     requires { ⌜ place < 128 ⌝ }
-    ensures { λ r. ⌜ r ≡ fieldIn (now (elements .entry)) (now (permissions .entry)) (now (targets .entry)) (now (offsets .entry)) (now (counts .entry)) (now (lows .entry)) (now (highs .entry)) place ⌝ }
+    ensures { λ r. ⌜ r ≡ fieldIn (fieldsFrom (now (elements .entry)) (now (permissions .entry)) (now (offsets .entry)) (now (counts .entry))) (valuesFrom (now (targets .entry)) (now (lows .entry)) (now (highs .entry))) place ⌝ }
 {
     let element = elements[place];
     let permission = permissions[place];
@@ -116,7 +116,7 @@ pub fn end_before<'a>(
         return 0;
     }
     let last = 16 * r + (k - 1);
-    end_of(elements[last], offsets[last], counts[last])
+    elements_end(elements[last], offsets[last], counts[last])
 }
 
 // Whether region r obeys every rule.
@@ -125,8 +125,8 @@ fn region_ok(p: Policy, r: usize) -> bool
     ensures { λ b. ⌜ b ≡ regionOk p r ⌝ }
 {
     let regions = p.regions;
-    let size = p.sizes[r];
-    let count = p.fields[r] as usize;
+    let size = regions.sizes[r];
+    let count = regions.fields[r] as usize;
     if !size_ok(size) {
         return false;
     }
@@ -137,19 +137,19 @@ fn region_ok(p: Policy, r: usize) -> bool
     let mut end: u64 = 0;
     while k < count {
         let f = field_in(
-            &p.elements,
-            &p.permissions,
-            &p.targets,
-            &p.offsets,
-            &p.counts,
-            &p.lows,
-            &p.highs,
+            &p.fields.elements,
+            &p.fields.permissions,
+            &p.fields.offsets,
+            &p.fields.counts,
+            &p.values.targets,
+            &p.values.lows,
+            &p.values.highs,
             16 * r + k,
         );
-        if !field_follows(regions, size, end, f) {
+        if !field_follows(regions.count, size, end, f) {
             return false;
         }
-        end = end_of(f.element, f.offset.0, f.count);
+        end = elements_end(f.element, f.offset.0, f.count);
         k += 1;
     }
     true
@@ -160,7 +160,7 @@ impl Policy {
     pub fn well_formed(self) -> bool
         ensures { λ b. ⌜ b ≡ policyOk self ⌝ }
     {
-        let regions = self.regions as usize;
+        let regions = self.regions.count as usize;
         if 8 < regions {
             return false;
         }

@@ -25,20 +25,34 @@ pub struct Field {
     pub hi: u32,
 }
 
-// A policy of at most 8 regions of at most 16 fields: how many regions it has, and for each of them
-// its size in bytes and how many fields it has. Field k of region r stands at place 16 r + k
-// of the seven arrays of fields, offsets in bytes. Places that are not in use mean nothing.
-pub struct Policy {
-    pub regions: u8,
+// The regions of a policy: how many there are, and of each its size in bytes and how many fields it has.
+pub struct Regions {
+    pub count: u8,
     pub sizes: [u16; 8],
     pub fields: [u8; 8],
+}
+
+// Where fields lie and how they may be accessed, by place: offsets are in bytes, counts in elements.
+pub struct Fields {
     pub elements: [u8; 128],
     pub permissions: [u8; 128],
-    pub targets: [u8; 128],
     pub offsets: [u32; 128],
     pub counts: [u16; 128],
+}
+
+// What the elements of fields hold, by place.
+pub struct Values {
+    pub targets: [u8; 128],
     pub lows: [u32; 128],
     pub highs: [u32; 128],
+}
+
+// A policy of at most 8 regions of at most 16 fields, in parts: field k of region r stands at place
+// 16 r + k of each array of fields and values. Places that are not in use mean nothing.
+pub struct Policy {
+    pub regions: Regions,
+    pub fields: Fields,
+    pub values: Values,
 }
 
 // What an add gives: the next policy and 0, or the policy given and the number of the refusal.
@@ -47,8 +61,13 @@ pub struct Built {
     pub number: u8,
 }
 
-// What a search gives: the place of the field found, or that no field holds the bytes.
+// What is found: the place of the field, or that no field holds the bytes.
 pub enum Found {
     At(usize),
     Nothing,
+}
+
+// What a search gives.
+pub struct Search {
+    pub found: Found,
 }

@@ -22,7 +22,7 @@ module _ (h : Host) (e : Entry) (v : ℕ) where
         number = λ _. m;
         address = λ q. one-kind (e .kind) 1 2 k q (λ x. omega arith);
         start = λ q. one-kind (e .kind) 1 3 k q (λ x. omega arith);
-        link = λ q. one-kind (e .kind) 1 4 k q (λ x. omega arith);
+        return = λ q. one-kind (e .kind) 1 4 k q (λ x. omega arith);
       }
 
   pub holds-address : isAddress e ≡ true → Offset (baseOf h (e .region)) (e .set) v → Holds h e v
@@ -31,7 +31,7 @@ module _ (h : Host) (e : Entry) (v : ℕ) where
         number = λ q. one-kind (e .kind) 2 1 k q (λ x. omega arith);
         address = λ _. m;
         start = λ q. one-kind (e .kind) 2 3 k q (λ x. omega arith);
-        link = λ q. one-kind (e .kind) 2 4 k q (λ x. omega arith);
+        return = λ q. one-kind (e .kind) 2 4 k q (λ x. omega arith);
       }
 
   pub holds-start : isStartOrNull e ≡ true → (v ≡ 0) ⊎ (v ≡ baseOf h (e .region)) → Holds h e v
@@ -40,16 +40,16 @@ module _ (h : Host) (e : Entry) (v : ℕ) where
         number = λ q. one-kind (e .kind) 3 1 k q (λ x. omega arith);
         address = λ q. one-kind (e .kind) 3 2 k q (λ x. omega arith);
         start = λ _. m;
-        link = λ q. one-kind (e .kind) 3 4 k q (λ x. omega arith);
+        return = λ q. one-kind (e .kind) 3 4 k q (λ x. omega arith);
       }
 
-  pub holds-link : isReturn e ≡ true → v ≡ h .returns → Holds h e v
-  holds-link k m =
+  pub holds-return : isReturn e ≡ true → v ≡ h .returns → Holds h e v
+  holds-return k m =
       record {
         number = λ q. one-kind (e .kind) 4 1 k q (λ x. omega arith);
         address = λ q. one-kind (e .kind) 4 2 k q (λ x. omega arith);
         start = λ q. one-kind (e .kind) 4 3 k q (λ x. omega arith);
-        link = λ _. m;
+        return = λ _. m;
       }
 
 -- the rules of an entry of each kind
@@ -90,8 +90,8 @@ module _ (regions : ℕ) (sizes : List ℕ) (e : Entry) where
         start = λ q. one-kind (e .kind) 0 3 k q (λ x. omega arith);
       }
 
-  pub link-rules : isReturn e ≡ true → EntryRules regions sizes e
-  link-rules k =
+  pub return-rules : isReturn e ≡ true → EntryRules regions sizes e
+  return-rules k =
       record {
         kind = omega (arith, eqb-true (e .kind) 4 k);
         number = λ q. one-kind (e .kind) 4 1 k q (λ x. omega arith);

@@ -4,7 +4,7 @@ use mathlib.Core.Path.{_≡_}
 use borrow.Author.Tests.{ne-eqb}
 use lib.Dec.{eqb}
 use Rattle.sets.specs.Sets.{fitsSet}
-use Rattle.rows.specs.Entry.{isNumber, isAddress, isStartOrNull, isReturn, isZero, isStartOf, fits}
+use Rattle.rows.specs.Entry.{isNumber, isAddress, isStartOrNull, isReturn, isZero, isRegionStart, fits}
 use Rattle.rows.specs.declared.Entry.{Entry}
 
 module _ (a b : Entry) where
@@ -20,7 +20,7 @@ module _ (a b : Entry) where
   unfolding fits
   fits-address e = simp (e, and-true, and-false, or-false)
 
-  pub fits-start-or-null : b .kind ≡ 3 → fits a b ≡ (isStartOrNull a && eqb (a .region) (b .region) || (isZero a || isStartOf (b .region) a))
+  pub fits-start-or-null : b .kind ≡ 3 → fits a b ≡ (isStartOrNull a && eqb (a .region) (b .region) || (isZero a || isRegionStart (b .region) a))
   unfolding fits
   fits-start-or-null e = simp (e, and-true, and-false, or-false)
 

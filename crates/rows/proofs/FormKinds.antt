@@ -5,9 +5,10 @@ use mathlib.Core.List.{List}
 use mathlib.Core.Path.{_≡_}
 use borrow.Author.Tests.{ne-eqb}
 use lib.Dec.{leb, ltb, eqb}
-use Rattle.sets.specs.Sets.{nought, setOk}
+use Rattle.sets.specs.Sets.{setOk}
 use Rattle.rows.specs.Entry.{isUnset, isReturn, isBlank, sizeIn, entryOk}
 use Rattle.rows.specs.declared.Entry.{Entry}
+use Rattle.v8.specs.Signed.{bias}
 
 module _ (regions : ℕ) (sizes : List ℕ) (e : Entry) where
   pub ok-number : e .kind ≡ 1 → entryOk regions sizes e ≡ (eqb (e .region) 0 && setOk (e .set))
@@ -17,7 +18,7 @@ module _ (regions : ℕ) (sizes : List ℕ) (e : Entry) where
   pub ok-address :
       e .kind ≡ 2
       → entryOk regions sizes e
-      ≡ (ltb (e .region) regions && setOk (e .set) && leb nought (e .set .lo) && leb (e .set .hi) (nought + sizeIn sizes (e .region)))
+      ≡ (ltb (e .region) regions && setOk (e .set) && leb bias (e .set .lo) && leb (e .set .hi) (bias + sizeIn sizes (e .region)))
   unfolding entryOk
   ok-address k = rw k
 

@@ -9,19 +9,20 @@ use lib.Dec.{T, leb, ltb, eqb}
 use lib.ListN.{getD}
 use native.Mathlib.Nat.{mod-one}
 use borrow.Author.Tests.{ltb-true, ltb-false, leb-true, lt-ltb, not-false}
+use Rattle.v8.specs.Signed.{bias}
 use Rattle.v8.specs.Search.{first-least, needed}
 use Rattle.v8.specs.Table.{at}
 use Rattle.v8.specs.Choice.{cond-went, cond-both}
 use Rattle.policy.specs.Element.{mosts, mostOf}
-use Rattle.sets.specs.Sets.{nought, setOk, s1, numbers, ended}
+use Rattle.sets.specs.Sets.{setOk, s1, numbers, ended}
 use Rattle.sets.proofs.Formed.{obeys}
 use Rattle.sets.proofs.Ends.{ended-formed, single-formed}
 use Rattle.rows.specs.declared.Entry.{Entry}
-use Rattle.rows.specs.Entry.{noEntry, isUnset, isNumber, isAddress, isStartOrNull, isReturn, isBlank, numberIn, startOf, startOrNull, sizeIn, entryOk, fieldEntry}
+use Rattle.rows.specs.Entry.{noEntry, isUnset, isNumber, isAddress, isStartOrNull, isReturn, isBlank, numberIn, regionStart, startOrNull, sizeIn, entryOk, fieldEntry}
 use Rattle.rows.specs.Row.{entryAt, entryOf, entryPlace, noteOf, rowOf, formedAt, brokenAt, formFault, places}
 use Rattle.rows.specs.Laws.{EntryRules, EntryObeys, RowObeys, FieldEntryObeys}
 use Rattle.rows.proofs.Tests.{or-went, and-went}
-use Rattle.rows.proofs.ByKind.{number-rules, address-rules, start-rules, unset-rules, link-rules}
+use Rattle.rows.proofs.ByKind.{number-rules, address-rules, start-rules, unset-rules, return-rules}
 use Rattle.rows.proofs.ReadRows.{entry-read}
 use Rattle.rows.proofs.RowFitting.{beyond}
 
@@ -30,7 +31,7 @@ module _ (regions : ℕ) (sizes : List ℕ) (e : Entry) where
   numberForm = eqb (e .region) 0 && setOk (e .set)
 
   abbrev addressForm : Bool
-  addressForm = ltb (e .region) regions && setOk (e .set) && leb nought (e .set .lo) && leb (e .set .hi) (nought + sizeIn sizes (e .region))
+  addressForm = ltb (e .region) regions && setOk (e .set) && leb bias (e .set .lo) && leb (e .set .hi) (bias + sizeIn sizes (e .region))
 
   abbrev startForm : Bool
   startForm = ltb (e .region) regions && isBlank (e .set)
@@ -43,15 +44,15 @@ module _ (regions : ℕ) (sizes : List ℕ) (e : Entry) where
 
   as-address : e .set .hi < 4294967296 → isAddress e ≡ true → addressForm ≡ true → EntryRules regions sizes e
   as-address top k f =
-      let p = and-went (ltb (e .region) regions && setOk (e .set) && leb nought (e .set .lo)) (leb (e .set .hi) (nought + sizeIn sizes (e .region))) f in
-      let q = and-went (ltb (e .region) regions && setOk (e .set)) (leb nought (e .set .lo)) (p .0) in
+      let p = and-went (ltb (e .region) regions && setOk (e .set) && leb bias (e .set .lo)) (leb (e .set .hi) (bias + sizeIn sizes (e .region))) f in
+      let q = and-went (ltb (e .region) regions && setOk (e .set)) (leb bias (e .set .lo)) (p .0) in
       let r = and-went (ltb (e .region) regions) (setOk (e .set)) (q .0) in
       address-rules regions sizes e k
       (record {
         region = ltb-true (e .region) regions (r .0);
         set = obeys (e .set) top (r .1);
-        low = leb-true nought (e .set .lo) (q .1);
-        high = leb-true (e .set .hi) (nought + sizeIn sizes (e .region)) (p .1);
+        low = leb-true bias (e .set .lo) (q .1);
+        high = leb-true (e .set .hi) (bias + sizeIn sizes (e .region)) (p .1);
       })
 
   as-start : isStartOrNull e ≡ true → startForm ≡ true → EntryRules regions sizes e
@@ -61,7 +62,7 @@ module _ (regions : ℕ) (sizes : List ℕ) (e : Entry) where
   as-other f =
       let p = and-went ((isUnset e || isReturn e) && eqb (e .region) 0) (isBlank (e .set)) f in
       let q = and-went (isUnset e || isReturn e) (eqb (e .region) 0) (p .0) in
-      or-went (isUnset e) (isReturn e) (q .0) (unset-rules regions sizes e) (link-rules regions sizes e)
+      or-went (isUnset e) (isReturn e) (q .0) (unset-rules regions sizes e) (return-rules regions sizes e)
 
 pub entry-obeys : EntryObeys
 unfolding entryOk
@@ -128,8 +129,8 @@ field-entry-obeys regions size sizes f w =
     (ended-formed 1 (f .lo) (f .hi) s1 (n .order) (lower (n .most) (most-top (f .element) (omega (arith, ltb-true (f .element) 6 t)))) (mod-one (f .hi - f .lo))))
     (λ t. let a = w .address (ltb-false (f .element) 6 t) in
     cond-both (EntryRules regions sizes) (eqb (f .element) 6)
-    (λ _. address-rules regions sizes (startOf (f .target)) refl
-    (record { region = a .target; set = single-formed nought (omega arith); low = omega arith; high = omega arith }))
+    (λ _. address-rules regions sizes (regionStart (f .target)) refl
+    (record { region = a .target; set = single-formed bias (omega arith); low = omega arith; high = omega arith }))
     (λ _. start-rules regions sizes (startOrNull (f .target)) refl (a .target)))
   where
     lower : {a b : ℕ} → a ≤ b → b < 4294967296 → a < 4294967296

@@ -11,10 +11,10 @@ use Rattle.sets.specs.Sets.{fitsSet, Step, SetRules}
 use Rattle.sets.proofs.Steps.{by-step}
 use Rattle.sets.proofs.Fits.{fits-holds, holds-fits}
 use Rattle.rows.specs.declared.Entry.{Entry}
-use Rattle.rows.specs.Entry.{isUnset, isNumber, isAddress, isStartOrNull, isReturn, isZero, isStartOf, onlyNought, fits}
+use Rattle.rows.specs.Entry.{isUnset, isNumber, isAddress, isStartOrNull, isReturn, isZero, isRegionStart, onlyZero, fits}
 use Rattle.rows.specs.Laws.{FitsSelf, FitsOn}
 use Rattle.rows.proofs.Tests.{and-went, true-or, or-true, one-kind}
-use Rattle.rows.proofs.Fitting.{fits-went, numbersFit, addressesFit, startsFit, linksFit, nullFits, start-address, only-nought}
+use Rattle.rows.proofs.Fitting.{fits-went, numbersFit, addressesFit, startsFit, linksFit, nullFits, start-address, only-bias}
 
 module _ (a b : Entry) where
   fit-unset : isUnset b ≡ true → fits a b ≡ true
@@ -45,13 +45,13 @@ module _ (a b : Entry) where
       (true-or (isUnset b || numbersFit a b || addressesFit a b || startsFit a b) (linksFit a b)
       (or-true (isUnset b || numbersFit a b || addressesFit a b) (startsFit a b) (rw (p, q, eq-eqb (a .region) (b .region) r))))
 
-  fit-links : isReturn a ≡ true → isReturn b ≡ true → fits a b ≡ true
+  fit-returns-both : isReturn a ≡ true → isReturn b ≡ true → fits a b ≡ true
   unfolding fits
-  fit-links p q =
+  fit-returns-both p q =
       true-or (isUnset b || numbersFit a b || addressesFit a b || startsFit a b || linksFit a b) (nullFits a b)
       (or-true (isUnset b || numbersFit a b || addressesFit a b || startsFit a b) (linksFit a b) (rw (p, q)))
 
-  fit-null : isStartOrNull b ≡ true → isZero a || isStartOf (b .region) a ≡ true → fits a b ≡ true
+  fit-null : isStartOrNull b ≡ true → isZero a || isRegionStart (b .region) a ≡ true → fits a b ≡ true
   unfolding fits
   fit-null q z = or-true (isUnset b || numbersFit a b || addressesFit a b || startsFit a b || linksFit a b) (nullFits a b) (rw (q, z))
 
@@ -75,7 +75,7 @@ fits-self regions sizes e w =
     at false u true n d p s q l r = fit-numbers e e n n (same (w .number n))
     at false u false n true d s q l r = fit-addresses e e d d refl (same (w .address d .set))
     at false u false n false d true s l r = fit-starts e e s s refl
-    at false u false n false d false s true l = fit-links e e l l
+    at false u false n false d false s true l = fit-returns-both e e l l
     at false u false n false d false s false l = none u n d s l
 
 -- what fits an entry of a kind
@@ -90,7 +90,7 @@ module _ (a b : Entry) (e : fits a b ≡ true) where
         numbers = λ p q f. (p, f);
         addresses = λ p q r f. is-not 1 2 k q (λ x. omega arith);
         starts = λ p q r. is-not 1 3 k q (λ x. omega arith);
-        links = λ p q. is-not 1 4 k q (λ x. omega arith);
+        returns-both = λ p q. is-not 1 4 k q (λ x. omega arith);
         zeros = λ q z. is-not 1 3 k q (λ x. omega arith);
         start = λ q z. is-not 1 3 k q (λ x. omega arith);
       })
@@ -102,41 +102,41 @@ module _ (a b : Entry) (e : fits a b ≡ true) where
         numbers = λ p q f. is-not 2 1 k q (λ x. omega arith);
         addresses = λ p q r f. (p, r, f);
         starts = λ p q r. is-not 2 3 k q (λ x. omega arith);
-        links = λ p q. is-not 2 4 k q (λ x. omega arith);
+        returns-both = λ p q. is-not 2 4 k q (λ x. omega arith);
         zeros = λ q z. is-not 2 3 k q (λ x. omega arith);
         start = λ q z. is-not 2 3 k q (λ x. omega arith);
       })
 
   from-start : {C : Type 0} → isStartOrNull b ≡ true → (isStartOrNull a ≡ true → a .region ≡ b .region → C) → (isZero a ≡ true → C)
-      → (isStartOf (b .region) a ≡ true → C) → C
+      → (isRegionStart (b .region) a ≡ true → C) → C
   from-start k f g h =
       fits-went a b e (λ u. is-not 3 0 k u (λ x. omega arith))
       (record {
         numbers = λ p q t. is-not 3 1 k q (λ x. omega arith);
         addresses = λ p q r t. is-not 3 2 k q (λ x. omega arith);
         starts = λ p q r. f p r;
-        links = λ p q. is-not 3 4 k q (λ x. omega arith);
+        returns-both = λ p q. is-not 3 4 k q (λ x. omega arith);
         zeros = λ q z. g z;
         start = λ q z. h z;
       })
 
-  from-link : isReturn b ≡ true → isReturn a ≡ true
-  from-link k =
+  from-return : isReturn b ≡ true → isReturn a ≡ true
+  from-return k =
       fits-went a b e (λ u. is-not 4 0 k u (λ x. omega arith))
       (record {
         numbers = λ p q f. is-not 4 1 k q (λ x. omega arith);
         addresses = λ p q r f. is-not 4 2 k q (λ x. omega arith);
         starts = λ p q r. is-not 4 3 k q (λ x. omega arith);
-        links = λ p q. p;
+        returns-both = λ p q. p;
         zeros = λ q z. is-not 4 3 k q (λ x. omega arith);
         start = λ q z. is-not 4 3 k q (λ x. omega arith);
       })
 
 -- a set that lies in {0} is {0}
-nought-in : (s t : NumberSet) → SetRules s → SetRules t → fitsSet s t ≡ true → onlyNought t ≡ true → onlyNought s ≡ true
-nought-in s t ws wt f z =
-    let low = only-nought t (s .lo) z (fits-holds s t ws wt f (s .lo) (record { low = omega arith; high = ws .order; grid = none (ws .steps) (s .lo) })) in
-    let high = only-nought t (s .hi) z (fits-holds s t ws wt f (s .hi) (record { low = ws .order; high = omega arith; grid = ws .even })) in
+bias-in : (s t : NumberSet) → SetRules s → SetRules t → fitsSet s t ≡ true → onlyZero t ≡ true → onlyZero s ≡ true
+bias-in s t ws wt f z =
+    let low = only-bias t (s .lo) z (fits-holds s t ws wt f (s .lo) (record { low = omega arith; high = ws .order; grid = none (ws .steps) (s .lo) })) in
+    let high = only-bias t (s .hi) z (fits-holds s t ws wt f (s .hi) (record { low = ws .order; high = omega arith; grid = ws .even })) in
     rw (low, high)
   where
     none : {n : ℕ} → Step n → (l : ℕ) → (l - l) % n ≡ 0
@@ -152,20 +152,20 @@ fits-on regions sizes a b c wa wb wc e f =
       starts = λ p q r. from-start a b e p
           (λ k s. fit-starts a c k q (s ∙ r))
           (λ z. fit-null a c q (true-or (isZero a) _ z))
-          (λ z. fit-null a c q (or-true (isZero a) _ (subst (λ (k : ℕ). isStartOf k a ≡ true) r z)));
-      links = λ p q. fit-links a c (from-link a b e p) q;
-      zeros = λ q z. let y = and-went (isNumber b) (onlyNought (b .set)) z in
+          (λ z. fit-null a c q (or-true (isZero a) _ (subst (λ (k : ℕ). isRegionStart k a ≡ true) r z)));
+      returns-both = λ p q. fit-returns-both a c (from-return a b e p) q;
+      zeros = λ q z. let y = and-went (isNumber b) (onlyZero (b .set)) z in
           let x = from-number a b e (y .0) in
-          fit-null a c q (true-or (isZero a) _ (rw (x .0, nought-in (a .set) (b .set) (wa .number (x .0)) (wb .number (y .0)) (x .1) (y .1))));
+          fit-null a c q (true-or (isZero a) _ (rw (x .0, bias-in (a .set) (b .set) (wa .number (x .0)) (wb .number (y .0)) (x .1) (y .1))));
       start = λ q z. let d = start-address (c .region) b z in
-          let y = and-went (isAddress b && eqb (b .region) (c .region)) (onlyNought (b .set)) z in
+          let y = and-went (isAddress b && eqb (b .region) (c .region)) (onlyZero (b .set)) z in
           let r = and-went (isAddress b) (eqb (b .region) (c .region)) (y .0) in
           let x = from-address a b e d in
           fit-null a c q (or-true (isZero a) _
           (rw (
             x .0,
             eq-eqb (a .region) (c .region) (x .1 ∙ eqb-true (b .region) (c .region) (r .1)),
-            nought-in (a .set) (b .set) (wa .address (x .0) .set) (wb .address d .set) (x .2) (y .1),
+            bias-in (a .set) (b .set) (wa .address (x .0) .set) (wb .address d .set) (x .2) (y .1),
           )));
     })
   where

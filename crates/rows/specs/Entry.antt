@@ -5,10 +5,10 @@ use mathlib.Core.Bool.{Bool, cond, not, _&&_, _||_}
 use mathlib.Core.List.{List}
 use lib.Dec.{leb, ltb, eqb}
 use lib.ListN.{getD}
-use Rattle.v8.specs.Signed.{excess}
+use Rattle.v8.specs.Signed.{excess, bias}
 use Rattle.policy.specs.declared.Field.{Field}
 use Rattle.sets.specs.declared.NumberSet.{NumberSet}
-use Rattle.sets.specs.Sets.{nought, numbers, single, ended, setOk, fitsSet}
+use Rattle.sets.specs.Sets.{numbers, single, ended, setOk, fitsSet}
 use Rattle.rows.specs.declared.Entry.{Entry}
 use Rattle.rows.specs.declared.Note.{Note}
 
@@ -30,10 +30,10 @@ isReturn e = eqb (e .kind) 4
 
 -- the fields that a kind does not use are zero
 abbrev pub blank : NumberSet
-blank = numbers 0 nought nought
+blank = numbers 0 bias bias
 
 abbrev pub isBlank : NumberSet → Bool
-isBlank s = eqb (s .step) 0 && eqb (s .lo) nought && eqb (s .hi) nought
+isBlank s = eqb (s .step) 0 && eqb (s .lo) bias && eqb (s .hi) bias
 
 -- an entry of each kind
 abbrev pub numberIn : NumberSet → Entry
@@ -50,8 +50,8 @@ abbrev pub constant : ℕ → Entry
 constant word = numberIn (single (excess word))
 
 -- the start of region r
-abbrev pub startOf : ℕ → Entry
-startOf r = addressIn r (single nought)
+abbrev pub regionStart : ℕ → Entry
+regionStart r = addressIn r (single bias)
 
 -- what a register holds of which nothing is known
 abbrev pub noEntry : Entry
@@ -66,16 +66,16 @@ abbrev pub wordOf : Entry → ℕ
 wordOf e = excess (e .set .lo)
 
 -- the numbers or offsets are 0 alone
-abbrev pub onlyNought : NumberSet → Bool
-onlyNought s = eqb (s .lo) nought && eqb (s .hi) nought
+abbrev pub onlyZero : NumberSet → Bool
+onlyZero s = eqb (s .lo) bias && eqb (s .hi) bias
 
 -- the entry is the single number 0
 abbrev pub isZero : Entry → Bool
-isZero e = isNumber e && onlyNought (e .set)
+isZero e = isNumber e && onlyZero (e .set)
 
 -- the entry is the start of region r
-abbrev pub isStartOf : ℕ → Entry → Bool
-isStartOf r e = isAddress e && eqb (e .region) r && onlyNought (e .set)
+abbrev pub isRegionStart : ℕ → Entry → Bool
+isRegionStart r e = isAddress e && eqb (e .region) r && onlyZero (e .set)
 
 -- the size of region r; there is no region above 7
 unfoldable pub sizeIn : List ℕ → ℕ → ℕ
@@ -87,7 +87,7 @@ unfoldable pub entryOk : ℕ → List ℕ → Entry → Bool
 entryOk regions sizes e =
     cond (isNumber e) (eqb (e .region) 0 && setOk (e .set))
     (cond (isAddress e)
-    (ltb (e .region) regions && setOk (e .set) && leb nought (e .set .lo) && leb (e .set .hi) (nought + sizeIn sizes (e .region)))
+    (ltb (e .region) regions && setOk (e .set) && leb bias (e .set .lo) && leb (e .set .hi) (bias + sizeIn sizes (e .region)))
     (cond (isStartOrNull e) (ltb (e .region) regions && isBlank (e .set))
     ((isUnset e || isReturn e) && eqb (e .region) 0 && isBlank (e .set))))
 
@@ -100,7 +100,7 @@ fits a b =
     || isAddress a && isAddress b && eqb (a .region) (b .region) && fitsSet (a .set) (b .set)
     || isStartOrNull a && isStartOrNull b && eqb (a .region) (b .region)
     || isReturn a && isReturn b
-    || isStartOrNull b && (isZero a || isStartOf (b .region) a)
+    || isStartOrNull b && (isZero a || isRegionStart (b .region) a)
 
 -- the codes are those of a comparison
 abbrev pub isComparison : Note → Bool
@@ -108,7 +108,7 @@ isComparison n = eqb (n .kind) 2
 
 -- notes: "1 set; 2 the codes are those SUBcc gives for the register's present value (r1 to r31) and the number"
 abbrev pub codesSet : Note
-codesSet = record { kind = 1; register = 0; number = nought }
+codesSet = record { kind = 1; register = 0; number = bias }
 
 abbrev pub comparison : ℕ → ℕ → Note
 comparison register number = record { kind = 2; register = register; number = number }
@@ -117,7 +117,7 @@ comparison register number = record { kind = 2; register = register; number = nu
 unfoldable pub noteOk : Note → Bool
 noteOk n =
     cond (isComparison n) (leb 1 (n .register) && leb (n .register) 31)
-    (leb (n .kind) 1 && eqb (n .register) 0 && eqb (n .number) nought)
+    (leb (n .kind) 1 && eqb (n .register) 0 && eqb (n .number) bias)
 
 -- "Note A fits B if B is 0, or B is 1 and A isn't 0, or they are equal."
 unfoldable pub fitsNote : Note → Note → Bool
@@ -130,4 +130,4 @@ fitsNote a b =
 unfoldable pub fieldEntry : Field → Entry
 fieldEntry f =
     cond (ltb (f .element) 6) (numberIn (ended 1 (f .lo) (f .hi)))
-    (cond (eqb (f .element) 6) (startOf (f .target)) (startOrNull (f .target)))
+    (cond (eqb (f .element) 6) (regionStart (f .target)) (startOrNull (f .target)))

@@ -6,20 +6,21 @@ use mathlib.Core.Bool.{Bool, true}
 use mathlib.Core.List.{List}
 use Rattle.policy.specs.declared.Field.{Field}
 use Rattle.policy.specs.Laws.{FieldRules}
-use Rattle.sets.specs.Sets.{nought, SetRules}
+use Rattle.sets.specs.Sets.{SetRules}
 use Rattle.rows.specs.declared.Entry.{Entry}
 use Rattle.rows.specs.declared.Note.{Note}
 use Rattle.rows.specs.declared.Row.{Row}
 use Rattle.rows.specs.Entry.{isNumber, isAddress, isStartOrNull, sizeIn, entryOk, fits, fitsNote, fieldEntry}
 use Rattle.rows.specs.Row.{entryAt, rowOf, formFault, misfit, places}
 use Rattle.rows.specs.Matches.{Host, Matches, Held, NoteMatches, RowMatches}
+use Rattle.v8.specs.Signed.{bias}
 
 -- an address entry: its region exists, and its offsets lie from the region's start to its end
 pub record AddressRules (regions : ℕ) (sizes : List ℕ) (e : Entry) : Type 0 where
   pub region : e .region < regions
   pub set : SetRules (e .set)
-  pub low : nought ≤ e .set .lo
-  pub high : e .set .hi ≤ nought + sizeIn sizes (e .region)
+  pub low : bias ≤ e .set .lo
+  pub high : e .set .hi ≤ bias + sizeIn sizes (e .region)
 
 -- what the form of an entry says
 pub record EntryRules (regions : ℕ) (sizes : List ℕ) (e : Entry) : Type 0 where

@@ -38,7 +38,7 @@ pub record Holds (h : Host) (e : Entry) (v : ℕ) : Type 0 where
   -- "3 address of a region's start, or null"
   pub start : isStartOrNull e ≡ true → (v ≡ 0) ⊎ (v ≡ baseOf h (e .region))
   -- "4 return address"
-  pub link : isReturn e ≡ true → v ≡ h .returns
+  pub return : isReturn e ≡ true → v ≡ h .returns
 
 -- a register, marked set or not, matches an entry
 abbrev pub Matches : Host → Entry → Bool → ℕ → Type 0

@@ -1,16 +1,16 @@
 // Entries: the kinds, an entry of each, their form, and when one fits another (specs/Entry.antt).
 ghost use mathlib.Core.Path.{_≡_};
 ghost use Prim.Native.Nat.{_≤_};
-ghost use Rattle.v8.specs.Signed.{excess};
-ghost use Rattle.rows.specs.Entry.{noEntry, numberIn, addressIn, startOrNull, constant, startOf, isBlank, isConstant, onlyNought, isZero, isStartOf, sizeIn, entryOk, fits, fieldEntry};
+ghost use Rattle.rows.specs.Entry.{noEntry, numberIn, addressIn, startOrNull, constant, regionStart, isBlank, isConstant, onlyZero, isZero, isRegionStart, sizeIn, entryOk, fits, fieldEntry};
 use crate::Entry;
 use policy::Field;
-use policy::element::NOUGHT;
 use sets::NumberSet;
 use sets::ended;
 use sets::fits_set;
 use sets::set_ok;
 use sets::single;
+use v8::signed::BIAS;
+use v8::signed::excess;
 
 // Nothing is known of the register.
 pub const UNSET: u8 = 0;
@@ -22,13 +22,6 @@ pub const ADDRESS: u8 = 2;
 pub const START_OR_NULL: u8 = 3;
 // The return address.
 pub const RETURN_ADDRESS: u8 = 4;
-
-// The excess form of a word.
-pub fn excess(x: u32) -> u32
-    ensures { λ r. ⌜ r ≡ excess x ⌝ }
-{
-    if x < NOUGHT { x + NOUGHT } else { x - NOUGHT }
-}
 
 // The entry of a register of which nothing is known.
 pub fn no_entry() -> Entry
@@ -74,8 +67,8 @@ fn start_or_null(r: u8) -> Entry
 {
     let blank = NumberSet {
         step: 0,
-        lo: NOUGHT,
-        hi: NOUGHT,
+        lo: BIAS,
+        hi: BIAS,
     };
     Entry {
         kind: START_OR_NULL,
@@ -93,9 +86,9 @@ pub fn constant(word: u32) -> Entry
 
 // The start of a region.
 pub fn region_start(r: u8) -> Entry
-    ensures { λ res. ⌜ res ≡ startOf r ⌝ }
+    ensures { λ res. ⌜ res ≡ regionStart r ⌝ }
 {
-    address_in(r, single(NOUGHT))
+    address_in(r, single(BIAS))
 }
 
 // Whether the entry is a single number.
@@ -106,24 +99,24 @@ pub fn is_constant(e: Entry) -> bool
 }
 
 // Whether the set is 0 alone.
-fn only_nought(s: NumberSet) -> bool
-    ensures { λ r. ⌜ r ≡ onlyNought s ⌝ }
+fn only_zero(s: NumberSet) -> bool
+    ensures { λ r. ⌜ r ≡ onlyZero s ⌝ }
 {
-    (s.lo == NOUGHT) & (s.hi == NOUGHT)
+    (s.lo == BIAS) & (s.hi == BIAS)
 }
 
 // Whether the entry is the single number 0.
 pub fn is_zero(e: Entry) -> bool
     ensures { λ r. ⌜ r ≡ isZero e ⌝ }
 {
-    (e.kind == NUMBER) & only_nought(e.set)
+    (e.kind == NUMBER) & only_zero(e.set)
 }
 
 // Whether the entry is the start of this region.
-fn is_start_of(r: u8, e: Entry) -> bool
-    ensures { λ res. ⌜ res ≡ isStartOf r e ⌝ }
+fn is_region_start(r: u8, e: Entry) -> bool
+    ensures { λ res. ⌜ res ≡ isRegionStart r e ⌝ }
 {
-    (e.kind == ADDRESS) & (e.region == r) & only_nought(e.set)
+    (e.kind == ADDRESS) & (e.region == r) & only_zero(e.set)
 }
 
 // The size of a region; there is none above 7.
@@ -147,7 +140,7 @@ fn wide(size: u16) -> u32
 fn is_blank(s: NumberSet) -> bool
     ensures { λ r. ⌜ r ≡ isBlank s ⌝ }
 {
-    (s.step == 0) & (s.lo == NOUGHT) & (s.hi == NOUGHT)
+    (s.step == 0) & (s.lo == BIAS) & (s.hi == BIAS)
 }
 
 // Whether an entry is well formed, where there are this many regions of these sizes.
@@ -161,7 +154,7 @@ pub fn entry_ok(regions: u8, sizes: &[u16; 8], e: Entry) -> bool
     if kind == ADDRESS {
         let size = size_in(sizes, e.region);
         let formed = set_ok(e.set);
-        return (e.region < regions) & formed & (NOUGHT <= e.set.lo) & (e.set.hi <= NOUGHT + size);
+        return (e.region < regions) & formed & (BIAS <= e.set.lo) & (e.set.hi <= BIAS + size);
     }
     if kind == START_OR_NULL {
         return (e.region < regions) & is_blank(e.set);
@@ -186,7 +179,7 @@ pub fn fits(a: Entry, b: Entry) -> bool
     }
     if asked == START_OR_NULL {
         let zero = is_zero(a);
-        let start = is_start_of(b.region, a);
+        let start = is_region_start(b.region, a);
         return (held == START_OR_NULL) & (a.region == b.region) | (zero | start);
     }
     (held == RETURN_ADDRESS) & (asked == RETURN_ADDRESS)

@@ -3,7 +3,7 @@
 ghost use mathlib.Core.Path.{_≡_};
 ghost use Rattle.rows.specs.Entry.{codesSet, comparison, noteOk, fitsNote};
 use crate::Note;
-use policy::element::NOUGHT;
+use v8::signed::BIAS;
 
 // Nothing is known of the codes.
 pub const NOTE_UNSET: u8 = 0;
@@ -19,7 +19,7 @@ pub fn codes_set() -> Note
     Note {
         kind: NOTE_SET,
         register: 0,
-        number: NOUGHT,
+        number: BIAS,
     }
 }
 
@@ -42,7 +42,7 @@ pub fn note_ok(n: Note) -> bool
     if n.kind == NOTE_COMPARISON {
         return (1 <= n.register) & (n.register <= 31);
     }
-    (n.kind <= NOTE_SET) & (n.register == 0) & (n.number == NOUGHT)
+    (n.kind <= NOTE_SET) & (n.register == 0) & (n.number == BIAS)
 }
 
 // Whether what is known of the codes obeys another note.

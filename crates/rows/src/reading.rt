@@ -9,12 +9,12 @@ use crate::Entry;
 use crate::Note;
 use crate::Row;
 use crate::entries::entry_ok;
-use crate::entries::excess;
 use crate::entries::no_entry;
 use crate::notes::note_ok;
 use memory::load;
 use sets::NumberSet;
 use v8::LoadOp;
+use v8::signed::excess;
 
 // The signed number at a place, in excess form.
 fn number_at(bytes: &[u8], at: usize) -> u32

@@ -9,30 +9,30 @@ use native.Mathlib.Omega.{arith}
 use lib.Dec.{eqb}
 use borrow.Author.Tests.{eqb-true, eq-eqb}
 use Rattle.v8.specs.Choice.{cond-both}
-use Rattle.v8.specs.Signed.{excess}
+use Rattle.v8.specs.Signed.{excess, bias}
 use Rattle.v8.specs.declared.AluOp.the-variants.{Sub}
 use Rattle.alu.specs.Codes.{codesOf}
 use Rattle.alu.specs.Condition.{condHolds, conditionOf, compares}
 use Rattle.alu.specs.declared.condition.Narrowing.{Narrowing}
 use Rattle.alu.specs.declared.condition.Narrowing.the-variants.{Unrelated, EqualTo, NotEqualTo, LessThan, AtLeast, AtMost, GreaterThan}
 use Rattle.alu.proofs.Conditions as Conditions·
-use Rattle.sets.specs.declared.Narrowed.{Narrowed}
-use Rattle.sets.specs.declared.Narrowed.the-variants as Set·
-use Rattle.sets.specs.Sets.{nought, single, Member}
+use Rattle.sets.specs.declared.SetLeft.{SetLeft}
+use Rattle.sets.specs.declared.SetLeft.the-variants as Set·
+use Rattle.sets.specs.Sets.{single, Member}
 use Rattle.sets.specs.Narrow.{narrowSet}
 use Rattle.sets.specs.Laws.{Offset, Among, LeftFormed}
 use Rattle.sets.proofs.Ends.{single-formed, single-holds}
 use Rattle.sets.proofs.Narrowing.{narrow-formed, narrow-keeps}
 use Rattle.rows.specs.declared.Entry.{Entry}
 use Rattle.rows.specs.declared.Row.{Row}
-use Rattle.rows.specs.Entry.{noEntry, isNumber, isStartOrNull, isComparison, numberIn, constant, startOf}
+use Rattle.rows.specs.Entry.{noEntry, isNumber, isStartOrNull, isComparison, numberIn, constant, regionStart}
 use Rattle.rows.specs.Row.{entryAt}
 use Rattle.rows.specs.Matches.{Host, baseOf, Holds, Matches, Held, RowMatches}
 use Rattle.rows.specs.Laws.{EntryRules, RowRules}
 use Rattle.rows.proofs.Tests.{and-went, false-true, other-kind}
 use Rattle.rows.proofs.ByKind.{holds-number, holds-address, number-rules, address-rules, unset-rules}
-use Rattle.rules.specs.declared.Remainder.{Remainder}
-use Rattle.rules.specs.declared.Remainder.the-variants.{Left, Nothing}
+use Rattle.rules.specs.declared.EntryLeft.{EntryLeft}
+use Rattle.rules.specs.declared.EntryLeft.the-variants.{Left, Nothing}
 use Rattle.rules.specs.Narrow.{narrows, leftOf, narrowStart, narrowEntry, RowLeft, rowLeft, narrowRow}
 use Rattle.rules.specs.Laws.{LeftMatches, NarrowsRow}
 use Rattle.rules.proofs.Writes.{entry-after}
@@ -40,11 +40,11 @@ use Rattle.rules.proofs.Writes.{entry-after}
 module _ (regions : ℕ) (sizes : List ℕ) (h : Host) (row : Row) (g : Held) (small : (r : ℕ) → g .value r < 4294967296)
     (rules : RowRules regions sizes row) (m : RowMatches h row g) where
   -- what is left of the noted register's entry is well formed and matches
-  abbrev Kept : Remainder → Type 0
+  abbrev Kept : EntryLeft → Type 0
   Kept (Left e) = EntryRules regions sizes e × Matches h e (g .mark (row .note .register)) (g .value (row .note .register))
   Kept Nothing = ⊥
 
-  row-kept : (x : Remainder) → Kept x → LeftMatches regions sizes h (rowLeft row x) g
+  row-kept : (x : EntryLeft) → Kept x → LeftMatches regions sizes h (rowLeft row x) g
   row-kept (Left e) k = (
     record {
       entries = λ r. entry-after (λ (_ : ℕ) (x : Entry). EntryRules regions sizes x) row (row .note .register) e (row .note)
@@ -65,7 +65,7 @@ module _ (regions : ℕ) (sizes : List ℕ) (h : Host) (row : Row) (g : Held) (s
       (me : Matches h e (g .mark (row .note .register)) (g .value (row .note .register)))
       (obeys : compares c (excess (g .value (row .note .register))) n true ≡ true) where
     -- a number
-    number-kept : (k : isNumber e ≡ true) (x : Narrowed) → LeftFormed x → Among x (excess (g .value (row .note .register))) → Kept (leftOf x)
+    number-kept : (k : isNumber e ≡ true) (x : SetLeft) → LeftFormed x → Among x (excess (g .value (row .note .register))) → Kept (leftOf x)
     number-kept k (Set·.Left s) f a = (
       number-rules regions sizes (numberIn s) refl f,
       λ _. (me (other-kind (e .kind) 1 0 k (λ x. omega arith)) .0, holds-number h (numberIn s) (g .value (row .note .register)) refl a),
@@ -73,29 +73,29 @@ module _ (regions : ℕ) (sizes : List ℕ) (h : Host) (row : Row) (g : Held) (s
     number-kept k Set·.Nothing f a = a
 
     -- a kind 3 compared with 0
-    start-kept : isStartOrNull e ≡ true → n ≡ nought → (c′ : Narrowing) → c ≡ c′ → Kept (narrowStart c′ e)
+    start-kept : isStartOrNull e ≡ true → n ≡ bias → (c′ : Narrowing) → c ≡ c′ → Kept (narrowStart c′ e)
     start-kept k z Unrelated q = (w, me)
     start-kept k z EqualTo q = (
-      number-rules regions sizes (constant 0) refl (single-formed nought (omega arith)),
+      number-rules regions sizes (constant 0) refl (single-formed bias (omega arith)),
       λ _. (
         set .0,
         holds-number h (constant 0) (g .value (row .note .register)) refl
-            (subst (λ (v : ℕ). Member (single nought) v) (sym (same q)) (single-holds nought)),
+            (subst (λ (v : ℕ). Member (single bias) v) (sym (same q)) (single-holds bias)),
       ),
     )
       where
         set : (g .mark (row .note .register) ≡ true) × Holds h e (g .value (row .note .register))
         set = me (other-kind (e .kind) 3 0 k (λ x. omega arith))
 
-        same : c ≡ EqualTo → excess (g .value (row .note .register)) ≡ nought
+        same : c ≡ EqualTo → excess (g .value (row .note .register)) ≡ bias
         same q =
-            eqb-true _ nought
+            eqb-true _ bias
             (subst (λ (i : ℕ). eqb (excess (g .value (row .note .register))) i ≡ true) z
             (subst (λ (i : Narrowing). compares i (excess (g .value (row .note .register))) n true ≡ true) q obeys))
     start-kept k z NotEqualTo q = (
-      address-rules regions sizes (startOf (e .region)) refl
-          (record { region = w .start k; set = single-formed nought (omega arith); low = omega arith; high = omega arith }),
-      λ _. (set .0, holds-address h (startOf (e .region)) (g .value (row .note .register)) refl (from (set .1 .start k))),
+      address-rules regions sizes (regionStart (e .region)) refl
+          (record { region = w .start k; set = single-formed bias (omega arith); low = omega arith; high = omega arith }),
+      λ _. (set .0, holds-address h (regionStart (e .region)) (g .value (row .note .register)) refl (from (set .1 .start k))),
     )
       where
         set : (g .mark (row .note .register) ≡ true) × Holds h e (g .value (row .note .register))
@@ -104,14 +104,14 @@ module _ (regions : ℕ) (sizes : List ℕ) (h : Host) (row : Row) (g : Held) (s
         differs : not (eqb (excess (g .value (row .note .register))) n) ≡ true
         differs = subst (λ (i : Narrowing). compares i (excess (g .value (row .note .register))) n true ≡ true) q obeys
 
-        there : (b v : ℕ) → v ≡ b → Offset b (single nought) v
-        there b v e = record { above = omega arith; member = subst (λ (i : ℕ). Member (single nought) i) (at b v e) (single-holds nought) }
+        there : (b v : ℕ) → v ≡ b → Offset b (single bias) v
+        there b v e = record { above = omega arith; member = subst (λ (i : ℕ). Member (single bias) i) (at b v e) (single-holds bias) }
           where
-            at : (b v : ℕ) → v ≡ b → nought ≡ v - b + nought
+            at : (b v : ℕ) → v ≡ b → bias ≡ v - b + bias
             at b v e = omega arith
 
         from : (g .value (row .note .register) ≡ 0) ⊎ (g .value (row .note .register) ≡ baseOf h (e .region))
-            → Offset (baseOf h (e .region)) (single nought) (g .value (row .note .register))
+            → Offset (baseOf h (e .region)) (single bias) (g .value (row .note .register))
         from =
             ⊎-elim (λ v. false-true (sym (ap not (eq-eqb _ n (ap excess v ∙ sym z))) ∙ differs))
             (λ v. there (baseOf h (e .region)) (g .value (row .note .register)) v)
@@ -126,8 +126,8 @@ module _ (regions : ℕ) (sizes : List ℕ) (h : Host) (row : Row) (g : Held) (s
         cond-both Kept (isNumber e)
         (λ k. number-kept k (narrowSet c (e .set) n) (narrow-formed c (e .set) n (w .number k))
         (narrow-keeps c (e .set) n (excess (g .value (row .note .register))) (w .number k) (me (other-kind (e .kind) 1 0 k (λ x. omega arith)) .1 .number k) obeys))
-        λ _. cond-both Kept (isStartOrNull e && eqb n nought)
-        (λ t. let p = and-went (isStartOrNull e) (eqb n nought) t in start-kept (p .0) (eqb-true n nought (p .1)) c refl)
+        λ _. cond-both Kept (isStartOrNull e && eqb n bias)
+        (λ t. let p = and-went (isStartOrNull e) (eqb n bias) t in start-kept (p .0) (eqb-true n bias (p .1)) c refl)
         λ _. (w, me)
 
 pub narrows-row : NarrowsRow

@@ -4,6 +4,7 @@ use mathlib.Core.Path.{_≡_, refl}
 use mathlib.Core.Bool.{Bool, false, not, _&&_}
 use mathlib.Core.List.{List, []}
 use lib.Dec.{leb, ltb, eqb}
+use Rattle.v8.specs.Signed.{bias}
 use Rattle.v8.specs.Choice.{cond-both}
 use Rattle.v8.specs.declared.AluOp.{AluOp}
 use Rattle.v8.specs.declared.AluOp.the-variants.{Add, And, Or, Xor, Sub, Andn, Orn, Xnor}
@@ -22,7 +23,6 @@ use Rattle.policy.specs.Policy.{fieldAt}
 use Rattle.policy.specs.Find.{findField}
 use Rattle.access.specs.Serve.{accessWidth, serves, allows, addend}
 use Rattle.sets.specs.declared.NumberSet.{NumberSet}
-use Rattle.sets.specs.Sets.{nought}
 use Rattle.sets.specs.Rules.{addSets, subSets}
 use Rattle.rows.specs.declared.Entry.{Entry}
 use Rattle.rows.specs.declared.Note.{Note}
@@ -37,7 +37,7 @@ use Rattle.rules.specs.declared.Reach.the-variants.{Inside, Outside}
 use Rattle.rules.specs.declared.Change.{Change}
 use Rattle.rules.specs.declared.Change.the-variants.{Writes, Keeps, Breaks}
 use Rattle.rules.specs.Result.{isOr, constants, bothNumbers, offsetsGive, addressSum, addressDifference, addressRule, aluResult, shiftResult}
-use Rattle.rules.specs.Reach.{endOf, onGrid, inField, inFound, inRegion, reachOf}
+use Rattle.rules.specs.Reach.{reachEnd, onGrid, inField, inFound, inRegion, reachOf}
 use Rattle.rules.specs.Change.{operandsOf, ifSet, writing, aluChange, shiftChange, stores, accessed, accessedAt, accessChange, operationChange, branchChange, returnChange, changeOf}
 
 -- what fails has a number
@@ -57,7 +57,7 @@ Numbered (Breaks n r) = eqb n 0 ≡ false
 module _ (sizes : List ℕ) (a b : Entry) where
   offsets-fail : (r : ℕ) (s : NumberSet) → Failing (offsetsGive sizes r s)
   unfolding offsetsGive
-  offsets-fail r s = cond-both Failing (leb nought (s .lo) && leb (s .hi) _) (λ _. tt) (λ _. refl)
+  offsets-fail r s = cond-both Failing (leb bias (s .lo) && leb (s .hi) _) (λ _. tt) (λ _. refl)
 
   sum-fails : Failing (addressSum sizes a b)
   unfolding addressSum
@@ -100,7 +100,7 @@ module _ (p : Policy) (a : Access) (rs1 : ℕ) where
   field-outlies : (s : NumberSet) (place : ℕ) → Outlying (inField p a rs1 s place)
   unfolding inField
   field-outlies s place =
-      cond-both Outlying (ltb 4096 (endOf s (accessWidth a))) (λ _. refl)
+      cond-both Outlying (ltb 4096 (reachEnd s (accessWidth a))) (λ _. refl)
       λ _. cond-both Outlying (not (serves a (fieldAt p place .element))) (λ _. refl)
       λ _. cond-both Outlying (not (onGrid s (accessWidth a))) (λ _. refl)
       λ _. cond-both Outlying (not (allows a (fieldAt p place .permission))) (λ _. refl) (λ _. tt)
@@ -111,7 +111,7 @@ module _ (p : Policy) (a : Access) (rs1 : ℕ) where
 
   region-outlies : (r : ℕ) (s : NumberSet) → Outlying (inRegion p a rs1 r s)
   unfolding inRegion
-  region-outlies r s = cond-both Outlying (ltb (s .lo) nought) (λ _. refl) (λ _. found-outlies s (findField p r _ (endOf s (accessWidth a))))
+  region-outlies r s = cond-both Outlying (ltb (s .lo) bias) (λ _. refl) (λ _. found-outlies s (findField p r _ (reachEnd s (accessWidth a))))
 
   reach-outlies : (rs2 : ℕ) (x y : Entry) → Outlying (reachOf p a rs1 x rs2 y)
   unfolding reachOf
@@ -157,7 +157,7 @@ module _ (n : Note) (rd : ℕ) (o : Operands) where
 
 pub operation-numbered : (p : Policy) (row : Row) (x : Operation) → Numbered (operationChange p row x)
 operation-numbered p row (Sethi rd imm22) = tt
-operation-numbered p row (Alu op cc rd rs1 x) = alu-numbered (row .note) rd (operandsOf row rs1 x) (p .sizes) op cc
+operation-numbered p row (Alu op cc rd rs1 x) = alu-numbered (row .note) rd (operandsOf row rs1 x) (p .regions .sizes) op cc
 operation-numbered p row (Shift op rd rs1 x) = shift-numbered (row .note) rd (operandsOf row rs1 x) op
 operation-numbered p row (Memory a rd rs1 d) = access-numbered (row .note) rd (operandsOf row rs1 (addend d)) p a (entryAt row rd)
 

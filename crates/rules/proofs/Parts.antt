@@ -1,6 +1,7 @@
 -- What reads only a part of a policy gives the same for the part as for the whole.
 use Prim.Native.Nat.{ℕ, _-_}
 use mathlib.Core.Path.{_≡_, refl, sym, _∙_}
+use Rattle.v8.specs.Signed.{bias}
 use Rattle.v8.specs.declared.Access.{Access}
 use Rattle.policy.specs.declared.Policy.{Policy}
 use Rattle.policy.specs.declared.Found.{Found}
@@ -9,21 +10,20 @@ use Rattle.policy.specs.Policy.{fieldAt}
 use Rattle.policy.specs.Find.{findField}
 use Rattle.access.specs.Serve.{accessWidth}
 use Rattle.sets.specs.declared.NumberSet.{NumberSet}
-use Rattle.sets.specs.Sets.{nought}
 use Rattle.sets.specs.Rules.{addSets}
 use Rattle.rows.specs.declared.Entry.{Entry}
 use Rattle.rows.specs.declared.Note.{Note}
 use Rattle.rules.specs.declared.Operands.{Operands}
 use Rattle.rules.specs.declared.Reach.{Reach}
 use Rattle.rules.specs.declared.Reach.the-variants.{Inside, Outside}
-use Rattle.rules.specs.Reach.{endOf, inField, inFound, inRegion, reachOf}
+use Rattle.rules.specs.Reach.{reachEnd, inField, inFound, inRegion, reachOf}
 use Rattle.rules.specs.Change.{accessedAt, accessChange}
 use Rattle.rules.specs.Lent.{listsOf, placesOf}
 
 -- where an access lies, by the five lists that say it
 module _ (p : Policy) (a : Access) (rs1 : ℕ) where
   abbrev places : Policy
-  places = placesOf (p .fields) (p .elements) (p .permissions) (p .offsets) (p .counts)
+  places = placesOf (p .regions .fields) (p .fields .elements) (p .fields .permissions) (p .fields .offsets) (p .fields .counts)
 
   found-part : (s : NumberSet) (f : Found) → inFound places a rs1 s f ≡ inFound p a rs1 s f
   unfolding inField fieldAt
@@ -32,7 +32,7 @@ module _ (p : Policy) (a : Access) (rs1 : ℕ) where
 
   region-part : (r : ℕ) (s : NumberSet) → inRegion places a rs1 r s ≡ inRegion p a rs1 r s
   unfolding inRegion
-  region-part r s = rw (found-part s (findField p r (s .lo - nought) (endOf s (accessWidth a))))
+  region-part r s = rw (found-part s (findField p r (s .lo - bias) (reachEnd s (accessWidth a))))
 
   pub reach-part : (rs2 : ℕ) (x y : Entry) → reachOf places a rs1 x rs2 y ≡ reachOf p a rs1 x rs2 y
   unfolding reachOf

@@ -3,6 +3,7 @@ use Prim.Native.Nat.{ℕ, _-_, _<_}
 use mathlib.Core.Path.{_≡_, refl, subst}
 use mathlib.Core.Bool.{not, _&&_}
 use lib.Dec.{ltb}
+use Rattle.v8.specs.Signed.{bias}
 use Rattle.v8.specs.Choice.{cond-both}
 use Rattle.v8.specs.declared.Access.{Access}
 use Rattle.policy.specs.declared.Policy.{Policy}
@@ -13,13 +14,12 @@ use Rattle.policy.specs.Find.{findField}
 use Rattle.access.specs.Serve.{accessWidth, serves, allows}
 use Rattle.access.proofs.Places.{place-small}
 use Rattle.sets.specs.declared.NumberSet.{NumberSet}
-use Rattle.sets.specs.Sets.{nought}
 use Rattle.sets.specs.Rules.{addSets}
 use Rattle.rows.specs.declared.Entry.{Entry}
 use Rattle.rows.specs.Entry.{isNumber, isAddress, isStartOrNull}
 use Rattle.rules.specs.declared.Reach.{Reach}
 use Rattle.rules.specs.declared.Reach.the-variants.{Inside, Outside}
-use Rattle.rules.specs.Reach.{endOf, onGrid, inField, inFound, inRegion, reachOf}
+use Rattle.rules.specs.Reach.{reachEnd, onGrid, inField, inFound, inRegion, reachOf}
 
 abbrev Placed : Reach → Type 0
 Placed (Inside place) = place < 128
@@ -29,7 +29,7 @@ module _ (p : Policy) (a : Access) (rs1 : ℕ) where
   field-placed : (s : NumberSet) (place : ℕ) → place < 128 → Placed (inField p a rs1 s place)
   unfolding inField
   field-placed s place l =
-      cond-both Placed (ltb 4096 (endOf s (accessWidth a))) (λ _. tt)
+      cond-both Placed (ltb 4096 (reachEnd s (accessWidth a))) (λ _. tt)
       λ _. cond-both Placed (not (serves a (fieldAt p place .element))) (λ _. tt)
       λ _. cond-both Placed (not (onGrid s (accessWidth a))) (λ _. tt)
       λ _. cond-both Placed (not (allows a (fieldAt p place .permission))) (λ _. tt)
@@ -37,14 +37,14 @@ module _ (p : Policy) (a : Access) (rs1 : ℕ) where
 
   found-placed : (r low end : ℕ) (s : NumberSet) (f : Found) → findField p r low end ≡ f → Placed (inFound p a rs1 s f)
   found-placed r low end s (Found·.At place) e =
-      field-placed s place (place-small (p .fields) (p .elements) (p .offsets) (p .counts) r low end place e)
+      field-placed s place (place-small (p .regions .fields) (p .fields .elements) (p .fields .offsets) (p .fields .counts) r low end place e)
   found-placed r low end s Found·.Nothing e = tt
 
   region-placed : (r : ℕ) (s : NumberSet) → Placed (inRegion p a rs1 r s)
   unfolding inRegion
   region-placed r s =
-      cond-both Placed (ltb (s .lo) nought) (λ _. tt)
-      (λ _. found-placed r (s .lo - nought) (endOf s (accessWidth a)) s (findField p r (s .lo - nought) (endOf s (accessWidth a))) refl)
+      cond-both Placed (ltb (s .lo) bias) (λ _. tt)
+      (λ _. found-placed r (s .lo - bias) (reachEnd s (accessWidth a)) s (findField p r (s .lo - bias) (reachEnd s (accessWidth a))) refl)
 
   reach-placed : (rs2 : ℕ) (x y : Entry) → Placed (reachOf p a rs1 x rs2 y)
   unfolding reachOf

@@ -7,6 +7,7 @@ use mathlib.Core.Bool.{true, not, _&&_}
 use native.Mathlib.Omega.{arith}
 use lib.Dec.{ltb, eqb}
 use borrow.Author.Tests.{eqb-true, ltb-false, not-false}
+use Rattle.v8.specs.Signed.{bias}
 use Rattle.v8.specs.Choice.{cond-both}
 use Rattle.v8.specs.declared.AluOp.the-variants.{Add}
 use Rattle.v8.specs.declared.LoadOp.the-variants.{Ld, Ldub, Lduh, Ldsb, Ldsh}
@@ -24,7 +25,7 @@ use Rattle.policy.specs.Laws.{WellFormed, FoundHere}
 use Rattle.policy.proofs.FoundField.{found-holds}
 use Rattle.access.specs.Serve.{accessWidth, serves, allows}
 use Rattle.sets.specs.declared.NumberSet.{NumberSet}
-use Rattle.sets.specs.Sets.{nought, Step, s1, s2, s4, SetRules, Member}
+use Rattle.sets.specs.Sets.{Step, s1, s2, s4, SetRules, Member}
 use Rattle.sets.specs.Rules.{addSets}
 use Rattle.sets.specs.Laws.{Offset}
 use Rattle.sets.proofs.Steps.{by-step, sum-on, difference-on, finer-on, finer-of}
@@ -37,7 +38,7 @@ use Rattle.rows.specs.Laws.{EntryRules}
 use Rattle.rows.proofs.Tests.{and-went}
 use Rattle.rules.specs.declared.Reach.{Reach}
 use Rattle.rules.specs.declared.Reach.the-variants.{Inside, Outside}
-use Rattle.rules.specs.Reach.{endOf, onGrid, inField, inFound, inRegion, reachOf}
+use Rattle.rules.specs.Reach.{reachEnd, onGrid, inField, inFound, inRegion, reachOf}
 use Rattle.rules.specs.Laws.{Laid, Reached, Reaches}
 use Rattle.rules.proofs.RightResult.{size-in, adds-turn}
 
@@ -53,17 +54,17 @@ width-step (Stores Stb) = s1
 width-step (Stores Sth) = s2
 
 -- what lies on the grid of a set whose ends and steps are multiples of the width is one
-on-width : {w : ℕ} (s : NumberSet) (n o : ℕ) → Step w → SetRules s → onGrid s w ≡ true → Member s n → n ≡ o + nought → o % w ≡ 0
+on-width : {w : ℕ} (s : NumberSet) (n o : ℕ) → Step w → SetRules s → onGrid s w ≡ true → Member s n → n ≡ o + bias → o % w ≡ 0
 on-width {w} s n o step rules g m e =
     let p = and-went (eqb (s .lo % w) 0) (eqb (s .step % w) 0) g in
     let rest = finer-on (rules .steps) step (finer-of (rules .steps) step (eqb-true (s .step % w) 0 (p .1))) (n - s .lo) (m .grid) in
     let whole = sum-on step (s .lo) (n - s .lo) (eqb-true (s .lo % w) 0 (p .0)) rest in
-    subst (λ (k : ℕ). k % w ≡ 0) (apart (m .low) e) (difference-on step (s .lo + (n - s .lo)) nought whole (by-step (λ (k : ℕ). nought % k ≡ 0) refl refl refl refl step))
+    subst (λ (k : ℕ). k % w ≡ 0) (apart (m .low) e) (difference-on step (s .lo + (n - s .lo)) bias whole (by-step (λ (k : ℕ). bias % k ≡ 0) refl refl refl refl step))
   where
-    apart : s .lo ≤ n → n ≡ o + nought → s .lo + (n - s .lo) - nought ≡ o
+    apart : s .lo ≤ n → n ≡ o + bias → s .lo + (n - s .lo) - bias ≡ o
     apart l e = omega arith
 
-module _ (p : Policy) (h : Host) (wf : WellFormed p) (laid : Laid (p .regions) (p .sizes) h) (a : Access) (rs1 x y : ℕ) where
+module _ (p : Policy) (h : Host) (wf : WellFormed p) (laid : Laid (p .regions .count) (p .regions .sizes) h) (a : Access) (rs1 x y : ℕ) where
   -- a reach, if it is inside, is as the law says
   abbrev Good : Reach → Type 0
   Good (Inside place) = Reached p h a x y place
@@ -72,20 +73,20 @@ module _ (p : Policy) (h : Host) (wf : WellFormed p) (laid : Laid (p .regions) (
   abbrev Near : ℕ → Type 0
   Near r = ((baseOf h r ≤ x) × (x ≤ baseOf h r + sizeOf p r)) ⊎ ((baseOf h r ≤ y) × (y ≤ baseOf h r + sizeOf p r))
 
-  module _ (r : ℕ) (s : NumberSet) (there : r < p .regions) (rules : SetRules s) (near : Near r)
-      (offset : nought ≤ s .lo → s .hi ≤ nought + sizeIn (p .sizes) r → baseOf h r + sizeIn (p .sizes) r < 4294967296 → Offset (baseOf h r) s (add32 x y)) where
-    size-is : sizeIn (p .sizes) r ≡ sizeOf p r
-    size-is = size-in (p .sizes) r (omega (arith, laid .regions-most))
+  module _ (r : ℕ) (s : NumberSet) (there : r < p .regions .count) (rules : SetRules s) (near : Near r)
+      (offset : bias ≤ s .lo → s .hi ≤ bias + sizeIn (p .regions .sizes) r → baseOf h r + sizeIn (p .regions .sizes) r < 4294967296 → Offset (baseOf h r) s (add32 x y)) where
+    size-is : sizeIn (p .regions .sizes) r ≡ sizeOf p r
+    size-is = size-in (p .regions .sizes) r (omega (arith, laid .regions-most))
 
     -- where the sum lies, if the bytes end inside the region
-    lies : nought ≤ s .lo → endOf s (accessWidth a) ≤ sizeOf p r → 1 ≤ accessWidth a → Offset (baseOf h r) s (add32 x y)
+    lies : bias ≤ s .lo → reachEnd s (accessWidth a) ≤ sizeOf p r → 1 ≤ accessWidth a → Offset (baseOf h r) s (add32 x y)
     lies low high w =
         offset low (rw size-is (end (s .hi) (accessWidth a) (sizeOf p r) high w)) (rw size-is (laid .below r there))
       where
-        end : (hi w size : ℕ) → hi - nought + w ≤ size → 1 ≤ w → hi ≤ nought + size
+        end : (hi w size : ℕ) → hi - bias + w ≤ size → 1 ≤ w → hi ≤ bias + size
         end hi w size a b = omega arith
 
-    module _ (place : ℕ) (found : FoundHere p r (s .lo - nought) (endOf s (accessWidth a)) place) (low : nought ≤ s .lo) where
+    module _ (place : ℕ) (found : FoundHere p r (s .lo - bias) (reachEnd s (accessWidth a)) place) (low : bias ≤ s .lo) where
       at-place : (C : Field → Type 0) → C (fieldAt p (placeOf r (found .index))) → C (fieldAt p place)
       at-place C c = subst (λ (n : ℕ). C (fieldAt p n)) (sym (found .here)) c
 
@@ -105,7 +106,7 @@ module _ (p : Policy) (h : Host) (wf : WellFormed p) (laid : Laid (p .regions) (
             address = whole (baseOf h r) (add32 x y) (o .above);
             low = at-place (λ (f : Field). f .offset .0 ≤ v) (first (s .lo) v (found .holds .0) (o .member .low));
             high = at-place (λ (f : Field). v + accessWidth a ≤ fieldEnd f) (last (s .hi) v (accessWidth a) (found .holds .1) (o .member .high));
-            aligned = on-width s (v + nought) v (width-step a) rules gr (o .member) refl;
+            aligned = on-width s (v + bias) v (width-step a) rules gr (o .member) refl;
             serving = se;
             allowing = al;
             near = near;
@@ -117,46 +118,46 @@ module _ (p : Policy) (h : Host) (wf : WellFormed p) (laid : Laid (p .regions) (
           whole : (b n : ℕ) → b ≤ n → n ≡ b + (n - b)
           whole b n l = omega arith
 
-          first : {f : ℕ} (lo v : ℕ) → f ≤ lo - nought → lo ≤ v + nought → f ≤ v
+          first : {f : ℕ} (lo v : ℕ) → f ≤ lo - bias → lo ≤ v + bias → f ≤ v
           first lo v p q = omega arith
 
-          last : {f : ℕ} (hi v w : ℕ) → hi - nought + w ≤ f → v + nought ≤ hi → v + w ≤ f
+          last : {f : ℕ} (hi v w : ℕ) → hi - bias + w ≤ f → v + bias ≤ hi → v + w ≤ f
           last hi v w p q = omega arith
 
       field-good : Good (inField p a rs1 s place)
       unfolding inField
       field-good =
-          cond-both Good (ltb 4096 (endOf s (accessWidth a))) (λ _. tt)
+          cond-both Good (ltb 4096 (reachEnd s (accessWidth a))) (λ _. tt)
           λ _. cond-both Good (not (serves a (fieldAt p place .element))) (λ _. tt)
           λ t₁. cond-both Good (not (onGrid s (accessWidth a))) (λ _. tt)
           λ t₂. cond-both Good (not (allows a (fieldAt p place .permission))) (λ _. tt)
           λ t₃. reached (not-false (serves a (fieldAt p place .element)) t₁) (not-false (onGrid s (accessWidth a)) t₂) (not-false (allows a (fieldAt p place .permission)) t₃)
 
-    found-good : nought ≤ s .lo → (f : Found) → findField p r (s .lo - nought) (endOf s (accessWidth a)) ≡ f → Good (inFound p a rs1 s f)
-    found-good low (Found·.At place) e = field-good place (found-holds p r (s .lo - nought) (endOf s (accessWidth a)) place e) low
+    found-good : bias ≤ s .lo → (f : Found) → findField p r (s .lo - bias) (reachEnd s (accessWidth a)) ≡ f → Good (inFound p a rs1 s f)
+    found-good low (Found·.At place) e = field-good place (found-holds p r (s .lo - bias) (reachEnd s (accessWidth a)) place e) low
     found-good low Found·.Nothing e = tt
 
     region-good : Good (inRegion p a rs1 r s)
     unfolding inRegion
     region-good =
-        cond-both Good (ltb (s .lo) nought) (λ _. tt)
-        (λ t. found-good (ltb-false (s .lo) nought t) (findField p r (s .lo - nought) (endOf s (accessWidth a))) refl)
+        cond-both Good (ltb (s .lo) bias) (λ _. tt)
+        (λ t. found-good (ltb-false (s .lo) bias t) (findField p r (s .lo - bias) (reachEnd s (accessWidth a))) refl)
 
 -- an address that an entry holds lies in its region
-in-region : (p : Policy) (h : Host) → Laid (p .regions) (p .sizes) h → (e : Entry) (v : ℕ) → EntryRules (p .regions) (p .sizes) e → isAddress e ≡ true → Holds h e v
+in-region : (p : Policy) (h : Host) → Laid (p .regions .count) (p .regions .sizes) h → (e : Entry) (v : ℕ) → EntryRules (p .regions .count) (p .regions .sizes) e → isAddress e ≡ true → Holds h e v
     → (baseOf h (e .region) ≤ v) × (v ≤ baseOf h (e .region) + sizeOf p (e .region))
 in-region p h laid e v w k m =
     let d = w .address k in let o = m .address k in
-    (o .above, at (baseOf h (e .region)) (e .set .hi) (sizeIn (p .sizes) (e .region)) (sizeOf p (e .region)) (o .above) (o .member .high) (d .high) (size-in (p .sizes) (e .region) (omega (arith, laid .regions-most, d .region))))
+    (o .above, at (baseOf h (e .region)) (e .set .hi) (sizeIn (p .regions .sizes) (e .region)) (sizeOf p (e .region)) (o .above) (o .member .high) (d .high) (size-in (p .regions .sizes) (e .region) (omega (arith, laid .regions-most, d .region))))
   where
-    at : (b hi s t : ℕ) → b ≤ v → v - b + nought ≤ hi → hi ≤ nought + s → s ≡ t → v ≤ b + t
+    at : (b hi s t : ℕ) → b ≤ v → v - b + bias ≤ hi → hi ≤ bias + s → s ≡ t → v ≤ b + t
     at b hi s t a c d q = omega arith
 
 turned : (x y : ℕ) → add32 x y ≡ add32 y x
 turned x y = omega arith
 
-module _ (p : Policy) (h : Host) (wf : WellFormed p) (laid : Laid (p .regions) (p .sizes) h) (a : Access) (rs1 rs2 : ℕ) (d e : Entry) (x y : ℕ)
-    (wd : EntryRules (p .regions) (p .sizes) d) (we : EntryRules (p .regions) (p .sizes) e) (lx : x < 4294967296) (ly : y < 4294967296)
+module _ (p : Policy) (h : Host) (wf : WellFormed p) (laid : Laid (p .regions .count) (p .regions .sizes) h) (a : Access) (rs1 rs2 : ℕ) (d e : Entry) (x y : ℕ)
+    (wd : EntryRules (p .regions .count) (p .regions .sizes) d) (we : EntryRules (p .regions .count) (p .regions .sizes) e) (lx : x < 4294967296) (ly : y < 4294967296)
     (md : Holds h d x) (me : Holds h e y) where
   reach-good : Good p h wf laid a rs1 x y (reachOf p a rs1 d rs2 e)
   unfolding reachOf
@@ -169,7 +170,7 @@ module _ (p : Policy) (h : Host) (wf : WellFormed p) (laid : Laid (p .regions) (
       region-good p h wf laid a rs1 x y (d .region) (addSets (d .set) (e .set)) (da .region)
       (alu-formed Add (d .set) (e .set) (da .set) (we .number (k .1)))
       (inl (in-region p h laid d x wd (k .0) md))
-      (λ low high below. adds-offset (d .set) (e .set) (baseOf h (d .region)) (sizeIn (p .sizes) (d .region)) x y (da .set) (we .number (k .1)) ly below low high
+      (λ low high below. adds-offset (d .set) (e .set) (baseOf h (d .region)) (sizeIn (p .regions .sizes) (d .region)) x y (da .set) (we .number (k .1)) ly below low high
       (md .address (k .0)) (me .number (k .1))))
       λ _. cond-both (Good p h wf laid a rs1 x y) (isNumber d && isAddress e)
       (λ t. let k = and-went (isNumber d) (isAddress e) t in
@@ -179,7 +180,7 @@ module _ (p : Policy) (h : Host) (wf : WellFormed p) (laid : Laid (p .regions) (
       (alu-formed Add (e .set) (d .set) (de .set) (wd .number (k .0)))
       (inr (in-region p h laid e y we (k .1) me))
       (λ low high below. subst (Offset (baseOf h (e .region)) (addSets (e .set) (d .set))) (turned y x)
-      (adds-offset (e .set) (d .set) (baseOf h (e .region)) (sizeIn (p .sizes) (e .region)) y x (de .set) (wd .number (k .0)) lx below low high
+      (adds-offset (e .set) (d .set) (baseOf h (e .region)) (sizeIn (p .regions .sizes) (e .region)) y x (de .set) (wd .number (k .0)) lx below low high
       (me .address (k .1)) (md .number (k .0))))))
       λ _. tt
 

@@ -11,14 +11,14 @@ use lib.Dec.{leb, eqb}
 use lib.ListN.{getD}
 use borrow.Author.Tests.{eqb-true, leb-true, lt-ltb}
 use Rattle.v8.specs.Choice.{cond-both}
-use Rattle.v8.specs.Signed.{excess}
+use Rattle.v8.specs.Signed.{excess, bias}
 use Rattle.v8.specs.declared.AluOp.{AluOp}
 use Rattle.v8.specs.declared.AluOp.the-variants.{Add, And, Or, Xor, Sub, Andn, Orn, Xnor}
 use Rattle.v8.specs.declared.ShiftOp.{ShiftOp}
 use Rattle.v8.specs.declared.ShiftOp.the-variants.{Sll, Srl, Sra}
 use Rattle.alu.specs.Result.{aluOf, shiftOf, add32, sub32, sll32, srl32, sra32}
 use Rattle.sets.specs.declared.NumberSet.{NumberSet}
-use Rattle.sets.specs.Sets.{nought, full, SetRules, Member}
+use Rattle.sets.specs.Sets.{full, SetRules, Member}
 use Rattle.sets.specs.Rules.{addSets, subSets, aluSets, shiftSet}
 use Rattle.sets.specs.Laws.{Offset}
 use Rattle.sets.proofs.Ends.{single-formed, single-holds, full-formed, full-holds}
@@ -100,14 +100,14 @@ module _ (regions : ℕ) (sizes : List ℕ) (h : Host) where
   module _ (laid : Laid regions sizes h) where
     -- the offsets of a region that lie in it
     offsets-right : (r : ℕ) (s : NumberSet) (v : ℕ) → r < regions → SetRules s
-        → (nought ≤ s .lo → s .hi ≤ nought + sizeIn sizes r → baseOf h r + sizeIn sizes r < 4294967296 → Offset (baseOf h r) s v)
+        → (bias ≤ s .lo → s .hi ≤ bias + sizeIn sizes r → baseOf h r + sizeIn sizes r < 4294967296 → Offset (baseOf h r) s v)
         → Right regions sizes h (offsetsGive sizes r s) v
     unfolding offsetsGive
     offsets-right r s v l w o =
-        cond-both (λ (x : Result). Right regions sizes h x v) (leb nought (s .lo) && leb (s .hi) (nought + sizeIn sizes r))
-        (λ t. let p = and-went (leb nought (s .lo)) (leb (s .hi) (nought + sizeIn sizes r)) t in
-        let low = leb-true nought (s .lo) (p .0) in
-        let high = leb-true (s .hi) (nought + sizeIn sizes r) (p .1) in (
+        cond-both (λ (x : Result). Right regions sizes h x v) (leb bias (s .lo) && leb (s .hi) (bias + sizeIn sizes r))
+        (λ t. let p = and-went (leb bias (s .lo)) (leb (s .hi) (bias + sizeIn sizes r)) t in
+        let low = leb-true bias (s .lo) (p .0) in
+        let high = leb-true (s .hi) (bias + sizeIn sizes r) (p .1) in (
           address-rules regions sizes (addressIn r s) refl (record { region = l; set = w; low = low; high = high }),
           holds-address h (addressIn r s) v refl (o low high below),
         ))

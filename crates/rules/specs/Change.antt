@@ -108,7 +108,7 @@ accessChange p n a rd e o =
 -- what an operation does to a row
 abbrev pub operationChange : Policy → Row → Operation → Change
 operationChange p row (Sethi rd imm22) = Writes rd (constant (sethiOf imm22)) (noteAfter (row .note) rd)
-operationChange p row (Alu op cc rd rs1 x) = aluChange (p .sizes) (row .note) op cc rd (operandsOf row rs1 x)
+operationChange p row (Alu op cc rd rs1 x) = aluChange (p .regions .sizes) (row .note) op cc rd (operandsOf row rs1 x)
 operationChange p row (Shift op rd rs1 x) = shiftChange (row .note) op rd (operandsOf row rs1 x)
 operationChange p row (Memory a rd rs1 d) = accessChange p (row .note) a rd (entryAt row rd) (operandsOf row rs1 (addend d))
 

@@ -95,7 +95,7 @@ pub record Reached (p : Policy) (h : Host) (a : Access) (x y place : ℕ) : Type
   pub region : ℕ
   pub field : ℕ
   pub offset : ℕ
-  pub region-is : region < p .regions
+  pub region-is : region < p .regions .count
   pub field-is : field < countOf p region
   pub here : place ≡ placeOf region field
   pub address : add32 x y ≡ baseOf h region + offset
@@ -108,8 +108,8 @@ pub record Reached (p : Policy) (h : Host) (a : Access) (x y place : ℕ) : Type
 
 abbrev pub Reaches : Type 0
 Reaches =
-    (p : Policy) (h : Host) → WellFormed p → Laid (p .regions) (p .sizes) h
-    → (a : Access) (rs1 rs2 : ℕ) (d e : Entry) (x y place : ℕ) → EntryRules (p .regions) (p .sizes) d → EntryRules (p .regions) (p .sizes) e
+    (p : Policy) (h : Host) → WellFormed p → Laid (p .regions .count) (p .regions .sizes) h
+    → (a : Access) (rs1 rs2 : ℕ) (d e : Entry) (x y place : ℕ) → EntryRules (p .regions .count) (p .regions .sizes) d → EntryRules (p .regions .count) (p .regions .sizes) e
     → x < 4294967296 → y < 4294967296 → Holds h d x → Holds h e y → reachOf p a rs1 d rs2 e ≡ Inside place → Reached p h a x y place
 
 -- Narrowing by a condition that holds never drops what is there.

@@ -23,7 +23,7 @@ fieldsOf fields elements permissions targets offsets counts lows highs =
     }
 
 abbrev pub listsOf : Policy → Policy
-listsOf p = fieldsOf (p .fields) (p .elements) (p .permissions) (p .targets) (p .offsets) (p .counts) (p .lows) (p .highs)
+listsOf p = fieldsOf (p .regions .fields) (p .fields .elements) (p .fields .permissions) (p .values .targets) (p .fields .offsets) (p .fields .counts) (p .values .lows) (p .values .highs)
 
 -- one that has the lists that say where an access lies
 abbrev pub placesOf : List ℕ → List ℕ → List ℕ → List ℕ → List ℕ → Policy

@@ -5,16 +5,16 @@ use mathlib.Core.Bool.{Bool, true, false, cond, _&&_}
 use lib.Dec.{eqb}
 use Rattle.alu.specs.declared.condition.Narrowing.{Narrowing}
 use Rattle.alu.specs.declared.condition.Narrowing.the-variants.{Unrelated, EqualTo, NotEqualTo, LessThan, AtLeast, AtMost, GreaterThan}
-use Rattle.sets.specs.declared.Narrowed.{Narrowed}
-use Rattle.sets.specs.declared.Narrowed.the-variants as Set·
-use Rattle.sets.specs.Sets.{nought}
+use Rattle.sets.specs.declared.SetLeft.{SetLeft}
+use Rattle.sets.specs.declared.SetLeft.the-variants as Set·
 use Rattle.sets.specs.Narrow.{narrowSet}
 use Rattle.rows.specs.declared.Entry.{Entry}
 use Rattle.rows.specs.declared.Row.{Row}
-use Rattle.rules.specs.declared.Remainder.{Remainder}
-use Rattle.rules.specs.declared.Remainder.the-variants.{Left, Nothing}
-use Rattle.rows.specs.Entry.{isNumber, isStartOrNull, isComparison, numberIn, constant, startOf}
+use Rattle.rules.specs.declared.EntryLeft.{EntryLeft}
+use Rattle.rules.specs.declared.EntryLeft.the-variants.{Left, Nothing}
+use Rattle.rows.specs.Entry.{isNumber, isStartOrNull, isComparison, numberIn, constant, regionStart}
 use Rattle.rows.specs.Row.{entryAt, rowWith}
+use Rattle.v8.specs.Signed.{bias}
 
 -- a condition of this class says how the numbers compare: "narrows .. on conditions 1, 2, 3, 9, 10, 11"
 abbrev pub narrows : Narrowing → Bool
@@ -27,25 +27,25 @@ narrows AtMost = true
 narrows GreaterThan = true
 
 -- what is left of a number
-abbrev pub leftOf : Narrowed → Remainder
+abbrev pub leftOf : SetLeft → EntryLeft
 leftOf (Set·.Left s) = Left (numberIn s)
 leftOf Set·.Nothing = Nothing
 
 -- "a kind 3 compared with 0 becomes single 0 or the start on 1 and 9"
-abbrev pub narrowStart : Narrowing → Entry → Remainder
+abbrev pub narrowStart : Narrowing → Entry → EntryLeft
 narrowStart Unrelated e = Left e
 narrowStart EqualTo e = Left (constant 0)
-narrowStart NotEqualTo e = Left (startOf (e .region))
+narrowStart NotEqualTo e = Left (regionStart (e .region))
 narrowStart LessThan e = Left e
 narrowStart AtLeast e = Left e
 narrowStart AtMost e = Left e
 narrowStart GreaterThan e = Left e
 
 -- what a condition of this class leaves of an entry whose value was compared with n
-unfoldable pub narrowEntry : Narrowing → Entry → ℕ → Remainder
+unfoldable pub narrowEntry : Narrowing → Entry → ℕ → EntryLeft
 narrowEntry c e n =
     cond (isNumber e) (leftOf (narrowSet c (e .set) n))
-    (cond (isStartOrNull e && eqb n nought) (narrowStart c e)
+    (cond (isStartOrNull e && eqb n bias) (narrowStart c e)
     (Left e))
 
 -- what is left of a row: "An edge with no members left is not examined."
@@ -53,7 +53,7 @@ pub data RowLeft : Type 0 where
   left : Row → RowLeft
   nothing : RowLeft
 
-abbrev pub rowLeft : Row → Remainder → RowLeft
+abbrev pub rowLeft : Row → EntryLeft → RowLeft
 rowLeft row (Left e) = left (rowWith row (row .note .register) e (row .note))
 rowLeft row Nothing = nothing
 

@@ -3,6 +3,7 @@
 use Prim.Native.Nat.{ℕ, _+_, _-_, _%_}
 use mathlib.Core.Bool.{Bool, cond, not, _&&_}
 use lib.Dec.{ltb, eqb}
+use Rattle.v8.specs.Signed.{bias}
 use Rattle.v8.specs.Numbers.{maybeNull, noRule, outsideFields, wrongElement, offGrid, notAllowed, tooHigh}
 use Rattle.v8.specs.declared.Access.{Access}
 use Rattle.policy.specs.declared.Policy.{Policy}
@@ -12,7 +13,6 @@ use Rattle.policy.specs.Policy.{fieldAt}
 use Rattle.policy.specs.Find.{findField}
 use Rattle.access.specs.Serve.{accessWidth, serves, allows}
 use Rattle.sets.specs.declared.NumberSet.{NumberSet}
-use Rattle.sets.specs.Sets.{nought}
 use Rattle.sets.specs.Rules.{addSets}
 use Rattle.rows.specs.declared.Entry.{Entry}
 use Rattle.rules.specs.declared.Reach.{Reach}
@@ -20,8 +20,8 @@ use Rattle.rules.specs.declared.Reach.the-variants.{Inside, Outside}
 use Rattle.rows.specs.Entry.{isNumber, isAddress, isStartOrNull}
 
 -- the end of the bytes reached, "from lowest to highest offset plus width"
-abbrev pub endOf : NumberSet → ℕ → ℕ
-endOf s width = s .hi - nought + width
+abbrev pub reachEnd : NumberSet → ℕ → ℕ
+reachEnd s width = s .hi - bias + width
 
 -- "9 an offset off the element grid, or step not a multiple of the width"
 abbrev pub onGrid : NumberSet → ℕ → Bool
@@ -30,7 +30,7 @@ onGrid s width = eqb (s .lo % width) 0 && eqb (s .step % width) 0
 -- 13, 8, 9 and 10, of the field at a place that holds the bytes reached
 unfoldable pub inField : Policy → Access → ℕ → NumberSet → ℕ → Reach
 inField p a rs1 s place =
-    cond (ltb 4096 (endOf s (accessWidth a))) (Outside tooHigh rs1)
+    cond (ltb 4096 (reachEnd s (accessWidth a))) (Outside tooHigh rs1)
     (cond (not (serves a (fieldAt p place .element))) (Outside wrongElement rs1)
     (cond (not (onGrid s (accessWidth a))) (Outside offGrid rs1)
     (cond (not (allows a (fieldAt p place .permission))) (Outside notAllowed rs1)
@@ -43,8 +43,8 @@ inFound p a rs1 s Found·.Nothing = Outside outsideFields rs1
 -- 7: the offsets of a region, with all the bytes from the lowest on inside one field
 unfoldable pub inRegion : Policy → Access → ℕ → ℕ → NumberSet → Reach
 inRegion p a rs1 r s =
-    cond (ltb (s .lo) nought) (Outside outsideFields rs1)
-    (inFound p a rs1 s (findField p r (s .lo - nought) (endOf s (accessWidth a))))
+    cond (ltb (s .lo) bias) (Outside outsideFields rs1)
+    (inFound p a rs1 s (findField p r (s .lo - bias) (reachEnd s (accessWidth a))))
 
 -- 5 and 6, then the rest on the sum of an address and a number
 unfoldable pub reachOf : Policy → Access → ℕ → Entry → ℕ → Entry → Reach

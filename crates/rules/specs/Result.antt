@@ -3,13 +3,14 @@ use Prim.Native.Nat.{ℕ, _+_, _%_}
 use mathlib.Core.Bool.{Bool, true, false, cond, _&&_}
 use mathlib.Core.List.{List}
 use lib.Dec.{leb}
+use Rattle.v8.specs.Signed.{bias}
 use Rattle.v8.specs.Numbers.{noRule, outsideRegion}
 use Rattle.v8.specs.declared.AluOp.{AluOp}
 use Rattle.v8.specs.declared.AluOp.the-variants.{Add, And, Or, Xor, Sub, Andn, Orn, Xnor}
 use Rattle.v8.specs.declared.ShiftOp.{ShiftOp}
 use Rattle.alu.specs.Result.{aluOf, shiftOf}
 use Rattle.sets.specs.declared.NumberSet.{NumberSet}
-use Rattle.sets.specs.Sets.{nought, full}
+use Rattle.sets.specs.Sets.{full}
 use Rattle.sets.specs.Rules.{addSets, subSets, aluSets, shiftSet}
 use Rattle.rows.specs.declared.Entry.{Entry}
 use Rattle.rules.specs.declared.Result.{Result}
@@ -25,7 +26,7 @@ bothNumbers a b = isNumber a && isNumber b
 
 -- the offsets of a region, if none lies outside: "16 result offset below 0 or above size"
 unfoldable pub offsetsGive : List ℕ → ℕ → NumberSet → Result
-offsetsGive sizes r s = cond (leb nought (s .lo) && leb (s .hi) (nought + sizeIn sizes r)) (Gives (addressIn r s)) (Fails outsideRegion)
+offsetsGive sizes r s = cond (leb bias (s .lo) && leb (s .hi) (bias + sizeIn sizes r)) (Gives (addressIn r s)) (Fails outsideRegion)
 
 -- 4. "Address plus number, number plus address: the same on offsets."
 unfoldable pub addressSum : List ℕ → Entry → Entry → Result

@@ -115,14 +115,14 @@ pub fn access_in(policy: Policy, n: Note, a: Access, rd: u8, e: Entry, o: Operan
     ensures { λ r. ⌜ r ≡ accessChange policy n a rd e o ⌝ }
 {
     access_change(
-        &policy.fields,
-        &policy.elements,
-        &policy.permissions,
-        &policy.targets,
-        &policy.offsets,
-        &policy.counts,
-        &policy.lows,
-        &policy.highs,
+        &policy.regions.fields,
+        &policy.fields.elements,
+        &policy.fields.permissions,
+        &policy.values.targets,
+        &policy.fields.offsets,
+        &policy.fields.counts,
+        &policy.values.lows,
+        &policy.values.highs,
         n,
         a,
         rd,

@@ -88,7 +88,7 @@ fn operation_change(policy: Policy, row: Row, x: Operation) -> Change
             operand,
         } => {
             let o = operands_of(row, rs1, operand);
-            alu_change(&policy.sizes, row.note, op, cc, rd, o)
+            alu_change(&policy.regions.sizes, row.note, op, cc, rd, o)
         }
         Operation::Shift { op, rd, rs1, count } => {
             shift_change(row.note, op, rd, operands_of(row, rs1, count))

@@ -52,7 +52,7 @@ pub enum Change {
 }
 
 // What a comparison leaves of an entry.
-pub enum Remainder {
+pub enum EntryLeft {
     Left(Entry),
     Nothing,
 }

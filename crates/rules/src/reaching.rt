@@ -2,17 +2,16 @@
 // conditions are tested in the order of the returns. The policy's lists are lent (specs/Lent.antt).
 ghost use mathlib.Core.Path.{_≡_};
 ghost use Prim.Native.Nat.{_-_, _<_, _≤_};
-ghost use Rattle.sets.specs.Sets.{nought};
 ghost use Rattle.access.specs.Serve.{accessWidth};
-ghost use Rattle.rules.specs.Reach.{endOf, onGrid, inField, inRegion, reachOf};
+ghost use Rattle.rules.specs.Reach.{reachEnd, onGrid, inField, inRegion, reachOf};
 ghost use Rattle.rules.specs.Lent.{rightsOf, placesOf};
+ghost use Rattle.v8.specs.Signed.{bias};
 use crate::Operands;
 use crate::Reach;
 use access::allowed;
 use access::serves_element;
 use access::width_of;
 use policy::Found;
-use policy::element::NOUGHT;
 use policy::find_in;
 use rows::entries::ADDRESS;
 use rows::entries::NUMBER;
@@ -28,17 +27,18 @@ use v8::numbers::OFF_GRID;
 use v8::numbers::OUTSIDE_FIELDS;
 use v8::numbers::TOO_HIGH;
 use v8::numbers::WRONG_ELEMENT;
+use v8::signed::BIAS;
 
 // The offset whose excess form is n; 0 for a negative one.
 fn offset_of(n: u32) -> u32
-    ensures { λ r. ⌜ (r ≡ n - nought) × (r ≤ 2147483647) ⌝ }
+    ensures { λ r. ⌜ (r ≡ n - bias) × (r ≤ 2147483647) ⌝ }
 {
-    if n < NOUGHT { 0 } else { n - NOUGHT }
+    if n < BIAS { 0 } else { n - BIAS }
 }
 
 // The end of the bytes that an access to these offsets reaches.
-fn end_of(s: NumberSet, a: Access) -> u32
-    ensures { λ r. ⌜ r ≡ endOf s (accessWidth a) ⌝ }
+fn reach_end(s: NumberSet, a: Access) -> u32
+    ensures { λ r. ⌜ r ≡ reachEnd s (accessWidth a) ⌝ }
 {
     let width = width_of(a);
     offset_of(s.hi) + width
@@ -64,7 +64,7 @@ fn in_field<'a>(
     requires { ⌜ place < 128 ⌝ }
     ensures { λ r. ⌜ r ≡ inField (rightsOf (now (elements .entry)) (now (permissions .entry))) a rs1 s place ⌝ }
 {
-    if 4096 < end_of(s, a) {
+    if 4096 < reach_end(s, a) {
         return Reach::Outside(TOO_HIGH, rs1);
     }
     if !serves_element(a, elements[place]) {
@@ -93,11 +93,11 @@ fn in_region<'a>(
 ) -> Reach
     ensures { λ r. ⌜ r ≡ inRegion (placesOf (now (fields .entry)) (now (elements .entry)) (now (permissions .entry)) (now (offsets .entry)) (now (counts .entry))) a rs1 region s ⌝ }
 {
-    if s.lo < NOUGHT {
+    if s.lo < BIAS {
         return Reach::Outside(OUTSIDE_FIELDS, rs1);
     }
     let low = ByteOffset(offset_of(s.lo));
-    let end = ByteOffset(end_of(s, a));
+    let end = ByteOffset(reach_end(s, a));
     match find_in(fields, elements, offsets, counts, region, low, end) {
         Found::At(place) => in_field(elements, permissions, a, rs1, s, place),
         Found::Nothing => Reach::Outside(OUTSIDE_FIELDS, rs1),

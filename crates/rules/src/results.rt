@@ -6,14 +6,12 @@ ghost use Rattle.rules.specs.Result.{constants, bothNumbers, offsetsGive
 use crate::Result;
 use alu::alu;
 use alu::shift;
-use policy::element::NOUGHT;
 use rows::Entry;
 use rows::entries::ADDRESS;
 use rows::entries::NUMBER;
 use rows::entries::START_OR_NULL;
 use rows::entries::address_in;
 use rows::entries::constant;
-use rows::entries::excess;
 use rows::entries::is_constant;
 use rows::entries::is_zero;
 use rows::entries::number_in;
@@ -28,6 +26,8 @@ use v8::AluOp;
 use v8::ShiftOp;
 use v8::numbers::NO_RULE;
 use v8::numbers::OUTSIDE_REGION;
+use v8::signed::BIAS;
+use v8::signed::excess;
 
 // The word of a single number.
 fn word_of(e: Entry) -> u32
@@ -55,7 +55,7 @@ fn offsets_give(sizes: &[u16; 8], r: u8, s: NumberSet) -> Result
     ensures { λ res. ⌜ res ≡ offsetsGive (now (sizes .entry)) r s ⌝ }
 {
     let size = size_in(sizes, r);
-    if (NOUGHT <= s.lo) & (s.hi <= NOUGHT + size) {
+    if (BIAS <= s.lo) & (s.hi <= BIAS + size) {
         return Result::Gives(address_in(r, s));
     }
     Result::Fails(OUTSIDE_REGION)

@@ -15,11 +15,11 @@ ghost use Prim.Native.Nat.{_+_, _≤_};
 // The number of regions, and the size and the number of fields of each, in a policy without fields.
 fn regions_of(numbers: &[u32; MOST_NUMBERS]) -> Policy {
     let mut policy = Policy::empty();
-    policy.regions = (numbers[REGIONS] % 256) as u8;
+    policy.regions.count = (numbers[REGIONS] % 256) as u8;
     let mut r = 0;
     while r < 8 {
-        policy.sizes[r] = (numbers[SIZES + r] % 65536) as u16;
-        policy.fields[r] = (numbers[COUNTS + r] % 256) as u8;
+        policy.regions.sizes[r] = (numbers[SIZES + r] % 65536) as u16;
+        policy.regions.fields[r] = (numbers[COUNTS + r] % 256) as u8;
         r += 1;
     }
     policy
@@ -32,13 +32,13 @@ fn with_field(mut policy: Policy, numbers: &[u32; MOST_NUMBERS], at: usize) -> P
     let kinds = numbers[at];
     let extent = numbers[at + 1];
     let place = (kinds / 16777216 % 128) as usize;
-    policy.elements[place] = (kinds / 65536 % 256) as u8;
-    policy.permissions[place] = (kinds / 256 % 256) as u8;
-    policy.targets[place] = (kinds % 256) as u8;
-    policy.offsets[place] = extent / 65536;
-    policy.counts[place] = (extent % 65536) as u16;
-    policy.lows[place] = numbers[at + 2];
-    policy.highs[place] = numbers[at + 3];
+    policy.fields.elements[place] = (kinds / 65536 % 256) as u8;
+    policy.fields.permissions[place] = (kinds / 256 % 256) as u8;
+    policy.values.targets[place] = (kinds % 256) as u8;
+    policy.fields.offsets[place] = extent / 65536;
+    policy.fields.counts[place] = (extent % 65536) as u16;
+    policy.values.lows[place] = numbers[at + 2];
+    policy.values.highs[place] = numbers[at + 3];
     policy
 }
 

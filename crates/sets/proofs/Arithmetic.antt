@@ -9,10 +9,10 @@ use lib.Dec.{leb}
 use lib.Bits.{bitAnd, and-le-l, and-le-r}
 use borrow.Author.Tests.{leb-true}
 use Rattle.v8.specs.Choice.{cond-both}
-use Rattle.v8.specs.Signed.{excess}
+use Rattle.v8.specs.Signed.{excess, bias}
 use Rattle.v8.specs.declared.AluOp.the-variants.{Add, And, Or, Xor, Sub, Andn, Orn, Xnor}
 use Rattle.alu.specs.Result.{add32, sub32}
-use Rattle.sets.specs.Sets.{nought, numbers, ended, s1, SetRules, Member}
+use Rattle.sets.specs.Sets.{numbers, ended, s1, SetRules, Member}
 use Rattle.sets.specs.Rules.{addSets, subSets, andSets}
 use Rattle.sets.specs.Laws.{AluFormed, AluHolds}
 use Rattle.sets.specs.declared.NumberSet.{NumberSet}
@@ -74,11 +74,11 @@ module _ (a b : NumberSet) (ra : SetRules a) (rb : SetRules b) where
   and-formed : SetRules (andSets a b)
   unfolding andSets
   and-formed =
-      cond-both SetRules (leb nought (a .lo))
-      (λ p. cond-both SetRules (leb nought (b .lo))
+      cond-both SetRules (leb bias (a .lo))
+      (λ p. cond-both SetRules (leb bias (b .lo))
       (λ q. ended-formed 1 _ _ s1 (omega (arith, leb-true, ra .order, rb .order)) (omega (arith, ra .top)) (mod-one _))
       (λ _. ended-formed 1 _ _ s1 (omega (arith, leb-true, ra .order)) (ra .top) (mod-one _)))
-      (λ _. cond-both SetRules (leb nought (b .lo))
+      (λ _. cond-both SetRules (leb bias (b .lo))
       (λ q. ended-formed 1 _ _ s1 (omega (arith, leb-true, rb .order)) (rb .top) (mod-one _))
       (λ _. full-formed))
 
@@ -110,15 +110,15 @@ excess-difference x y h k =
     solved p q r h k e = omega arith
 
 -- a word whose number lies from n on, where n is not negative
-pub positive : (n x : ℕ) → leb nought n ≡ true → x < 4294967296 → n ≤ excess x → (excess x ≡ x + 2147483648) × (x < 2147483648)
-positive n x t h p = of (leb-true nought n t)
+pub positive : (n x : ℕ) → leb bias n ≡ true → x < 4294967296 → n ≤ excess x → (excess x ≡ x + 2147483648) × (x < 2147483648)
+positive n x t h p = of (leb-true bias n t)
   where
     of : 2147483648 ≤ n → (excess x ≡ x + 2147483648) × (x < 2147483648)
     of q = omega arith
 
 -- a word from 0 to h
-up-to : (h z : ℕ) → z < 2147483648 → z + 2147483648 ≤ h → Member (ended 1 nought h) (excess z)
-up-to h z k p = ended-holds 1 nought h (excess z) (record { low = omega arith; high = rw (small z k) p; grid = mod-one _ })
+up-to : (h z : ℕ) → z < 2147483648 → z + 2147483648 ≤ h → Member (ended 1 bias h) (excess z)
+up-to h z k p = ended-holds 1 bias h (excess z) (record { low = omega arith; high = rw (small z k) p; grid = mod-one _ })
   where
     small : (z : ℕ) → z < 2147483648 → excess z ≡ z + 2147483648
     small z k = omega arith
@@ -127,11 +127,11 @@ and-holds : (a b : NumberSet) (x y : ℕ) → x < 4294967296 → y < 4294967296
     → Member a (excess x) → Member b (excess y) → Member (andSets a b) (excess (bitAnd x y))
 unfolding andSets
 and-holds a b x y hx hy ma mb =
-    cond-both Holds (leb nought (a .lo))
-    (λ p. cond-both Holds (leb nought (b .lo))
+    cond-both Holds (leb bias (a .lo))
+    (λ p. cond-both Holds (leb bias (b .lo))
     (λ q. up-to _ z (omega (arith, px p, and-le-l x y)) (omega (arith, px p, py q, and-le-l x y, and-le-r x y, ma .high, mb .high)))
     (λ _. up-to _ z (omega (arith, px p, and-le-l x y)) (omega (arith, px p, and-le-l x y, ma .high))))
-    (λ _. cond-both Holds (leb nought (b .lo))
+    (λ _. cond-both Holds (leb bias (b .lo))
     (λ q. up-to _ z (omega (arith, py q, and-le-r x y)) (omega (arith, py q, and-le-r x y, mb .high)))
     (λ _. full-holds z))
   where
@@ -141,10 +141,10 @@ and-holds a b x y hx hy ma mb =
     Holds : NumberSet → Type 0
     Holds r = Member r (excess (bitAnd x y))
 
-    px : leb nought (a .lo) ≡ true → (excess x ≡ x + 2147483648) × (x < 2147483648)
+    px : leb bias (a .lo) ≡ true → (excess x ≡ x + 2147483648) × (x < 2147483648)
     px p = positive (a .lo) x p hx (ma .low)
 
-    py : leb nought (b .lo) ≡ true → (excess y ≡ y + 2147483648) × (y < 2147483648)
+    py : leb bias (b .lo) ≡ true → (excess y ≡ y + 2147483648) × (y < 2147483648)
     py p = positive (b .lo) y p hy (mb .low)
 
 pub alu-holds : AluHolds

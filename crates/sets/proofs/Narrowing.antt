@@ -17,23 +17,23 @@ use Rattle.sets.specs.Sets.{ended, SetRules, Member}
 use Rattle.sets.specs.Narrow.{atMost, atLeast, lessThan, greaterThan, isMember, only, without, narrowSet}
 use Rattle.sets.specs.Laws.{Among, LeftFormed, NarrowFormed, NarrowKeeps, NarrowWithin, NarrowObeys}
 use Rattle.sets.specs.declared.NumberSet.{NumberSet}
-use Rattle.sets.specs.declared.Narrowed.{Narrowed}
-use Rattle.sets.specs.declared.Narrowed.the-variants.{Left, Nothing}
+use Rattle.sets.specs.declared.SetLeft.{SetLeft}
+use Rattle.sets.specs.declared.SetLeft.the-variants.{Left, Nothing}
 use Rattle.sets.proofs.Steps.{sum-on, difference-on, Rounded, rounded}
 use Rattle.sets.proofs.Ends.{from-top, single-formed, single-holds, ended-formed, ended-holds, ended-only}
 
 -- x is left of s: all its members that obey P, and only such as obey Q
-record Leaves (s : NumberSet) (P Q : ℕ → Type 0) (x : Narrowed) : Type 0 where
+record Leaves (s : NumberSet) (P Q : ℕ → Type 0) (x : SetLeft) : Type 0 where
   formed : LeftFormed x
   keeps : (m : ℕ) → Member s m → P m → Among x m
   inside : (m : ℕ) → Among x m → Member s m
   obeys : (m : ℕ) → Among x m → Q m
 
-abbrev Exactly : NumberSet → (ℕ → Type 0) → Narrowed → Type 0
+abbrev Exactly : NumberSet → (ℕ → Type 0) → SetLeft → Type 0
 Exactly s P x = Leaves s P P x
 
 -- other words for P and Q
-leaves-by : {s : NumberSet} {P Q P′ Q′ : ℕ → Type 0} {x : Narrowed}
+leaves-by : {s : NumberSet} {P Q P′ Q′ : ℕ → Type 0} {x : SetLeft}
     → ((m : ℕ) → Member s m → P′ m → P m) → ((m : ℕ) → Q m → Q′ m) → Leaves s P Q x → Leaves s P′ Q′ x
 leaves-by f g l =
     record { formed = l .formed; keeps = λ m p q. l .keeps m p (f m p q); inside = l .inside; obeys = λ m p. g m (l .obeys m p) }

@@ -7,9 +7,9 @@ use mathlib.Core.Bool.{Bool, true, false}
 use native.Mathlib.Omega.{arith}
 use lib.Dec.{leb}
 use borrow.Author.Tests.{leb-true, leb-false}
-use Rattle.v8.specs.Signed.{excess}
+use Rattle.v8.specs.Signed.{excess, bias}
 use Rattle.alu.specs.Result.{add32, sub32}
-use Rattle.sets.specs.Sets.{nought, Member}
+use Rattle.sets.specs.Sets.{Member}
 use Rattle.sets.specs.Rules.{addSets, subSets}
 use Rattle.sets.specs.Laws.{Offset, AddsOffset, SubsOffset}
 use Rattle.sets.specs.declared.NumberSet.{NumberSet}
@@ -20,7 +20,7 @@ use Rattle.sets.proofs.Arithmetic.{sum-between, difference-between}
 placed : (r : NumberSet) (base v t : ℕ) → 2147483648 ≤ v → t ≡ base + (v - 2147483648) → Member r v → Offset base r t
 placed r base v t p e m = rw e (record { above = omega arith; member = subst (Member r) (back base v p) m })
   where
-    back : (base v : ℕ) → 2147483648 ≤ v → v ≡ base + (v - 2147483648) - base + nought
+    back : (base v : ℕ) → 2147483648 ≤ v → v ≡ base + (v - 2147483648) - base + bias
     back base v p = omega arith
 
 -- a word stands for itself or, from 2^31 on, for 2^32 less

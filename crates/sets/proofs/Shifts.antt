@@ -10,10 +10,10 @@ use lib.Pow.{pow-pos, pow-mono, shr-mono, shr-lt}
 use borrow.Author.Tests.{leb-true, leb-false, eqb-false, lt-leb}
 use Rattle.v8.specs.Choice.{cond-both}
 use Rattle.v8.specs.Power.{twice}
-use Rattle.v8.specs.Signed.{excess}
+use Rattle.v8.specs.Signed.{excess, bias}
 use Rattle.v8.specs.declared.ShiftOp.the-variants.{Sll, Srl, Sra}
 use Rattle.alu.specs.Result.{sll32, srl32, sra32}
-use Rattle.sets.specs.Sets.{nought, numbers, full, s1, SetRules, Member}
+use Rattle.sets.specs.Sets.{numbers, full, s1, SetRules, Member}
 use Rattle.sets.specs.Rules.{within, shiftedUp, shiftedDown, sllSet, sraSet, srlSet}
 use Rattle.sets.specs.Laws.{ShiftFormed, ShiftHolds}
 use Rattle.sets.specs.declared.NumberSet.{NumberSet}
@@ -79,11 +79,11 @@ sra-holds a x s h k m =
 srl-formed : (a : NumberSet) (s : ℕ) → s < 32 → SetRules a → SetRules (srlSet a s)
 unfolding srlSet
 srl-formed a s h r =
-    cond-both SetRules (leb nought (a .lo)) (λ _. sra-formed a s h r)
+    cond-both SetRules (leb bias (a .lo)) (λ _. sra-formed a s h r)
     (λ _. cond-both SetRules (eqb s 0) (λ _. full-formed)
     (λ t. below (2 ^ (32 - s)) (pow-mono {i = 1} {j = 32 - s} (omega arith)) (pow-half s (eqb-false s 0 t))))
   where
-    below : (n : ℕ) → 2 ≤ n → n ≤ 2147483648 → SetRules (numbers 1 nought (2147483647 + n))
+    below : (n : ℕ) → 2 ≤ n → n ≤ 2147483648 → SetRules (numbers 1 bias (2147483647 + n))
     below n p q = record { steps = s1; order = omega arith; top = omega arith; even = mod-one _; single = λ e. absurd (apart e) }
       where
         apart : 2147483648 ≡ 2147483647 + n → ⊥
@@ -92,7 +92,7 @@ srl-formed a s h r =
 srl-holds : (a : NumberSet) (x s : ℕ) → x < 4294967296 → s < 32 → Member a (excess x) → Member (srlSet a s) (excess (srl32 x s))
 unfolding srlSet
 srl-holds a x s h k m =
-    cond-both Holds (leb nought (a .lo))
+    cond-both Holds (leb bias (a .lo))
     (λ t. rw (same (positive (a .lo) x t h (m .low) .1)) at (sra-holds a x s h k m))
     (λ _. cond-both Holds (eqb s 0) (λ _. full-holds (srl32 x s))
     (λ t. below (2 ^ (32 - s)) (x / 2 ^ s) (shr-lt (32 - s) s (rw (whole s k) h)) (pow-half s (eqb-false s 0 t))))
@@ -106,7 +106,7 @@ srl-holds a x s h k m =
     whole : (s : ℕ) → s < 32 → 32 - s + s ≡ 32
     whole s h = omega arith
 
-    below : (n z : ℕ) → z < n → n ≤ 2147483648 → Member (numbers 1 nought (2147483647 + n)) (excess z)
+    below : (n z : ℕ) → z < n → n ≤ 2147483648 → Member (numbers 1 bias (2147483647 + n)) (excess z)
     below n z p q = omega arith
 
 -- SLL: from l to v is (v - l) p, after both were shifted, where l stays in reach

@@ -3,19 +3,19 @@
 use Prim.Native.Nat.{ℕ, _+_, _-_, _≤_, _<_}
 use mathlib.Core.Path.{_≡_}
 use mathlib.Core.Bool.{true}
-use Rattle.v8.specs.Signed.{excess}
+use Rattle.v8.specs.Signed.{excess, bias}
 use Rattle.v8.specs.declared.AluOp.{AluOp}
 use Rattle.v8.specs.declared.ShiftOp.{ShiftOp}
 use Rattle.alu.specs.Result.{add32, sub32, aluOf, shiftOf}
 use Rattle.alu.specs.Condition.{compares}
 use Rattle.alu.specs.declared.condition.Narrowing.{Narrowing}
 use Rattle.alu.specs.declared.condition.Narrowing.the-variants.{NotEqualTo}
-use Rattle.sets.specs.Sets.{nought, setOk, fitsSet, SetRules, Member}
+use Rattle.sets.specs.Sets.{setOk, fitsSet, SetRules, Member}
 use Rattle.sets.specs.Rules.{addSets, subSets, aluSets, shiftSet}
 use Rattle.sets.specs.Narrow.{narrowSet}
 use Rattle.sets.specs.declared.NumberSet.{NumberSet}
-use Rattle.sets.specs.declared.Narrowed.{Narrowed}
-use Rattle.sets.specs.declared.Narrowed.the-variants.{Left, Nothing}
+use Rattle.sets.specs.declared.SetLeft.{SetLeft}
+use Rattle.sets.specs.declared.SetLeft.the-variants.{Left, Nothing}
 
 -- The test of form passes the sets that obey the rules ..
 abbrev pub Obeys : Type 0
@@ -55,29 +55,29 @@ ShiftHolds =
 -- the offset of an address from a base is one of the set
 pub record Offset (base : ℕ) (s : NumberSet) (address : ℕ) : Type 0 where
   pub above : base ≤ address
-  pub member : Member s (address - base + nought)
+  pub member : Member s (address - base + bias)
 
 -- An address of a region of this size plus a number, where all the offsets stay in the region: the sum of the words is the sum.
 abbrev pub AddsOffset : Type 0
 AddsOffset =
     (a b : NumberSet) (base size x y : ℕ) → SetRules a → SetRules b → y < 4294967296 → base + size < 4294967296
-    → nought ≤ addSets a b .lo → addSets a b .hi ≤ nought + size
+    → bias ≤ addSets a b .lo → addSets a b .hi ≤ bias + size
     → Offset base a x → Member b (excess y) → Offset base (addSets a b) (add32 x y)
 
 -- An address minus a number, likewise.
 abbrev pub SubsOffset : Type 0
 SubsOffset =
     (a b : NumberSet) (base size x y : ℕ) → SetRules a → SetRules b → y < 4294967296 → base + size < 4294967296
-    → nought ≤ subSets a b .lo → subSets a b .hi ≤ nought + size
+    → bias ≤ subSets a b .lo → subSets a b .hi ≤ bias + size
     → Offset base a x → Member b (excess y) → Offset base (subSets a b) (sub32 x y)
 
 -- n is among what is left
-abbrev pub Among : Narrowed → ℕ → Type 0
+abbrev pub Among : SetLeft → ℕ → Type 0
 Among (Left s) n = Member s n
 Among Nothing n = ⊥
 
 -- what is left is well formed
-abbrev pub LeftFormed : Narrowed → Type 0
+abbrev pub LeftFormed : SetLeft → Type 0
 LeftFormed (Left s) = SetRules s
 LeftFormed Nothing = Unit {0}
 

@@ -2,11 +2,12 @@
 use Prim.Native.Nat.{ℕ, _+_, _-_, _*_, _/_, _^_, min}
 use mathlib.Core.Bool.{cond, _||_}
 use lib.Dec.{leb, ltb, eqb}
+use Rattle.v8.specs.Signed.{bias}
 use Rattle.v8.specs.declared.AluOp.{AluOp}
 use Rattle.v8.specs.declared.AluOp.the-variants.{Add, And, Or, Xor, Sub, Andn, Orn, Xnor}
 use Rattle.v8.specs.declared.ShiftOp.{ShiftOp}
 use Rattle.v8.specs.declared.ShiftOp.the-variants.{Sll, Srl, Sra}
-use Rattle.sets.specs.Sets.{nought, numbers, full, ended}
+use Rattle.sets.specs.Sets.{numbers, full, ended}
 use Rattle.sets.specs.declared.NumberSet.{NumberSet}
 
 -- the set with these ends, each 2^31 more than its excess form; "full if an end leaves signed 32 bits"
@@ -26,9 +27,9 @@ subSets a b = within (min (a .step) (b .step)) (a .lo + 4294967296 - b .hi) (a .
 -- "AND on numbers: from 0 to the smaller hi of the operands with lo ≥ 0, step 1; full if neither."
 unfoldable pub andSets : NumberSet → NumberSet → NumberSet
 andSets a b =
-    cond (leb nought (a .lo))
-    (cond (leb nought (b .lo)) (ended 1 nought (min (a .hi) (b .hi))) (ended 1 nought (a .hi)))
-    (cond (leb nought (b .lo)) (ended 1 nought (b .hi)) full)
+    cond (leb bias (a .lo))
+    (cond (leb bias (b .lo)) (ended 1 bias (min (a .hi) (b .hi))) (ended 1 bias (a .hi)))
+    (cond (leb bias (b .lo)) (ended 1 bias (b .hi)) full)
 
 -- what an operation makes of two sets of numbers: "Other logic on numbers: full."
 abbrev pub aluSets : AluOp → NumberSet → NumberSet → NumberSet
@@ -59,7 +60,7 @@ sraSet a s = ended 1 (shiftedDown (a .lo) s) (shiftedDown (a .hi) s)
 
 -- "SRL as SRA if lo ≥ 0, else full for s = 0, else 0 to 2^(32−s)−1, step 1"
 unfoldable pub srlSet : NumberSet → ℕ → NumberSet
-srlSet a s = cond (leb nought (a .lo)) (sraSet a s) (cond (eqb s 0) full (numbers 1 nought (2147483647 + 2 ^ (32 - s))))
+srlSet a s = cond (leb bias (a .lo)) (sraSet a s) (cond (eqb s 0) full (numbers 1 bias (2147483647 + 2 ^ (32 - s))))
 
 -- what a shift by the single count s, below 32, makes of a set
 abbrev pub shiftSet : ShiftOp → NumberSet → ℕ → NumberSet

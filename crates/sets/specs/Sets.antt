@@ -4,12 +4,7 @@ use Prim.Native.Nat.{ℕ, _-_, _%_, _≤_, _<_}
 use mathlib.Core.Path.{_≡_}
 use mathlib.Core.Bool.{Bool, cond, not, _&&_, _||_}
 use lib.Dec.{leb, eqb}
-use Rattle.v8.specs.Signed.{excess}
 use Rattle.sets.specs.declared.NumberSet.{NumberSet}
-
--- the number 0
-abbrev pub nought : ℕ
-nought = excess 0
 
 -- the numbers from lo to hi that lie on the steps from lo
 abbrev pub numbers : ℕ → ℕ → ℕ → NumberSet

@@ -31,7 +31,7 @@ pub struct NumberSet {
 }
 
 // What a comparison leaves of a set.
-pub enum Narrowed {
+pub enum SetLeft {
     Left(NumberSet),
     Nothing,
 }

@@ -2,8 +2,8 @@
 // noted number".)
 ghost use mathlib.Core.Path.{_≡_};
 ghost use Rattle.sets.specs.Narrow.{atMost, atLeast, lessThan, greaterThan, isMember, only, without, narrowSet};
-use crate::Narrowed;
 use crate::NumberSet;
+use crate::SetLeft;
 use crate::form::ended;
 use crate::form::single;
 use crate::natural::larger;
@@ -14,43 +14,43 @@ use crate::natural::smaller;
 use alu::Narrowing;
 
 // The members up to `n`.
-fn at_most(a: NumberSet, n: u32) -> Narrowed
+fn at_most(a: NumberSet, n: u32) -> SetLeft
     ensures { λ r. ⌜ r ≡ atMost a n ⌝ }
 {
     if n < a.lo {
-        return Narrowed::Nothing;
+        return SetLeft::Nothing;
     }
     let span = round_down(minus(smaller(a.hi, n), a.lo), a.step);
-    Narrowed::Left(ended(a.step, a.lo, a.lo + span))
+    SetLeft::Left(ended(a.step, a.lo, a.lo + span))
 }
 
 // The members from `n` on.
-fn at_least(a: NumberSet, n: u32) -> Narrowed
+fn at_least(a: NumberSet, n: u32) -> SetLeft
     ensures { λ r. ⌜ r ≡ atLeast a n ⌝ }
 {
     if a.hi < n {
-        return Narrowed::Nothing;
+        return SetLeft::Nothing;
     }
     let span = round_down(minus(a.hi, larger(a.lo, n)), a.step);
-    Narrowed::Left(ended(a.step, a.hi - span, a.hi))
+    SetLeft::Left(ended(a.step, a.hi - span, a.hi))
 }
 
 // The members below `n`.
-fn less_than(a: NumberSet, n: u32) -> Narrowed
+fn less_than(a: NumberSet, n: u32) -> SetLeft
     ensures { λ r. ⌜ r ≡ lessThan a n ⌝ }
 {
     if n == 0 {
-        return Narrowed::Nothing;
+        return SetLeft::Nothing;
     }
     at_most(a, n - 1)
 }
 
 // The members above `n`.
-fn greater_than(a: NumberSet, n: u32) -> Narrowed
+fn greater_than(a: NumberSet, n: u32) -> SetLeft
     ensures { λ r. ⌜ r ≡ greaterThan a n ⌝ }
 {
     if n == 4294967295 {
-        return Narrowed::Nothing;
+        return SetLeft::Nothing;
     }
     at_least(a, n + 1)
 }
@@ -64,17 +64,17 @@ fn is_member(a: NumberSet, n: u32) -> bool
 }
 
 // The member `n` alone.
-fn only(a: NumberSet, n: u32) -> Narrowed
+fn only(a: NumberSet, n: u32) -> SetLeft
     ensures { λ r. ⌜ r ≡ only a n ⌝ }
 {
     if is_member(a, n) {
-        return Narrowed::Left(single(n));
+        return SetLeft::Left(single(n));
     }
-    Narrowed::Nothing
+    SetLeft::Nothing
 }
 
 // The set without `n` where `n` is an end.
-fn without(a: NumberSet, n: u32) -> Narrowed
+fn without(a: NumberSet, n: u32) -> SetLeft
     ensures { λ r. ⌜ r ≡ without a n ⌝ }
 {
     if n == a.lo {
@@ -83,15 +83,15 @@ fn without(a: NumberSet, n: u32) -> Narrowed
     if n == a.hi {
         return less_than(a, n);
     }
-    Narrowed::Left(a)
+    SetLeft::Left(a)
 }
 
 // What a condition of this class leaves of a set compared with `n`.
-pub fn narrow_set(class: Narrowing, a: NumberSet, n: u32) -> Narrowed
+pub fn narrow_set(class: Narrowing, a: NumberSet, n: u32) -> SetLeft
     ensures { λ r. ⌜ r ≡ narrowSet class a n ⌝ }
 {
     match class {
-        Narrowing::Unrelated => Narrowed::Left(a),
+        Narrowing::Unrelated => SetLeft::Left(a),
         Narrowing::EqualTo => only(a, n),
         Narrowing::NotEqualTo => without(a, n),
         Narrowing::LessThan => less_than(a, n),

@@ -16,7 +16,7 @@ use Rattle.v8.specs.Numbers.{unsetRead, noField, unaligned}
 use Rattle.alu.specs.Result.{add32, aluOf, shiftOf, sethiOf}
 use Rattle.alu.specs.Codes.{codesOf}
 use Rattle.memory.specs.Memory.{loadOf, storeOf}
-use Rattle.memory.specs.Place.{startOf}
+use Rattle.memory.specs.Place.{partStart}
 use Rattle.step.specs.declared.Registers.{Registers}
 use Rattle.step.specs.declared.Aim.{Aim}
 use Rattle.step.specs.declared.Aim.the-variants.{Address, Missed}
@@ -88,11 +88,11 @@ touching c (Stores op) rd place = done (record { registers = c .registers; memor
 
 -- an access where it lies
 abbrev pub accessAt : List ℕ → Core → Access → ℕ → Located → Effect
-accessAt sizes c a rd (At r offset) = touching c a rd (startOf sizes r + offset .0)
+accessAt sizes c a rd (At r offset) = touching c a rd (partStart sizes r + offset .0)
 accessAt sizes c a rd Nowhere = fault noField
 
 abbrev pub accessAimed : Layout → Core → Access → ℕ → Aim → Effect
-accessAimed l c a rd (Address address) = accessAt (l .sizes) c a rd (locate l a address)
+accessAimed l c a rd (Address address) = accessAt (l .regions .sizes) c a rd (locate l a address)
 accessAimed l c a rd (Missed n) = fault n
 
 abbrev pub accessEffect : Layout → Core → Access → ℕ → ℕ → Displacement → Effect

@@ -13,7 +13,7 @@ use Rattle.step.specs.declared.Control.{Control}
 use Rattle.step.specs.declared.Progress.{Progress}
 use Rattle.step.specs.declared.Progress.the-variants.{Goes, Returned, Stopped}
 use Rattle.step.specs.declared.Went.{Went}
-use Rattle.memory.specs.Place.{startOf}
+use Rattle.memory.specs.Place.{partStart}
 use Rattle.v8.specs.declared.Access.{Access}
 use Rattle.access.specs.declared.Located.{Located}
 use Rattle.access.specs.declared.Located.the-variants.{At, Nowhere}
@@ -85,7 +85,7 @@ Computes r left leftMarks values marks codes coded control f =
 pub record Covered (sizes : List ℕ) (n width r offset : ℕ) : Type 0 where
   pub region : r < 8
   pub inside : offset + width ≤ getD sizes r 0
-  pub part : startOf sizes r + getD sizes r 0 ≤ n
+  pub part : partStart sizes r + getD sizes r 0 ≤ n
 
 -- an access lies so wherever it is located
 abbrev pub Lies : List ℕ → ℕ → ℕ → Located → Type 0
@@ -94,7 +94,7 @@ Lies sizes n width Nowhere = Unit {0}
 
 -- every access lies so: what a policy that obeys the rules and a memory as long as its regions give
 abbrev pub Covers : Layout → ℕ → Type 0
-Covers l n = (a : Access) (address : ℕ) → Lies (l .sizes) n (accessWidth a) (locate l a address)
+Covers l n = (a : Access) (address : ℕ) → Lies (l .regions .sizes) n (accessWidth a) (locate l a address)
 
 -- control stands at a word of the code, where that word is read
 abbrev pub Within : Control → Reading → Type 0

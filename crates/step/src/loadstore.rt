@@ -24,7 +24,7 @@ use access::width_of;
 use alu::Codes;
 use alu::sum;
 use memory::load_in;
-use memory::start_of;
+use memory::part_start;
 use memory::store_in;
 use v8::Access;
 use v8::Displacement;
@@ -89,7 +89,7 @@ fn access_at(
         Located::At(r, offset) => {
             let i = r as usize;
             let size = wide(sizes[i]);
-            let start = start_of(sizes, r);
+            let start = part_start(sizes, r);
             match a {
                 Access::Loads(op) => {
                     let v = load_in(memory, start, size as usize, op, offset);

@@ -15,7 +15,7 @@ use Rattle.policy.specs.Element.{widthOf, leastOf, mostOf}
 use Rattle.policy.specs.Policy.{fieldAt, valuesOk, fieldOk, endBefore, fieldFits, fieldAtOk, regionOk, policyOk}
 use Rattle.policy.specs.Find.{holdsIn, stopOf, findIn}
 use Rattle.policy.specs.Build.{regionNumber, fieldNumber, built}
-use Rattle.memory.specs.Place.{startOf}
+use Rattle.memory.specs.Place.{partStart}
 use Rattle.step.specs.Registers.{valueIn, setIn, valuesWith, marksWith}
 use Rattle.access.specs.Locate.{insideRegion, regionIn, locate}
 use Rattle.step.specs.Effect.{aimIn}
@@ -51,7 +51,7 @@ both : (a b : List Row) → Holds a → Holds b → Holds (a ++ b)
 both a b p q = map-append found a b ∙ ap₂ (λ (x y : List Outcome). x ++ y) p q ∙ sym (map-append expected a b)
 
 machine-rows-hold : Holds machineTable
-unfolding readingOf format00 format10 memoryOf operandOf countOf signExtend writingOf packed packOf sethiWord signedBits fiveBits codesOf condHolds conditionOf isSlot xor all widthOf leastOf mostOf fieldAt valuesOk fieldOk endBefore fieldFits fieldAtOk regionOk policyOk regionNumber fieldNumber built startOf lowest first holdsIn stopOf findIn valueIn setIn valuesWith marksWith insideRegion regionIn locate aimIn slotRuns targetOf stepOf disjointIn placedIn runFrom refusalOf runOf
+unfolding readingOf format00 format10 memoryOf operandOf countOf signExtend writingOf packed packOf sethiWord signedBits fiveBits codesOf condHolds conditionOf isSlot xor all widthOf leastOf mostOf fieldAt valuesOk fieldOk endBefore fieldFits fieldAtOk regionOk policyOk regionNumber fieldNumber built partStart lowest first holdsIn stopOf findIn valueIn setIn valuesWith marksWith insideRegion regionIn locate aimIn slotRuns targetOf stepOf disjointIn placedIn runFrom refusalOf runOf
 machine-rows-hold = refl
 
 row-rows-hold : Holds rowTable

@@ -28,7 +28,7 @@ use Rattle.policy.specs.declared.Policy.{Policy}
 use Rattle.policy.specs.declared.Built.{Built}
 use Rattle.policy.specs.Build.{addRegionOf, addFieldOf}
 use Rattle.memory.specs.Memory.{loadOf, storeOf}
-use Rattle.memory.specs.Place.{startOf}
+use Rattle.memory.specs.Place.{partStart}
 use Rattle.step.specs.declared.Registers.{Registers}
 use Rattle.machine.specs.declared.End.{End}
 use Rattle.machine.specs.Run.{Run, runOf}
@@ -39,7 +39,7 @@ use Rattle.rows.specs.Entry.{fits, fitsNote}
 use Rattle.rows.specs.Row.{formFault, misfit}
 use Rattle.rules.specs.declared.Result.{Result}
 use Rattle.rules.specs.declared.Change.{Change}
-use Rattle.rules.specs.declared.Remainder.{Remainder}
+use Rattle.rules.specs.declared.EntryLeft.{EntryLeft}
 use Rattle.rules.specs.Result.{aluResult, shiftResult}
 use Rattle.rules.specs.Change.{changeOf}
 use Rattle.rules.specs.Narrow.{RowLeft, narrowEntry, narrowRow}
@@ -128,7 +128,7 @@ pub data Outcome : Type 0 where
   -- what the word does to the row
   changes : Change → Outcome
   -- what is left of the entry, or of the row
-  remains : Remainder → Outcome
+  remains : EntryLeft → Outcome
   rowRemains : RowLeft → Outcome
   -- an answer: number, word, register
   answers : ℕ → ℕ → ℕ → Outcome
@@ -207,7 +207,7 @@ outcome (condition k) = meets (meetingBelow k 16)
 outcome (adds p more) = numbers (numbersOf p more)
 outcome (loaded op m a) = yields (loadOf op m a)
 outcome (stored op v a m) = leaves (storeOf op v a m)
-outcome (begins sizes r) = yields (startOf sizes r)
+outcome (begins sizes r) = yields (partStart sizes r)
 outcome (runs p words bases returns g allowance memory) = endsOf (runOf p words bases returns g allowance memory)
 outcome (form regions sizes bytes) = yields (formFault regions sizes bytes 0)
 outcome (fitting a b) = fitted (fits a b)

@@ -4,14 +4,14 @@ use Prim.Native.Nat.{ℕ}
 use mathlib.Core.List.{List, [], _∷_, _++_}
 use Rattle.policy.specs.declared.Policy.{Policy}
 use Rattle.policy.specs.Build.{emptyPolicy, withRegion, withField}
-use Rattle.sets.specs.Sets.{nought}
 use Rattle.rows.specs.declared.Entry.{Entry}
 use Rattle.rows.specs.declared.Note.{Note}
 use Rattle.rows.specs.declared.Row as Rows·
 use Rattle.rules.specs.declared.Change.the-variants.{Writes, Keeps, Breaks}
 use Rattle.trials.specs.Case.{Row, _gives_, Given, Outcome, change, changes}
 use Rattle.trials.specs.Policies.{fieldOf}
-use Rattle.trials.specs.Entries.{above, below, least, num, just, anyNumber, addr, at, startOrNull, link, noCodes, someCodes, compared, bare, put, noted}
+use Rattle.trials.specs.Entries.{above, below, least, num, just, anyNumber, addr, at, startOrNull, returnAddress, noCodes, someCodes, compared, bare, put, noted}
+use Rattle.v8.specs.Signed.{bias}
 
 -- Region 0, of 64 bytes, has a field of each element, to be read and written: unsigned bytes at 0, signed bytes at 4, an unsigned half at
 -- 6, signed halves at 8, words from -5 to 9 at 16, the start of region 1 at 32, the same or null at 36; then a word 7 at 40, to be read, and
@@ -26,19 +26,19 @@ shelves =
     (withField
     (withField
     (withField
-    (withField (withRegion (withRegion emptyPolicy 64) 8) 0 (fieldOf 1 3 0 0 4 nought (above 255)))
+    (withField (withRegion (withRegion emptyPolicy 64) 8) 0 (fieldOf 1 3 0 0 4 bias (above 255)))
     0
     (fieldOf 2 3 0 4 2 (below 128) (above 127)))
     0
-    (fieldOf 3 3 0 6 1 nought (above 65535)))
+    (fieldOf 3 3 0 6 1 bias (above 65535)))
     0
     (fieldOf 4 3 0 8 4 (below 32768) (above 32767)))
     0
     (fieldOf 5 3 0 16 4 (below 5) (above 9)))
     0
-    (fieldOf 6 3 1 32 1 nought nought))
+    (fieldOf 6 3 1 32 1 bias bias))
     0
-    (fieldOf 7 3 1 36 1 nought nought))
+    (fieldOf 7 3 1 36 1 bias bias))
     0
     (fieldOf 5 1 0 40 1 (above 7) (above 7)))
     0
@@ -76,7 +76,7 @@ breaks number r = changes (Breaks number r)
 
 -- 0, 4, .. 36
 abbrev pub fours : Entry
-fours = num 4 nought (above 36)
+fours = num 4 bias (above 36)
 
 -- "4 operand unset, in order rs1, rs2, stored rd: that register; 32 for codes, which always and never do not read"
 abbrev pub unsetOperandRows : List Row
@@ -84,21 +84,21 @@ unsetOperandRows =
     -- add %g1,%g2,%g3; add %g1,4,%g1
     on bare 0x86004002 gives breaks 4 1
     ∷ on (one fours) 0x86004002 gives breaks 4 2
-    ∷ on (two fours fours) 0x86004002 gives puts 3 (num 4 nought (above 72))
+    ∷ on (two fours fours) 0x86004002 gives puts 3 (num 4 bias (above 72))
     ∷ on bare 0x82006004 gives breaks 4 1
     -- sll %g1,%g2,%g3; sll %g1,2,%g3
     ∷ on bare 0x87284002 gives breaks 4 1
     ∷ on (one fours) 0x87284002 gives breaks 4 2
     ∷ on bare 0x87286002 gives breaks 4 1
-    ∷ on (one fours) 0x87286002 gives puts 3 (num 8 nought (above 144))
+    ∷ on (one fours) 0x87286002 gives puts 3 (num 8 bias (above 144))
     -- ld [%g1+%g2],%g3
     ∷ on bare 0xC6004002 gives breaks 4 1
     ∷ on (one (at 0 16)) 0xC6004002 gives breaks 4 2
     -- st %g3,[%g1+%g2]
     ∷ on bare 0xC6204002 gives breaks 4 1
     ∷ on (one (at 0 16)) 0xC6204002 gives breaks 4 2
-    ∷ on (two (at 0 16) (just nought)) 0xC6204002 gives breaks 4 3
-    ∷ on (three (at 0 16) (just nought) (just (above 9))) 0xC6204002 gives keeps
+    ∷ on (two (at 0 16) (just bias)) 0xC6204002 gives breaks 4 3
+    ∷ on (three (at 0 16) (just bias) (just (above 9))) 0xC6204002 gives keeps
     -- bl, ba and bn with the codes unset; bl with the codes set, and after a comparison
     ∷ on bare 0x06800002 gives breaks 4 32
     ∷ on bare 0x10800002 gives keeps
@@ -109,7 +109,7 @@ unsetOperandRows =
     ∷ on bare 0x81C3E008 gives breaks 4 15
     ∷ on (put 15 anyNumber bare) 0x81C3E008 gives breaks 6 15
     ∷ on (put 15 (startOrNull 1) bare) 0x81C3E008 gives breaks 6 15
-    ∷ on (put 15 link bare) 0x81C3E008 gives keeps
+    ∷ on (put 15 returnAddress bare) 0x81C3E008 gives keeps
     -- unset comes before 6, and a stored rd's before 5
     ∷ on (one (startOrNull 1)) 0x86004002 gives breaks 4 2
     ∷ on (one (startOrNull 1)) 0xC6204000 gives breaks 4 3
@@ -120,7 +120,7 @@ abbrev pub computedRows : List Row
 computedRows =
     -- sub %g2,%g1,%g3; add %g1,%g2,%g3; srl %g1,24,%g2
     on (two (at 0 8) fours) 0x86208001 gives breaks 6 2
-    ∷ on (two (just nought) link) 0x86004002 gives breaks 6 1
+    ∷ on (two (just bias) returnAddress) 0x86004002 gives breaks 6 1
     ∷ on (one (at 0 8)) 0x85306018 gives breaks 6 1
     -- add %g1,4,%g2; sub %g1,4,%g2; add %g2,%g1,%g3, where r1 has the address
     ∷ on (one (at 0 60)) 0x84006004 gives puts 2 (at 0 64)
@@ -131,14 +131,14 @@ computedRows =
     ∷ on (one (at 0 8)) 0x80A06008 gives writes 0 (at 0 0) (compared 1 (above 8))
     ∷ on (one (at 0 4)) 0x80A06008 gives breaks 16 1
     -- or %g0,%g1,%g2: the return address and kind 3 move
-    ∷ on (one link) 0x84100001 gives puts 2 link
+    ∷ on (one returnAddress) 0x84100001 gives puts 2 returnAddress
     ∷ on (one (startOrNull 1)) 0x84100001 gives puts 2 (startOrNull 1)
     -- 7. "SETHI: the single number": sethi 5,%g2; sethi 0x200000,%g2; nop
     ∷ on bare 0x05000005 gives puts 2 (just (above 5120))
     ∷ on bare 0x05200000 gives puts 2 (just least)
-    ∷ on bare 0x01000000 gives puts 0 (just nought)
+    ∷ on bare 0x01000000 gives puts 0 (just bias)
     -- document 01 (*): the full number, srl %g1,24,%g2
-    ∷ on (one anyNumber) 0x85306018 gives puts 2 (num 1 nought (above 255))
+    ∷ on (one anyNumber) 0x85306018 gives puts 2 (num 1 bias (above 255))
     ∷ []
 
 -- "For memory: 5 an address operand of kind 3; 6 not one address and one number; 7 the bytes reached .. not inside one field"
@@ -150,12 +150,12 @@ reachRows =
     ∷ on (two (startOrNull 0) (startOrNull 1)) 0xC6008001 gives breaks 5 2
     ∷ on (two (at 0 16) (startOrNull 1)) 0xC6004002 gives breaks 5 2
     -- 5 before 6
-    ∷ on (two link (startOrNull 1)) 0xC6004002 gives breaks 5 2
+    ∷ on (two returnAddress (startOrNull 1)) 0xC6004002 gives breaks 5 2
     -- 6: ld [%g1+%g2],%g3 of two numbers, of two addresses; ld [%g1],%g3 of a number, of the return address; ld [%g0+8],%g3
     ∷ on (two fours fours) 0xC6004002 gives breaks 6 1
     ∷ on (two (at 0 16) (at 0 0)) 0xC6004002 gives breaks 6 1
     ∷ on (one anyNumber) 0xC6004000 gives breaks 6 1
-    ∷ on (one link) 0xC6004000 gives breaks 6 1
+    ∷ on (one returnAddress) 0xC6004000 gives breaks 6 1
     ∷ on bare 0xC6002008 gives breaks 6 0
     -- 7: ld [%g1],%g3 at the last word of a field, across two fields, in none, at the region's end, where there is no field
     ∷ on (one (at 0 28)) 0xC6004000 gives puts 3 (num 1 (below 5) (above 9))
@@ -169,13 +169,13 @@ reachRows =
     ∷ on (one (addr 0 4 (above 12) (above 28))) 0xC6004000 gives breaks 7 1
     ∷ on (one (addr 0 8 (above 16) (above 40))) 0xC6004000 gives breaks 7 1
     -- below 0: ldub [%g1-1],%g3; a sum that leaves 32 bits: ld [%g1+%g2],%g3; rs1 is named though it has the number: ld [%g0+%g1],%g3
-    ∷ on (one (at 0 1)) 0xC6087FFF gives puts 3 (num 1 nought (above 255))
+    ∷ on (one (at 0 1)) 0xC6087FFF gives puts 3 (num 1 bias (above 255))
     ∷ on (one (at 0 0)) 0xC6087FFF gives breaks 7 1
     ∷ on (two (at 0 16) anyNumber) 0xC6004002 gives breaks 7 1
     ∷ on (one (at 0 48)) 0xC6000001 gives breaks 7 0
     -- number plus address: ld [%g2+%g1],%g3
-    ∷ on (two (at 0 16) (num 4 nought (above 12))) 0xC6008001 gives puts 3 (num 1 (below 5) (above 9))
-    ∷ on (two (at 0 16) (num 4 nought (above 16))) 0xC6008001 gives breaks 7 2
+    ∷ on (two (at 0 16) (num 4 bias (above 12))) 0xC6008001 gives puts 3 (num 1 (below 5) (above 9))
+    ∷ on (two (at 0 16) (num 4 bias (above 16))) 0xC6008001 gives breaks 7 2
     ∷ []
 
 -- "8 instruction not the field's element (LD and ST serve elements 5 to 7, stores either sign); 9 an offset off the element grid, or step not
@@ -191,13 +191,13 @@ fieldRuleRows =
     ∷ on (one (at 0 16)) 0xC6084000 gives breaks 8 1
     ∷ on (one (at 0 32)) 0xC6504000 gives breaks 8 1
     -- 8, stores: another width; either sign serves
-    ∷ on (stored (at 0 6) (just nought)) 0xC6284000 gives breaks 8 1
-    ∷ on (stored (at 0 0) (just nought)) 0xC6304000 gives breaks 8 1
-    ∷ on (stored (at 0 8) (just nought)) 0xC6204000 gives breaks 8 1
-    ∷ on (stored (at 0 0) (just nought)) 0xC6284000 gives keeps
-    ∷ on (stored (at 0 4) (just nought)) 0xC6284000 gives keeps
-    ∷ on (stored (at 0 6) (just nought)) 0xC6304000 gives keeps
-    ∷ on (stored (at 0 8) (just nought)) 0xC6304000 gives keeps
+    ∷ on (stored (at 0 6) (just bias)) 0xC6284000 gives breaks 8 1
+    ∷ on (stored (at 0 0) (just bias)) 0xC6304000 gives breaks 8 1
+    ∷ on (stored (at 0 8) (just bias)) 0xC6204000 gives breaks 8 1
+    ∷ on (stored (at 0 0) (just bias)) 0xC6284000 gives keeps
+    ∷ on (stored (at 0 4) (just bias)) 0xC6284000 gives keeps
+    ∷ on (stored (at 0 6) (just bias)) 0xC6304000 gives keeps
+    ∷ on (stored (at 0 8) (just bias)) 0xC6304000 gives keeps
     -- 9: ldsh and ld off the grid; with too small a step, of either operand
     ∷ on (one (at 0 9)) 0xC6504000 gives breaks 9 1
     ∷ on (one (addr 0 1 (above 8) (above 14))) 0xC6504000 gives breaks 9 1
@@ -205,11 +205,11 @@ fieldRuleRows =
     ∷ on (one (at 0 18)) 0xC6004000 gives breaks 9 1
     ∷ on (one (addr 0 4 (above 18) (above 26))) 0xC6004000 gives breaks 9 1
     ∷ on (one (addr 0 2 (above 16) (above 28))) 0xC6004000 gives breaks 9 1
-    ∷ on (two (at 0 16) (num 2 nought (above 12))) 0xC6004002 gives breaks 9 1
-    ∷ on (two (addr 0 8 (above 16) (above 24)) (num 4 nought (above 4))) 0xC6004002 gives puts 3 (num 1 (below 5) (above 9))
+    ∷ on (two (at 0 16) (num 2 bias (above 12))) 0xC6004002 gives breaks 9 1
+    ∷ on (two (addr 0 8 (above 16) (above 24)) (num 4 bias (above 4))) 0xC6004002 gives puts 3 (num 1 (below 5) (above 9))
     -- 10: a load where there is only writing, a store where there is only reading
     ∷ on (one (at 0 44)) 0xC6504000 gives breaks 10 1
-    ∷ on (stored (at 0 44) (just nought)) 0xC6304000 gives keeps
+    ∷ on (stored (at 0 44) (just bias)) 0xC6304000 gives keeps
     ∷ on (stored (at 0 40) (just (above 7))) 0xC6204000 gives breaks 10 1
     -- two at once: 7 and 8, 8 and 9, 9 and 10, 10 and 11
     ∷ on (one (at 0 2)) 0xC6004000 gives breaks 7 1
@@ -221,9 +221,9 @@ fieldRuleRows =
 -- 7. "A load: the field's lo to hi, step 1; or start of the target; or kind 3."
 abbrev pub loadRows : List Row
 loadRows =
-    on (one (at 0 0)) 0xC6084000 gives puts 3 (num 1 nought (above 255))
+    on (one (at 0 0)) 0xC6084000 gives puts 3 (num 1 bias (above 255))
     ∷ on (one (at 0 4)) 0xC6484000 gives puts 3 (num 1 (below 128) (above 127))
-    ∷ on (one (at 0 6)) 0xC6104000 gives puts 3 (num 1 nought (above 65535))
+    ∷ on (one (at 0 6)) 0xC6104000 gives puts 3 (num 1 bias (above 65535))
     ∷ on (one (at 0 8)) 0xC6504000 gives puts 3 (num 1 (below 32768) (above 32767))
     ∷ on (one (at 0 16)) 0xC6004000 gives puts 3 (num 1 (below 5) (above 9))
     ∷ on (one (at 0 32)) 0xC6004000 gives puts 3 (at 1 0)
@@ -239,7 +239,7 @@ loadRows =
 abbrev pub storeRows : List Row
 storeRows =
     -- bytes: stb %g3,[%g1]
-    on (stored (at 0 0) (num 1 nought (above 255))) 0xC6284000 gives keeps
+    on (stored (at 0 0) (num 1 bias (above 255))) 0xC6284000 gives keeps
     ∷ on (stored (at 0 0) (just (above 256))) 0xC6284000 gives breaks 11 3
     ∷ on (stored (at 0 0) (just (below 1))) 0xC6284000 gives breaks 11 3
     ∷ on (stored (at 0 4) (num 1 (below 128) (above 127))) 0xC6284000 gives keeps
@@ -253,16 +253,16 @@ storeRows =
     ∷ on (stored (at 0 16) (num 1 (below 6) (above 9))) 0xC6204000 gives breaks 11 3
     ∷ on (stored (at 0 16) (at 1 0)) 0xC6204000 gives breaks 11 3
     ∷ on (stored (at 0 16) (startOrNull 1)) 0xC6204000 gives breaks 11 3
-    ∷ on (stored (at 0 16) link) 0xC6204000 gives breaks 11 3
+    ∷ on (stored (at 0 16) returnAddress) 0xC6204000 gives breaks 11 3
     -- the start of region 1
     ∷ on (stored (at 0 32) (at 1 0)) 0xC6204000 gives keeps
     ∷ on (stored (at 0 32) (at 1 8)) 0xC6204000 gives breaks 11 3
     ∷ on (stored (at 0 32) (at 0 0)) 0xC6204000 gives breaks 11 3
-    ∷ on (stored (at 0 32) (just nought)) 0xC6204000 gives breaks 11 3
+    ∷ on (stored (at 0 32) (just bias)) 0xC6204000 gives breaks 11 3
     ∷ on (stored (at 0 32) (startOrNull 1)) 0xC6204000 gives breaks 11 3
     -- the same or null; st %g0,[%g1]
     ∷ on (stored (at 0 36) (at 1 0)) 0xC6204000 gives keeps
-    ∷ on (stored (at 0 36) (just nought)) 0xC6204000 gives keeps
+    ∷ on (stored (at 0 36) (just bias)) 0xC6204000 gives keeps
     ∷ on (stored (at 0 36) (startOrNull 1)) 0xC6204000 gives keeps
     ∷ on (stored (at 0 36) (startOrNull 0)) 0xC6204000 gives breaks 11 3
     ∷ on (stored (at 0 36) (just (above 4))) 0xC6204000 gives breaks 11 3
@@ -294,21 +294,21 @@ noteRows =
     ∷ on (one fours) 0x80A07FF7 gives writes 0 (num 4 (above 9) (above 45)) (compared 1 (below 9))
     ∷ on (two fours (just (above 9))) 0x80A04002 gives writes 0 (num 4 (below 9) (above 27)) (compared 1 (above 9))
     ∷ on (two (just (above 9)) fours) 0x80A04002 gives writes 0 (num 4 (below 27) (above 9)) someCodes
-    ∷ on (one (startOrNull 1)) 0x80A06000 gives writes 0 (startOrNull 1) (compared 1 nought)
+    ∷ on (one (startOrNull 1)) 0x80A06000 gives writes 0 (startOrNull 1) (compared 1 bias)
     -- subcc %g1,9,%g2; subcc %g1,%g2,%g2; subcc %g1,%g0,%g2
     ∷ on (one fours) 0x84A06009 gives writes 2 (num 4 (below 9) (above 27)) (compared 1 (above 9))
     ∷ on (two fours (just (above 9))) 0x84A04002 gives writes 2 (num 4 (below 9) (above 27)) (compared 1 (above 9))
-    ∷ on (one (startOrNull 1)) 0x84A04000 gives writes 2 (startOrNull 1) (compared 1 nought)
+    ∷ on (one (startOrNull 1)) 0x84A04000 gives writes 2 (startOrNull 1) (compared 1 bias)
     -- rd = rs1: subcc %g1,9,%g1; of r0: subcc %g0,9,%g2
     ∷ on (one fours) 0x82A06009 gives writes 1 (num 4 (below 9) (above 27)) someCodes
     ∷ on bare 0x84A02009 gives writes 2 (just (below 9)) someCodes
     -- not SUBcc: addcc %g1,9,%g2; andcc %g1,7,%g2; orcc %g0,%g1,%g2
     ∷ on (one fours) 0x84806009 gives writes 2 (num 4 (above 9) (above 45)) someCodes
-    ∷ on (one fours) 0x84886007 gives writes 2 (num 1 nought (above 7)) someCodes
+    ∷ on (one fours) 0x84886007 gives writes 2 (num 1 bias (above 7)) someCodes
     ∷ on (one fours) 0x84900001 gives writes 2 fours someCodes
     -- the noted register is written: add %g1,4,%g1; sll %g1,2,%g1; or %g0,%g1,%g1, though the value stays; sethi 5,%g1; ld [%g1],%g1
     ∷ on (noted (compared 1 (above 9)) (one fours)) 0x82006004 gives writes 1 (num 4 (above 4) (above 40)) someCodes
-    ∷ on (noted (compared 1 (above 9)) (one fours)) 0x83286002 gives writes 1 (num 8 nought (above 144)) someCodes
+    ∷ on (noted (compared 1 (above 9)) (one fours)) 0x83286002 gives writes 1 (num 8 bias (above 144)) someCodes
     ∷ on (noted (compared 1 (above 9)) (one fours)) 0x82100001 gives writes 1 fours someCodes
     ∷ on (noted (compared 1 (above 9)) (one fours)) 0x03000005 gives writes 1 (just (above 5120)) someCodes
     ∷ on (noted (compared 1 (above 9)) (one (at 0 40))) 0xC2004000 gives writes 1 (just (above 7)) someCodes

@@ -5,20 +5,20 @@ use mathlib.Core.List.{List, [], _∷_, _++_, map}
 use lib.ListN.{replicate, take}
 use Rattle.policy.specs.declared.Policy.{Policy}
 use Rattle.policy.specs.Build.{emptyPolicy, withRegion, withField}
-use Rattle.sets.specs.Sets.{nought}
 use Rattle.rows.specs.declared.Entry.{Entry}
 use Rattle.rows.specs.declared.Row as Rows·
 use Rattle.trials.specs.Case.{Row, _gives_, Given, check, answers}
 use Rattle.trials.specs.Policies.{fieldOf, uniform}
-use Rattle.trials.specs.Entries.{above, least, num, just, anyNumber, unset, startOrNull, link, someCodes, compared, bare, put, noted, bytesOf, bytesOfEntry, bytesOfRows}
+use Rattle.trials.specs.Entries.{above, least, num, just, anyNumber, unset, startOrNull, returnAddress, someCodes, compared, bare, put, noted, bytesOf, bytesOfEntry, bytesOfRows}
+use Rattle.v8.specs.Signed.{bias}
 
 -- a word 0 to 9 to be read, alone in region 0
 abbrev pub oneWord : Policy
-oneWord = withField (withRegion emptyPolicy 8) 0 (fieldOf 5 1 0 0 1 nought (above 9))
+oneWord = withField (withRegion emptyPolicy 8) 0 (fieldOf 5 1 0 0 1 bias (above 9))
 
 -- the row at a call: r15 is the return address, all else is unset
 abbrev pub called : Rows·.Row
-called = put 15 link bare
+called = put 15 returnAddress bare
 
 -- it, with r1; with r1 and the codes set; with r1 and the codes of its comparison with a number
 abbrev pub first : Entry → Rows·.Row
@@ -56,7 +56,7 @@ twoRows = bytesOfRows (called ∷ called ∷ [])
 
 -- 0, 4, .. 36
 abbrev pub fours : Entry
-fours = num 4 nought (above 36)
+fours = num 4 bias (above 36)
 
 -- "20 policy breaks a rule above. 21 words not 1 to 128, rows not 392 bytes a word, or the entry row or result entry badly formed."
 abbrev pub shapeRows : List Row
@@ -75,14 +75,14 @@ shapeRows =
     ∷ shaped twoRows (bytesOf called) (bytesOfEntry unset ++ 0 ∷ []) gives answers 21 0 0
     -- the entry row or the result entry badly formed
     ∷ routine (0x81C3E008 ∷ 0x01000000 ∷ []) (called ∷ called ∷ []) (put 3 (startOrNull 1) called) unset gives answers 21 0 0
-    ∷ routine (0x81C3E008 ∷ 0x01000000 ∷ []) (called ∷ called ∷ []) called (num 3 nought nought) gives answers 21 0 0
+    ∷ routine (0x81C3E008 ∷ 0x01000000 ∷ []) (called ∷ called ∷ []) called (num 3 bias bias) gives answers 21 0 0
     ∷ []
 
 -- "1 row badly formed: its word; the lowest register of the earliest broken row is the one named, 32 for the note. 2 word not read: its word."
 abbrev pub formPassRows : List Row
 formPassRows =
     -- row 1 broken at r3 and at the note; before 2: word 0 is not read
-    routine (0 ∷ 0x01000000 ∷ []) (called ∷ noted (compared 0 nought) (put 3 (startOrNull 1) called) ∷ []) called unset gives answers 1 1 3
+    routine (0 ∷ 0x01000000 ∷ []) (called ∷ noted (compared 0 bias) (put 3 (startOrNull 1) called) ∷ []) called unset gives answers 1 1 3
     -- row 0 broken at r4, row 1 at r2
     ∷ rowed (put 4 (startOrNull 1) called) (put 2 (startOrNull 1) called) gives answers 1 0 4
     -- word 1 is not read; before 3: word 0 is a ba out of the code
@@ -105,7 +105,7 @@ flowRows =
     -- "a target that is a slot": ba to its own
     ∷ flow (0x10800001 ∷ 0x01000000 ∷ []) gives answers 3 0 0
     -- 15: row 0 asks for r3, for r31 and for the codes
-    ∷ rowed (noted someCodes (put 31 link (put 3 fours called))) called gives answers 15 0 3
+    ∷ rowed (noted someCodes (put 31 returnAddress (put 3 fours called))) called gives answers 15 0 3
     ∷ []
 
 -- "each word outside slots: its own conditions, then the taken edge, then the other; an edge applies its slot (named as the slot's word),
@@ -127,14 +127,14 @@ slipRows =
     -- "Judging "less" by the negative bit alone": r1, the least number, was compared with 1; it is less, and the difference is positive. bl to
     -- itself, nop, retl, nop: nothing is left of the edge to word 2, which asks for another number. With the slip, 12 0 1
     routine (0x06800000 ∷ 0x01000000 ∷ 0x81C3E008 ∷ 0x01000000 ∷ [])
-    (after (above 1) (just least) ∷ called ∷ first (just nought) ∷ called ∷ [])
+    (after (above 1) (just least) ∷ called ∷ first (just bias) ∷ called ∷ [])
     (after (above 1) (just least))
     unset
     gives answers 0 0 0
     -- "Running the slot of an annulled branch not taken": be,a to itself, sethi 0,%g1, retl, nop: r1 need not be the 0 that word 2 asks for.
     -- With the slip, 0 0 0
     ∷ routine (0x22800000 ∷ 0x03000000 ∷ 0x81C3E008 ∷ 0x01000000 ∷ [])
-    (coded fours ∷ called ∷ first (just nought) ∷ called ∷ [])
+    (coded fours ∷ called ∷ first (just bias) ∷ called ∷ [])
     (coded fours)
     unset
     gives answers 12 0 1

@@ -2,8 +2,8 @@
 use Prim.Native.Nat.{ℕ, _+_, _-_, _/_, _%_}
 use mathlib.Core.List.{List, [], _∷_}
 use lib.ListN.{replicate, set}
-use Rattle.v8.specs.Signed.{excess}
-use Rattle.sets.specs.Sets.{nought, numbers, single, full}
+use Rattle.v8.specs.Signed.{excess, bias}
+use Rattle.sets.specs.Sets.{numbers, single, full}
 use Rattle.rows.specs.declared.Entry.{Entry}
 use Rattle.rows.specs.declared.Note.{Note}
 use Rattle.rows.specs.declared.Row.{Row}
@@ -52,8 +52,8 @@ unset = record { kind = 0; region = 0; set = blank }
 abbrev pub startOrNull : ℕ → Entry
 startOrNull region = record { kind = 3; region = region; set = blank }
 
-abbrev pub link : Entry
-link = record { kind = 4; region = 0; set = blank }
+abbrev pub returnAddress : Entry
+returnAddress = record { kind = 4; region = 0; set = blank }
 
 -- a note of any fields: kind, register, number
 abbrev pub noteWith : ℕ → ℕ → ℕ → Note
@@ -61,17 +61,17 @@ noteWith kind register number = record { kind = kind; register = register; numbe
 
 -- the codes are unset; they are set; they are those of a comparison of a register with a number
 abbrev pub noCodes : Note
-noCodes = noteWith 0 0 nought
+noCodes = noteWith 0 0 bias
 
 abbrev pub someCodes : Note
-someCodes = noteWith 1 0 nought
+someCodes = noteWith 1 0 bias
 
 abbrev pub compared : ℕ → ℕ → Note
 compared register number = noteWith 2 register number
 
 -- a row where nothing is set
 abbrev pub bare : Row
-bare = record { entries = just nought ∷ replicate 31 unset; note = noCodes }
+bare = record { entries = just bias ∷ replicate 31 unset; note = noCodes }
 
 -- a row with another entry of register r; with another note
 abbrev pub put : ℕ → Entry → Row → Row

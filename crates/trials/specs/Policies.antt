@@ -4,11 +4,11 @@ use mathlib.Core.List.{List, [], _∷_, _++_}
 use lib.ListN.{replicate}
 use Rattle.policy.specs.declared.Field.{Field}
 use Rattle.policy.specs.declared.Policy.{Policy}
-use Rattle.policy.specs.Element.{nought}
 use Rattle.policy.specs.Build.{emptyPolicy}
 use Rattle.trials.specs.Case.{Row, _gives_, Given, Addition, region, field, adds, numbers}
+use Rattle.v8.specs.Signed.{bias}
 
--- a field, its parts in the order of the bundle's bytes; lo and hi in excess form, where `nought` is 0
+-- a field, its parts in the order of the bundle's bytes; lo and hi in excess form, where `bias` is 0
 abbrev pub fieldOf : ℕ → ℕ → ℕ → ℕ → ℕ → ℕ → ℕ → Field
 fieldOf element permission target offset count lo hi =
     record {
@@ -27,11 +27,11 @@ numeric element offset count lo hi = fieldOf element 3 0 offset count lo hi
 
 -- a field of zeros, to be read and written: element, offset, count
 abbrev pub zeros : ℕ → ℕ → ℕ → Field
-zeros element offset count = numeric element offset count nought nought
+zeros element offset count = numeric element offset count bias bias
 
 -- one address: element, target, offset
 abbrev pub address : ℕ → ℕ → ℕ → Field
-address element target offset = fieldOf element 3 target offset 1 nought nought
+address element target offset = fieldOf element 3 target offset 1 bias bias
 
 -- adds to the empty policy
 abbrev pub anew : List Addition → Given
@@ -91,20 +91,20 @@ regionRows =
 abbrev pub fieldRows : List Row
 fieldRows =
     -- a good field of each element, with the whole range of the element
-    alone (numeric 1 0 16 nought (nought + 255)) gives numbers (0 ∷ 0 ∷ [])
-    ∷ alone (numeric 2 0 16 (nought - 128) (nought + 127)) gives numbers (0 ∷ 0 ∷ [])
-    ∷ alone (numeric 3 0 8 nought (nought + 65535)) gives numbers (0 ∷ 0 ∷ [])
-    ∷ alone (numeric 4 0 8 (nought - 32768) (nought + 32767)) gives numbers (0 ∷ 0 ∷ [])
-    ∷ alone (numeric 5 0 4 0 (nought + 2147483647)) gives numbers (0 ∷ 0 ∷ [])
+    alone (numeric 1 0 16 bias (bias + 255)) gives numbers (0 ∷ 0 ∷ [])
+    ∷ alone (numeric 2 0 16 (bias - 128) (bias + 127)) gives numbers (0 ∷ 0 ∷ [])
+    ∷ alone (numeric 3 0 8 bias (bias + 65535)) gives numbers (0 ∷ 0 ∷ [])
+    ∷ alone (numeric 4 0 8 (bias - 32768) (bias + 32767)) gives numbers (0 ∷ 0 ∷ [])
+    ∷ alone (numeric 5 0 4 0 (bias + 2147483647)) gives numbers (0 ∷ 0 ∷ [])
     ∷ alone (address 6 0 12) gives numbers (0 ∷ 0 ∷ [])
     ∷ alone (address 7 0 12) gives numbers (0 ∷ 0 ∷ [])
     -- element and permission
     ∷ alone (zeros 0 0 1) gives numbers (0 ∷ 20 ∷ [])
     ∷ alone (zeros 8 0 1) gives numbers (0 ∷ 20 ∷ [])
-    ∷ alone (fieldOf 1 0 0 0 1 nought nought) gives numbers (0 ∷ 20 ∷ [])
-    ∷ alone (fieldOf 1 1 0 0 1 nought nought) gives numbers (0 ∷ 0 ∷ [])
-    ∷ alone (fieldOf 1 2 0 0 1 nought nought) gives numbers (0 ∷ 0 ∷ [])
-    ∷ alone (fieldOf 1 4 0 0 1 nought nought) gives numbers (0 ∷ 20 ∷ [])
+    ∷ alone (fieldOf 1 0 0 0 1 bias bias) gives numbers (0 ∷ 20 ∷ [])
+    ∷ alone (fieldOf 1 1 0 0 1 bias bias) gives numbers (0 ∷ 0 ∷ [])
+    ∷ alone (fieldOf 1 2 0 0 1 bias bias) gives numbers (0 ∷ 0 ∷ [])
+    ∷ alone (fieldOf 1 4 0 0 1 bias bias) gives numbers (0 ∷ 20 ∷ [])
     -- count 0, and offsets that are no multiple of the width
     ∷ alone (zeros 1 0 0) gives numbers (0 ∷ 20 ∷ [])
     ∷ alone (zeros 3 1 1) gives numbers (0 ∷ 20 ∷ [])
@@ -125,28 +125,28 @@ fieldRows =
     ∷ alone (zeros 5 4 65535) gives numbers (0 ∷ 20 ∷ [])
     ∷ alone (zeros 5 0 16384) gives numbers (0 ∷ 20 ∷ [])
     -- lo above hi
-    ∷ alone (numeric 1 0 1 (nought + 2) (nought + 1)) gives numbers (0 ∷ 20 ∷ [])
-    ∷ alone (numeric 5 0 1 nought (nought - 1)) gives numbers (0 ∷ 20 ∷ [])
+    ∷ alone (numeric 1 0 1 (bias + 2) (bias + 1)) gives numbers (0 ∷ 20 ∷ [])
+    ∷ alone (numeric 5 0 1 bias (bias - 1)) gives numbers (0 ∷ 20 ∷ [])
     -- lo below the element's range
-    ∷ alone (numeric 1 0 1 (nought - 1) nought) gives numbers (0 ∷ 20 ∷ [])
-    ∷ alone (numeric 2 0 1 (nought - 129) nought) gives numbers (0 ∷ 20 ∷ [])
-    ∷ alone (numeric 3 0 1 (nought - 1) nought) gives numbers (0 ∷ 20 ∷ [])
-    ∷ alone (numeric 4 0 1 (nought - 32769) nought) gives numbers (0 ∷ 20 ∷ [])
+    ∷ alone (numeric 1 0 1 (bias - 1) bias) gives numbers (0 ∷ 20 ∷ [])
+    ∷ alone (numeric 2 0 1 (bias - 129) bias) gives numbers (0 ∷ 20 ∷ [])
+    ∷ alone (numeric 3 0 1 (bias - 1) bias) gives numbers (0 ∷ 20 ∷ [])
+    ∷ alone (numeric 4 0 1 (bias - 32769) bias) gives numbers (0 ∷ 20 ∷ [])
     -- hi above the element's range
-    ∷ alone (numeric 1 0 1 nought (nought + 256)) gives numbers (0 ∷ 20 ∷ [])
-    ∷ alone (numeric 2 0 1 nought (nought + 128)) gives numbers (0 ∷ 20 ∷ [])
-    ∷ alone (numeric 3 0 1 nought (nought + 65536)) gives numbers (0 ∷ 20 ∷ [])
-    ∷ alone (numeric 4 0 1 nought (nought + 32768)) gives numbers (0 ∷ 20 ∷ [])
+    ∷ alone (numeric 1 0 1 bias (bias + 256)) gives numbers (0 ∷ 20 ∷ [])
+    ∷ alone (numeric 2 0 1 bias (bias + 128)) gives numbers (0 ∷ 20 ∷ [])
+    ∷ alone (numeric 3 0 1 bias (bias + 65536)) gives numbers (0 ∷ 20 ∷ [])
+    ∷ alone (numeric 4 0 1 bias (bias + 32768)) gives numbers (0 ∷ 20 ∷ [])
     -- a field of numbers with a target, though the region exists
-    ∷ anew (region 16 ∷ region 8 ∷ field 0 (fieldOf 1 3 1 0 1 nought nought) ∷ []) gives numbers (0 ∷ 0 ∷ 20 ∷ [])
-    ∷ anew (region 16 ∷ region 8 ∷ field 0 (fieldOf 5 3 1 0 1 nought nought) ∷ []) gives numbers (0 ∷ 0 ∷ 20 ∷ [])
+    ∷ anew (region 16 ∷ region 8 ∷ field 0 (fieldOf 1 3 1 0 1 bias bias) ∷ []) gives numbers (0 ∷ 0 ∷ 20 ∷ [])
+    ∷ anew (region 16 ∷ region 8 ∷ field 0 (fieldOf 5 3 1 0 1 bias bias) ∷ []) gives numbers (0 ∷ 0 ∷ 20 ∷ [])
     -- an address with a target that is no region, or with lo or hi not 0
     ∷ alone (address 6 1 0) gives numbers (0 ∷ 20 ∷ [])
     ∷ alone (address 7 255 0) gives numbers (0 ∷ 20 ∷ [])
-    ∷ alone (numeric 6 0 1 (nought - 1) nought) gives numbers (0 ∷ 20 ∷ [])
-    ∷ alone (numeric 6 0 1 nought (nought + 1)) gives numbers (0 ∷ 20 ∷ [])
-    ∷ alone (numeric 7 0 1 (nought - 1) nought) gives numbers (0 ∷ 20 ∷ [])
-    ∷ alone (numeric 7 0 1 nought (nought + 1)) gives numbers (0 ∷ 20 ∷ [])
+    ∷ alone (numeric 6 0 1 (bias - 1) bias) gives numbers (0 ∷ 20 ∷ [])
+    ∷ alone (numeric 6 0 1 bias (bias + 1)) gives numbers (0 ∷ 20 ∷ [])
+    ∷ alone (numeric 7 0 1 (bias - 1) bias) gives numbers (0 ∷ 20 ∷ [])
+    ∷ alone (numeric 7 0 1 bias (bias + 1)) gives numbers (0 ∷ 20 ∷ [])
     -- the target exists when the field is added, or not: once refused, accepted after its region is added
     ∷ anew (region 16 ∷ field 0 (address 6 1 0) ∷ region 8 ∷ field 0 (address 6 1 0) ∷ []) gives numbers (0 ∷ 20 ∷ 0 ∷ 0 ∷ [])
     -- no such region

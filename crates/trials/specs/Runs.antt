@@ -5,13 +5,13 @@ use mathlib.Core.Bool.{Bool, true, false}
 use mathlib.Core.List.{List, [], _∷_, _++_}
 use lib.ListN.{replicate}
 use Rattle.policy.specs.declared.Policy.{Policy}
-use Rattle.policy.specs.Element.{nought}
 use Rattle.policy.specs.Build.{emptyPolicy, withRegion, withField}
 use Rattle.step.specs.declared.Registers.{Registers}
 use Rattle.machine.specs.declared.End.{End}
 use Rattle.machine.specs.declared.End.the-variants.{Returned, Spent, Fault, Refused}
 use Rattle.trials.specs.Case.{Row, _gives_, Given, Outcome, runs, ends, codesAt}
 use Rattle.trials.specs.Policies.{fieldOf, uniform}
+use Rattle.v8.specs.Signed.{bias}
 
 -- Region 0 has unsigned bytes at 0 to 3, to be read and written, and a signed word at 4, to be read.
 -- Region 1 has unsigned bytes at 0 to 3, to be written, and a signed half at 4, to be read and written.
@@ -20,13 +20,13 @@ twoRegions =
     withField
     (withField
     (withField
-    (withField (withRegion (withRegion emptyPolicy 8) 8) 0 (fieldOf 1 3 0 0 4 nought (nought + 255)))
+    (withField (withRegion (withRegion emptyPolicy 8) 8) 0 (fieldOf 1 3 0 0 4 bias (bias + 255)))
     0
-    (fieldOf 5 1 0 4 1 nought (nought + 9)))
+    (fieldOf 5 1 0 4 1 bias (bias + 9)))
     1
-    (fieldOf 1 2 0 0 4 nought (nought + 255)))
+    (fieldOf 1 2 0 0 4 bias (bias + 255)))
     1
-    (fieldOf 4 3 0 4 1 nought (nought + 9))
+    (fieldOf 4 3 0 4 1 bias (bias + 9))
 
 -- region 0 lies above region 1
 abbrev pub twoBases : List ℕ

@@ -1,3 +1,3 @@
-pub mod Signed
+pub mod Integers
 pub mod Sound
 pub mod Worked

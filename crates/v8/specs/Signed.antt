@@ -17,9 +17,13 @@ signed n x = cond (ltb x (2 ^ (n - 1))) (pos x) (negsuc (2 ^ n - suc x))
 unfoldable pub signExtend : ℕ → ℕ → ℕ
 signExtend n x = cond (ltb x (2 ^ (n - 1))) x (x + (2 ^ 32 - 2 ^ n))
 
--- the excess form of a 32-bit word: the integer it stands for, plus 2^31
+-- the bias of the excess form: 0 in that form
+abbrev pub bias : ℕ
+bias = 2147483648
+
+-- the excess form of a 32-bit word: the integer it stands for, plus the bias
 abbrev pub excess : ℕ → ℕ
-excess x = (x + 2147483648) % 4294967296
+excess x = (x + bias) % 4294967296
 
 -- Sign extension keeps the integer.
 abbrev pub SignExtends : Type 0

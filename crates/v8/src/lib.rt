@@ -4,6 +4,8 @@
 
 // The numbers of document 01.
 pub mod numbers;
+// Signed numbers in words.
+pub mod signed;
 // The bit fields of a word.
 mod field;
 // Words as instructions.

@@ -1,7 +1,6 @@
 // Words as instructions.
 ghost use mathlib.Core.Path.{_≡_};
-ghost use Prim.Native.Nat.{_<_, _≤_, _^_};
-ghost use Rattle.v8.specs.Signed.{signExtend};
+ghost use Prim.Native.Nat.{_<_};
 ghost use Rattle.v8.specs.Read.{readNumber, readingOf, format00, format10, memoryOf, memoryWith, operandOf, countOf, displacementOf, aluWith, shiftWith, aluOpOf, accessOf};
 use crate::Access;
 use crate::AluOp;
@@ -28,6 +27,7 @@ use crate::field::rs2_of;
 use crate::field::simm13_of;
 use crate::field::unused_of;
 use crate::numbers::NOT_READ;
+use crate::signed::sign_extend;
 
 // The leaf return, the one JMPL that is read.
 pub const LEAF_RETURN: u32 = 0x81C3_E008;
@@ -36,18 +36,6 @@ pub const LEAF_RETURN: u32 = 0x81C3_E008;
 pub enum OperandReading {
     Second(Operand),
     Reserved,
-}
-
-// A field of `bits` bits, sign-extended to 32 bits.
-pub fn sign_extend(bits: u32, x: u32) -> u32
-    requires { ⌜ (1 ≤ bits) × (bits ≤ 31) × (x < 2 ^ bits) ⌝ }
-    ensures { λ r. ⌜ r ≡ signExtend bits x ⌝ }
-{
-    let half = 1u32 << (bits - 1);
-    if x < half {
-        return x;
-    }
-    x + (4294967295 - half - (half - 1))
 }
 
 // The second operand of arithmetic, logic, loads and stores.

@@ -14,7 +14,7 @@ use v8::ShiftOp;
 use v8::StoreOp;
 use v8::WordIndex;
 use v8::read::LEAF_RETURN;
-use v8::read::sign_extend;
+use v8::signed::sign_extend;
 
 // Where the fields of a word stand: what a field is multiplied by.
 const OP_AT: u32 = 0x4000_0000;

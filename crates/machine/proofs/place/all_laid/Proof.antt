@@ -6,12 +6,12 @@ use native.Mathlib.Nat.{le-antisymm}
 use borrow.Author.Needs.{needs}
 use borrow.Author.Tests.{not-true, not-false}
 use Rattle.v8.specs.Search.{all, all-none, all-more, all-not}
-use Rattle.machine.specs.Placement.{baseIn, disjointIn}
+use Rattle.machine.specs.Placement.{basePlacedAt, disjointIn}
 use Rattle.machine.proofs.place.all_laid.Statement.{statement}
 use Rattle.machine.proofs.place.all_laid.Tie as tie
 
 abbrev Inv-loop : tie.InvT-loop
-Inv-loop sizes bases regions i₀ i = (i ≤ regions) × (all (baseIn sizes bases) i ≡ true) × (all (disjointIn sizes bases) i ≡ true)
+Inv-loop sizes bases regions i₀ i = (i ≤ regions) × (all (basePlacedAt sizes bases) i ≡ true) × (all (disjointIn sizes bases) i ≡ true)
 
 abbrev μ-loop : tie.MeasureT-loop
 μ-loop sizes bases regions i₀ i = regions - i
@@ -37,7 +37,7 @@ base-ok-requires c κs = search needs
 returns : tie.Need-returns Inv-loop μ-loop
 returns c = let a = c .before .before .before .before .before .before .before .args in
     let fails = sym (c .before .base-ok .ensures) ∙ not-true _ (c .if1 .taken) in
-    rw (all-not (baseIn (a .sizes .now) (a .bases .now)) _ _ (c .before .before .before .before .loop-test .taken) fails)
+    rw (all-not (basePlacedAt (a .sizes .now) (a .bases .now)) _ _ (c .before .before .before .before .loop-test .taken) fails)
 
 disjoint-below-requires : tie.Need-disjoint-below-requires Inv-loop μ-loop
 disjoint-below-requires c κs = search needs

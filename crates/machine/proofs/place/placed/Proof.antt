@@ -13,12 +13,12 @@ returns c = rw (ne-eqb _ _ (c .if1 .taken), and-false)
 all-laid-requires : tie.Need-all-laid-requires
 all-laid-requires c κs = search needs
 
-start-of-requires : tie.Need-start-of-requires
-start-of-requires c κs = search needs
+part-start-requires : tie.Need-part-start-requires
+part-start-requires c κs = search needs
 
 returns-2 : tie.Need-returns-2
 unfolding placedIn
-returns-2 c = rw (c .before .all-laid .ensures, c .start-of .ensures .0, eq-eqb _ _ (c .before .before .if1 .left), and-true, ← and-assoc)
+returns-2 c = rw (c .before .all-laid .ensures, c .part-start .ensures .0, eq-eqb _ _ (c .before .before .if1 .left), and-true, ← and-assoc)
 
 pub placed-spec : {M : Type 1} → statement M
-placed-spec = tie.close (tie.spec returns all-laid-requires start-of-requires returns-2)
+placed-spec = tie.close (tie.spec returns all-laid-requires part-start-requires returns-2)

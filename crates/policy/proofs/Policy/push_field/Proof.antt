@@ -16,31 +16,31 @@ below-8 : (c : tie.Else1) → c .before .args .region < 8
 below-8 c = omega (arith, regions-at-most _ (c .before .pre), c .if1 .left)
 
 -- with room in the region, the next field has a place
-place-below : (c : tie.Else3) → placeOf (c .before .before .before .before .before .before .before .before .before .before .before .args .region) (countOf (c .before .before .before .before .before .before .before .before .before .before .before .args .t1) (c .before .before .before .before .before .before .before .before .before .before .before .args .region)) < 128
-place-below c = omega (arith, below-8 (c .before .before .before .before .before .before .before .before .before .before), c .before .before .before .before .before .before .before .before .if2 .left)
+place-below : (c : tie.Else3) → placeOf (c .before .before .before .before .before .before .before .before .before .before .before .before .args .region) (countOf (c .before .before .before .before .before .before .before .before .before .before .before .before .args .t1) (c .before .before .before .before .before .before .before .before .before .before .before .before .args .region)) < 128
+place-below c = omega (arith, below-8 (c .before .before .before .before .before .before .before .before .before .before .before), c .before .before .before .before .before .before .before .before .if2 .left)
 
 returns : tie.Need-returns
 unfolding built fieldNumber
 returns c = simp (c .before .pre, le-leb _ _ (c .if1 .taken))
 
 element-copy-out-count : tie.Need-element-copy-out-count
-element-copy-out-count c = below-8 c
+element-copy-out-count c = below-8 (c .before)
 
 returns-2 : tie.Need-returns-2
 unfolding built fieldNumber
-returns-2 c = simp (c .before .before .before .pre, lt-leb _ _ (c .before .before .if1 .left), le-leb _ _ (c .if2 .taken))
+returns-2 c = simp (c .before .before .before .before .pre, lt-leb _ _ (c .before .before .before .if1 .left), le-leb _ _ (c .if2 .taken))
 
 cast-end-before : tie.Need-cast-end-before
 cast-end-before c = search needs
 
 end-before-requires : tie.Need-end-before-requires
-end-before-requires c κs = (below-8 (c .before .before .before .before .before .before), omega (arith, c .before .before .before .before .if2 .left))
+end-before-requires c κs = (below-8 (c .before .before .before .before .before .before .before), omega (arith, c .before .before .before .before .if2 .left))
 
 mul-field-follows : tie.Need-mul-field-follows
 mul-field-follows c = search needs
 
 element-copy-out-field-follows : tie.Need-element-copy-out-field-follows
-element-copy-out-field-follows c = below-8 (c .before .before .before .before .before .before .before)
+element-copy-out-field-follows c = below-8 (c .before .before .before .before .before .before .before .before)
 
 field-follows-requires : tie.Need-field-follows-requires
 field-follows-requires c κs = search needs
@@ -48,8 +48,8 @@ field-follows-requires c κs = search needs
 returns-3 : tie.Need-returns-3
 unfolding built fieldNumber fieldFits endBefore
 returns-3 c = simp (
-  c .before .before .before .before .before .before .before .before .before .before .before .pre,
-  lt-leb _ _ (c .before .before .before .before .before .before .before .before .before .before .if1 .left),
+  c .before .before .before .before .before .before .before .before .before .before .before .before .pre,
+  lt-leb _ _ (c .before .before .before .before .before .before .before .before .before .before .before .if1 .left),
   lt-leb _ _ (c .before .before .before .before .before .before .before .before .if2 .left),
   ← c .before .before .before .end-before .ensures,
   sym (c .before .field-follows .ensures) ∙ not-true _ (c .if3 .taken),
@@ -64,53 +64,28 @@ cast-place c = search needs
 add-place : tie.Need-add-place
 add-place c = search needs
 
-element-write-self : tie.Need-element-write-self
-element-write-self c = place-below c
+fields-with-requires : tie.Need-fields-with-requires
+fields-with-requires c κs = place-below (c .before)
 
-element-write-self-2 : tie.Need-element-write-self-2
-element-write-self-2 c = place-below c
+values-with-requires : tie.Need-values-with-requires
+values-with-requires c κs = place-below (c .before .before .before)
 
-element-write-self-3 : tie.Need-element-write-self-3
-element-write-self-3 c = place-below c
+add-regions : tie.Need-add-regions
+add-regions c = search needs
 
-mul-self : tie.Need-mul-self
-mul-self c = search needs
-
-element-write-self-4 : tie.Need-element-write-self-4
-element-write-self-4 c = place-below c
-
-mul-self-2 : tie.Need-mul-self-2
-mul-self-2 c = search needs
-
-element-write-self-5 : tie.Need-element-write-self-5
-element-write-self-5 c = place-below c
-
-mul-self-3 : tie.Need-mul-self-3
-mul-self-3 c = search needs
-
-element-write-self-6 : tie.Need-element-write-self-6
-element-write-self-6 c = place-below c
-
-mul-self-4 : tie.Need-mul-self-4
-mul-self-4 c = search needs
-
-element-write-self-7 : tie.Need-element-write-self-7
-element-write-self-7 c = place-below c
-
-add-self : tie.Need-add-self
-add-self c = search needs
-
-element-write-self-8 : tie.Need-element-write-self-8
-element-write-self-8 c = below-8 (c .before .before .before .before .before .before .before .before .before .before)
+element-write-regions : tie.Need-element-write-regions
+element-write-regions c = below-8 (c .before .before .before .before .before .before .before .before .before .before .before .before .before .before .before)
 
 returns-4 : tie.Need-returns-4
 unfolding built fieldNumber fieldFits endBefore
 returns-4 c = simp (
-  c .before .before .before .before .before .before .before .before .before .before .before .pre,
-  lt-leb _ _ (c .before .before .before .before .before .before .before .before .before .before .if1 .left),
-  lt-leb _ _ (c .before .before .before .before .before .before .before .before .if2 .left),
-  ← c .before .before .before .end-before .ensures,
-  sym (c .before .field-follows .ensures) ∙ not-false _ (c .if3 .left),
+  c .values-with .ensures,
+  c .before .before .fields-with .ensures,
+  c .before .before .before .before .before .before .before .before .before .before .before .before .before .before .before .before .pre,
+  lt-leb _ _ (c .before .before .before .before .before .before .before .before .before .before .before .before .before .before .before .if1 .left),
+  lt-leb _ _ (c .before .before .before .before .before .before .before .before .before .before .before .before .if2 .left),
+  ← c .before .before .before .before .before .before .before .end-before .ensures,
+  sym (c .before .before .before .before .before .field-follows .ensures) ∙ not-false _ (c .before .before .before .before .if3 .left),
 )
 
 pub push-field-spec : {M : Type 1} → statement M
@@ -129,17 +104,8 @@ push-field-spec =
     mul-place
     cast-place
     add-place
-    element-write-self
-    element-write-self-2
-    element-write-self-3
-    mul-self
-    element-write-self-4
-    mul-self-2
-    element-write-self-5
-    mul-self-3
-    element-write-self-6
-    mul-self-4
-    element-write-self-7
-    add-self
-    element-write-self-8
+    fields-with-requires
+    values-with-requires
+    add-regions
+    element-write-regions
     returns-4)

@@ -8,33 +8,33 @@ use Rattle.policy.proofs.Policy.push_region.Tie as tie
 
 returns : tie.Need-returns
 unfolding built regionNumber
-returns c = simp (c .before .pre, le-leb _ _ (c .if1 .taken))
+returns c = simp (c .before .before .pre, le-leb _ _ (c .if1 .taken))
 
 size-ok-requires : tie.Need-size-ok-requires
 size-ok-requires c κs = search needs
 
 returns-2 : tie.Need-returns-2
 unfolding built regionNumber
-returns-2 c = simp (c .before .before .before .pre, lt-leb _ _ (c .before .before .if1 .left), sym (c .before .size-ok .ensures) ∙ not-true _ (c .if2 .taken))
+returns-2 c = simp (c .before .before .before .before .pre, lt-leb _ _ (c .before .before .if1 .left), sym (c .before .size-ok .ensures) ∙ not-true _ (c .if2 .taken))
 
 cast-r : tie.Need-cast-r
 cast-r c = search needs
 
-mul-self : tie.Need-mul-self
-mul-self c = search needs
+mul-regions : tie.Need-mul-regions
+mul-regions c = search needs
 
-element-write-self : tie.Need-element-write-self
-element-write-self c = search needs
+element-write-regions : tie.Need-element-write-regions
+element-write-regions c = search needs
 
-element-write-self-2 : tie.Need-element-write-self-2
-element-write-self-2 c = search needs
+element-write-regions-2 : tie.Need-element-write-regions-2
+element-write-regions-2 c = search needs
 
-add-self : tie.Need-add-self
-add-self c = search needs
+add-regions : tie.Need-add-regions
+add-regions c = search needs
 
 returns-3 : tie.Need-returns-3
 unfolding built regionNumber
-returns-3 c = simp (c .before .before .before .pre, lt-leb _ _ (c .before .before .if1 .left), sym (c .before .size-ok .ensures) ∙ not-false _ (c .if2 .left))
+returns-3 c = simp (c .before .before .before .before .before .pre, lt-leb _ _ (c .before .before .before .if1 .left), sym (c .before .before .size-ok .ensures) ∙ not-false _ (c .before .if2 .left))
 
 pub push-region-spec : {M : Type 1} → statement M
 push-region-spec =
@@ -44,8 +44,8 @@ push-region-spec =
     size-ok-requires
     returns-2
     cast-r
-    mul-self
-    element-write-self
-    element-write-self-2
-    add-self
+    mul-regions
+    element-write-regions
+    element-write-regions-2
+    add-regions
     returns-3)

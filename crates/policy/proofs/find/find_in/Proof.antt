@@ -4,13 +4,15 @@ use Prim.Native.Nat.{ℕ, _+_, _*_, _-_, _≤_, _<_}
 use mathlib.Core.Logic.{⊎-elim}
 use mathlib.Core.List.{List}
 use mathlib.Core.Bool.{Bool, true, false}
-use mathlib.Core.Path.{_≡_, sym, _∙_}
+use mathlib.Core.Path.{_≡_, sym, ap, _∙_}
 use native.Mathlib.Omega.{arith}
 use borrow.Author.Tests.{lt-ltb, le-ltb}
 use borrow.Author.Needs.{needs}
 use lib.ListN.{getD}
 use Rattle.v8.specs.Search.{first, first-here, first-next, first-end}
 use Rattle.v8.specs.Choice.{tests}
+use Rattle.policy.specs.declared.Search.{Search}
+use Rattle.policy.specs.declared.Found.{Found}
 use Rattle.policy.specs.declared.Found.the-variants.{At, Nothing}
 use Rattle.policy.specs.Find.{holdsIn, stopOf, foundAt, findIn}
 use Rattle.policy.proofs.find.find_in.Statement.{statement}
@@ -28,6 +30,10 @@ module _ (fs : List ℕ) (r : ℕ) where
   begins : (es os cs : List ℕ) (low end : ℕ) → r < 8 → findIn fs es os cs r low end ≡ foundAt (first (holdsIn es os cs low end) (16 * r) (stopOf fs r)) (stopOf fs r)
   unfolding findIn
   begins es os cs low end l = simp (lt-ltb _ _ l)
+
+-- what is found is all that a search gives
+answers : {a b : Found} → a ≡ b → _≡_ {A = Search} (record { found = a }) (record { found = b })
+answers e = ap (λ (x : Found). record { found = x }) e
 
 module _ (f : ℕ → Bool) (place stop : ℕ) where
   here : place < stop → f place ≡ true → foundAt (first f place stop) stop ≡ At place
@@ -86,24 +92,26 @@ mul-offset c = search needs
 element-copy-out-offset : tie.Need-element-copy-out-offset Inv-loop μ-loop
 element-copy-out-offset c = search needs
 
-element-copy-out-end-of : tie.Need-element-copy-out-end-of Inv-loop μ-loop
-element-copy-out-end-of c = search needs
+element-copy-out-elements-end : tie.Need-element-copy-out-elements-end Inv-loop μ-loop
+element-copy-out-elements-end c = search needs
 
-mul-end-of : tie.Need-mul-end-of Inv-loop μ-loop
-mul-end-of c = search needs
+mul-elements-end : tie.Need-mul-elements-end Inv-loop μ-loop
+mul-elements-end c = search needs
 
-element-copy-out-end-of-2 : tie.Need-element-copy-out-end-of-2 Inv-loop μ-loop
-element-copy-out-end-of-2 c = search needs
+element-copy-out-elements-end-2 : tie.Need-element-copy-out-elements-end-2 Inv-loop μ-loop
+element-copy-out-elements-end-2 c = search needs
 
-end-of-requires : tie.Need-end-of-requires Inv-loop μ-loop
-end-of-requires c κs = search needs
+elements-end-requires : tie.Need-elements-end-requires Inv-loop μ-loop
+elements-end-requires c κs = search needs
 
 cast-if3 : tie.Need-cast-if3 Inv-loop μ-loop
 cast-if3 c = search needs
 
 returns-2 : tie.Need-returns-2 Inv-loop μ-loop
 unfolding holdsIn
-returns-2 c = sym (c .before .before .before .before .before .before .before .before .loop .inv .2 ∙ here _ _ _ (c .before .before .before .before .before .before .before .loop-test .taken) (rw (← c .before .before .before .end-of .ensures) (c .if3 .taken)))
+returns-2 c =
+    let at-loop-test = c .before .before .before .before .before .before .before in
+    answers (sym (at-loop-test .before .loop .inv .2 ∙ here _ _ _ (at-loop-test .loop-test .taken) (rw (← c .before .before .before .elements-end .ensures) (c .if3 .taken))))
 
 add-place : tie.Need-add-place Inv-loop μ-loop
 add-place c = search needs
@@ -113,10 +121,13 @@ loop-less c = search needs
 
 loop-again : tie.Need-loop-again Inv-loop μ-loop
 unfolding holdsIn
-loop-again c = (omega arith, c .before .before .before .before .before .before .before .before .loop .inv .1, c .before .before .before .before .before .before .before .before .loop .inv .2 ∙ next _ _ _ (c .before .before .before .before .before .before .before .loop-test .taken) (rw (← c .before .before .before .end-of .ensures) (c .if3 .left)))
+loop-again c =
+    let at-loop-test = c .before .before .before .before .before .before .before in
+    let at-loop = at-loop-test .before in
+    (omega arith, at-loop .loop .inv .1, at-loop .loop .inv .2 ∙ next _ _ _ (at-loop-test .loop-test .taken) (rw (← c .before .before .before .elements-end .ensures) (c .if3 .left)))
 
 returns-3 : tie.Need-returns-3 Inv-loop μ-loop
-returns-3 c = sym (c .before .loop .inv .2 ∙ none _ _ _ (c .loop-test .left))
+returns-3 c = answers (sym (c .before .loop .inv .2 ∙ none _ _ _ (c .loop-test .left)))
 
 pub find-in-spec : {M : Type 1} → statement M
 find-in-spec =
@@ -135,10 +146,10 @@ find-in-spec =
     loop-holds
     mul-offset
     element-copy-out-offset
-    element-copy-out-end-of
-    mul-end-of
-    element-copy-out-end-of-2
-    end-of-requires
+    element-copy-out-elements-end
+    mul-elements-end
+    element-copy-out-elements-end-2
+    elements-end-requires
     cast-if3
     returns-2
     add-place

@@ -16,26 +16,26 @@ sub-last c = search needs
 add-last : tie.Need-add-last
 add-last c = search needs
 
-element-copy-out-end-of : tie.Need-element-copy-out-end-of
-element-copy-out-end-of c = search needs
+element-copy-out-elements-end : tie.Need-element-copy-out-elements-end
+element-copy-out-elements-end c = search needs
 
-mul-end-of : tie.Need-mul-end-of
-mul-end-of c = search needs
+mul-elements-end : tie.Need-mul-elements-end
+mul-elements-end c = search needs
 
-element-copy-out-end-of-2 : tie.Need-element-copy-out-end-of-2
-element-copy-out-end-of-2 c = search needs
+element-copy-out-elements-end-2 : tie.Need-element-copy-out-elements-end-2
+element-copy-out-elements-end-2 c = search needs
 
-mul-end-of-2 : tie.Need-mul-end-of-2
-mul-end-of-2 c = search needs
+mul-elements-end-2 : tie.Need-mul-elements-end-2
+mul-elements-end-2 c = search needs
 
-element-copy-out-end-of-3 : tie.Need-element-copy-out-end-of-3
-element-copy-out-end-of-3 c = search needs
+element-copy-out-elements-end-3 : tie.Need-element-copy-out-elements-end-3
+element-copy-out-elements-end-3 c = search needs
 
-end-of-requires : tie.Need-end-of-requires
-end-of-requires c κs = search needs
+elements-end-requires : tie.Need-elements-end-requires
+elements-end-requires c κs = search needs
 
 returns-2 : tie.Need-returns-2
-returns-2 c = rw (ne-eqb _ 0 (c .before .before .before .before .if1 .left)) (c .end-of .ensures)
+returns-2 c = rw (ne-eqb _ 0 (c .before .before .before .before .if1 .left)) (c .elements-end .ensures)
 
 pub end-before-spec : {M : Type 1} → statement M
 end-before-spec =
@@ -45,10 +45,10 @@ end-before-spec =
     mul-last
     sub-last
     add-last
-    element-copy-out-end-of
-    mul-end-of
-    element-copy-out-end-of-2
-    mul-end-of-2
-    element-copy-out-end-of-3
-    end-of-requires
+    element-copy-out-elements-end
+    mul-elements-end
+    element-copy-out-elements-end-2
+    mul-elements-end-2
+    element-copy-out-elements-end-3
+    elements-end-requires
     returns-2)

@@ -6,8 +6,8 @@ use Rattle.policy.proofs.form.field_ok.Tie as tie
 width-of-requires : tie.Need-width-of-requires
 width-of-requires c κs = search needs
 
-end-of-requires : tie.Need-end-of-requires
-end-of-requires c κs = search needs
+elements-end-requires : tie.Need-elements-end-requires
+elements-end-requires c κs = search needs
 
 values-ok-requires : tie.Need-values-ok-requires
 values-ok-requires c κs = search needs
@@ -20,9 +20,9 @@ rem-result c = search needs
 
 returns : tie.Need-returns
 unfolding fieldOk
-returns c = simp (c .before .before .width-of .ensures .0, c .before .end-of .ensures, c .values-ok .ensures)
+returns c = simp (c .before .before .width-of .ensures .0, c .before .elements-end .ensures, c .values-ok .ensures)
 
 pub field-ok-spec : {M : Type 1} → statement M
 field-ok-spec =
     tie.close
-    (tie.spec width-of-requires end-of-requires values-ok-requires cast-result rem-result returns)
+    (tie.spec width-of-requires elements-end-requires values-ok-requires cast-result rem-result returns)

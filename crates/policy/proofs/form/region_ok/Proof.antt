@@ -59,12 +59,12 @@ field-follows-requires c κs = search needs
 
 returns-3 : tie.Need-returns-3 Inv-loop μ-loop
 unfolding regionOk fieldAt
-returns-3 c = let a = c .before .before .before .before .before .before .before .before .before .before .before .before .before .before .before .before .before .before .args in
+returns-3 c = let a = c .before .before .before .before .before .before .before .before .before .before .before .before .before .before .before .before .before .before .before .args in
     let e = sym (follows-is (a .t1) (a .r) (c .before .before .before .before .before .before .before .before .before .before .before .before .loop .k) _ _ (c .before .before .field-in .ensures) (c .before .before .before .before .before .before .before .before .before .before .before .before .loop .inv .2)) ∙ sym (c .before .field-follows .ensures) ∙ not-true _ (c .if3 .taken) in
     simp (all-not (fieldAtOk (a .t1) (a .r)) _ _ (c .before .before .before .before .before .before .before .before .before .before .before .loop-test .taken) e, and-false)
 
-end-of-requires : tie.Need-end-of-requires Inv-loop μ-loop
-end-of-requires c κs = search needs
+elements-end-requires : tie.Need-elements-end-requires Inv-loop μ-loop
+elements-end-requires c κs = search needs
 
 add-k : tie.Need-add-k Inv-loop μ-loop
 add-k c = search needs
@@ -74,11 +74,11 @@ loop-less c = search needs
 
 loop-again : tie.Need-loop-again Inv-loop μ-loop
 unfolding fieldAt
-loop-again c = let a = c .before .before .before .before .before .before .before .before .before .before .before .before .before .before .before .before .before .before .before .args in
+loop-again c = let a = c .before .before .before .before .before .before .before .before .before .before .before .before .before .before .before .before .before .before .before .before .args in
     let e = sym (follows-is (a .t1) (a .r) (c .before .before .before .before .before .before .before .before .before .before .before .before .before .loop .k) _ _ (c .before .before .before .field-in .ensures) (c .before .before .before .before .before .before .before .before .before .before .before .before .before .loop .inv .2)) ∙ sym (c .before .before .field-follows .ensures) ∙ not-false _ (c .before .if3 .left) in (
       omega arith,
       all-more _ _ (c .before .before .before .before .before .before .before .before .before .before .before .before .before .loop .inv .1) e,
-      end-next (a .t1) (a .r) (c .before .before .before .before .before .before .before .before .before .before .before .before .before .loop .k) _ _ (c .before .before .before .field-in .ensures) (c .end-of .ensures),
+      end-next (a .t1) (a .r) (c .before .before .before .before .before .before .before .before .before .before .before .before .before .loop .k) _ _ (c .before .before .before .field-in .ensures) (c .elements-end .ensures),
     )
 
 returns-4 : tie.Need-returns-4 Inv-loop μ-loop
@@ -110,7 +110,7 @@ region-ok-spec =
     field-in-requires
     field-follows-requires
     returns-3
-    end-of-requires
+    elements-end-requires
     add-k
     loop-less
     loop-again

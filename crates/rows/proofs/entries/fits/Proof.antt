@@ -23,11 +23,11 @@ returns-3 c = rw (c .fits-set2 .ensures) (sym (fits-address _ _ (c .before .befo
 is-zero-requires : tie.Need-is-zero-requires
 is-zero-requires c κs = search needs
 
-is-start-of-requires : tie.Need-is-start-of-requires
-is-start-of-requires c κs = search needs
+is-region-start-requires : tie.Need-is-region-start-requires
+is-region-start-requires c κs = search needs
 
 returns-4 : tie.Need-returns-4
-returns-4 c = rw (c .before .before .is-start-of .ensures, c .before .before .before .is-zero .ensures) (sym (fits-start-or-null _ _ (c .before .before .before .before .if4 .taken)))
+returns-4 c = rw (c .before .before .is-region-start .ensures, c .before .before .before .is-zero .ensures) (sym (fits-start-or-null _ _ (c .before .before .before .before .if4 .taken)))
 
 returns-5 : tie.Need-returns-5
 returns-5 c = sym (fits-other _ _ (c .before .before .before .if1 .left) (c .before .before .if2 .left) (c .before .if3 .left) (c .if4 .left))
@@ -42,6 +42,6 @@ fits-spec =
     fits-set-requires-2
     returns-3
     is-zero-requires
-    is-start-of-requires
+    is-region-start-requires
     returns-4
     returns-5)

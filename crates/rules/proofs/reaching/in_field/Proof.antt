@@ -6,12 +6,12 @@ use borrow.Author.Needs.{needs}
 use Rattle.rules.proofs.reaching.in_field.Statement.{statement}
 use Rattle.rules.proofs.reaching.in_field.Tie as tie
 
-end-of-requires : tie.Need-end-of-requires
-end-of-requires c κs = search needs
+reach-end-requires : tie.Need-reach-end-requires
+reach-end-requires c κs = search needs
 
 returns : tie.Need-returns
 unfolding fieldAt inField
-returns c = rw (← c .before .end-of .ensures, lt-ltb 4096 _ (c .if1 .taken))
+returns c = rw (← c .before .reach-end .ensures, lt-ltb 4096 _ (c .if1 .taken))
 
 element-copy-out-serves-element : tie.Need-element-copy-out-serves-element
 element-copy-out-serves-element c = search needs
@@ -23,7 +23,7 @@ returns-2 : tie.Need-returns-2
 unfolding fieldAt inField
 returns-2 c =
     let end = c .before .before .before in
-    rw (← end .before .end-of .ensures, le-ltb 4096 _ (end .if1 .left), ← c .before .serves-element .ensures, c .if2 .taken)
+    rw (← end .before .reach-end .ensures, le-ltb 4096 _ (end .if1 .left), ← c .before .serves-element .ensures, c .if2 .taken)
 
 on-grid-requires : tie.Need-on-grid-requires
 on-grid-requires c κs = search needs
@@ -33,7 +33,7 @@ unfolding fieldAt inField
 returns-3 c =
     let serves = c .before .before in
     let end = serves .before .before .before in
-    rw (← end .before .end-of .ensures, le-ltb 4096 _ (end .if1 .left), ← serves .before .serves-element .ensures, serves .if2 .left, ← c .before .on-grid .ensures, c .if3 .taken)
+    rw (← end .before .reach-end .ensures, le-ltb 4096 _ (end .if1 .left), ← serves .before .serves-element .ensures, serves .if2 .left, ← c .before .on-grid .ensures, c .if3 .taken)
 
 element-copy-out-allowed : tie.Need-element-copy-out-allowed
 element-copy-out-allowed c = search needs
@@ -48,7 +48,7 @@ returns-4 c =
     let serves = grid .before .before in
     let end = serves .before .before .before in
     rw
-    (← end .before .end-of .ensures, le-ltb 4096 _ (end .if1 .left), ← serves .before .serves-element .ensures, serves .if2 .left, ← grid .before .on-grid .ensures, grid .if3 .left, ← c .before .allowed .ensures, c .if4 .taken)
+    (← end .before .reach-end .ensures, le-ltb 4096 _ (end .if1 .left), ← serves .before .serves-element .ensures, serves .if2 .left, ← grid .before .on-grid .ensures, grid .if3 .left, ← c .before .allowed .ensures, c .if4 .taken)
 
 returns-5 : tie.Need-returns-5
 unfolding fieldAt inField
@@ -57,13 +57,13 @@ returns-5 c =
     let serves = grid .before .before in
     let end = serves .before .before .before in
     rw
-    (← end .before .end-of .ensures, le-ltb 4096 _ (end .if1 .left), ← serves .before .serves-element .ensures, serves .if2 .left, ← grid .before .on-grid .ensures, grid .if3 .left, ← c .before .allowed .ensures, c .if4 .left)
+    (← end .before .reach-end .ensures, le-ltb 4096 _ (end .if1 .left), ← serves .before .serves-element .ensures, serves .if2 .left, ← grid .before .on-grid .ensures, grid .if3 .left, ← c .before .allowed .ensures, c .if4 .left)
 
 pub in-field-spec : {M : Type 1} → statement M
 in-field-spec =
     tie.close
     (tie.spec
-    end-of-requires
+    reach-end-requires
     returns
     element-copy-out-serves-element
     serves-element-requires

@@ -16,8 +16,8 @@ returns c = rw (lt-ltb _ 2147483648 (c .if1 .taken))
 offset-of-requires : tie.Need-offset-of-requires
 offset-of-requires c κs = search needs
 
-end-of-requires : tie.Need-end-of-requires
-end-of-requires c κs = search needs
+reach-end-requires : tie.Need-reach-end-requires
+reach-end-requires c κs = search needs
 
 find-in-requires : tie.Need-find-in-requires
 find-in-requires c κs = search needs
@@ -37,7 +37,7 @@ returns-2 c =
     let found = c .before .before .before .before in
     let low = found .before .before in
     rw
-    (le-ltb _ 2147483648 (low .before .if1 .left), ← low .offset-of .ensures .0, ← found .before .end-of .ensures, ← found .find-in .ensures, c .before .before .place .given .1)
+    (le-ltb _ 2147483648 (low .before .if1 .left), ← low .offset-of .ensures .0, ← found .before .reach-end .ensures, ← found .find-in .ensures, c .before .before .place .given .1)
     (c .in-field .ensures)
 
 returns-3 : tie.Need-returns-3
@@ -45,7 +45,7 @@ unfolding inRegion
 returns-3 c =
     let found = c .before .before in
     let low = found .before .before in
-    rw (le-ltb _ 2147483648 (low .before .if1 .left), ← low .offset-of .ensures .0, ← found .before .end-of .ensures, ← found .find-in .ensures, c .enum-told .given .1)
+    rw (le-ltb _ 2147483648 (low .before .if1 .left), ← low .offset-of .ensures .0, ← found .before .reach-end .ensures, ← found .find-in .ensures, c .enum-told .given .1)
 
 pub in-region-spec : {M : Type 1} → statement M
 in-region-spec =
@@ -53,7 +53,7 @@ in-region-spec =
     (tie.spec
     returns
     offset-of-requires
-    end-of-requires
+    reach-end-requires
     find-in-requires
     enum-known-place
     in-field-requires

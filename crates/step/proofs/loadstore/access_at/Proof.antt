@@ -19,15 +19,15 @@ element-copy-out-wide c = let k = rw (c .before .at .given .1) at (c .before .be
 wide-requires : tie.Need-wide-requires
 wide-requires c κs = search needs
 
-start-of-requires : tie.Need-start-of-requires
-start-of-requires c κs = let k = rw (c .before .before .before .at .given .1) at (c .before .before .before .before .before .before .pre .1) in omega (arith, k .region)
+part-start-requires : tie.Need-part-start-requires
+part-start-requires c κs = let k = rw (c .before .before .before .at .given .1) at (c .before .before .before .before .before .before .pre .1) in omega (arith, k .region)
 
 enum-known-a : tie.Need-enum-known-a
 enum-known-a c = search needs
 
 load-in-requires : tie.Need-load-in-requires
 load-in-requires c κs = let k = rw (c .before .before .before .before .before .before .before .before .at .given .1, c .before .before .a .given .1) at (c .before .before .before .before .before .before .before .before .before .before .before .pre .1) in
-    (rw (c .before .before .before .before .before .wide .ensures .0) (k .inside), rw (c .before .before .before .before .start-of .ensures .0, c .before .before .before .before .before .wide .ensures .0) (k .part))
+    (rw (c .before .before .before .before .before .wide .ensures .0) (k .inside), rw (c .before .before .before .before .part-start .ensures .0, c .before .before .before .before .before .wide .ensures .0) (k .part))
 
 write-requires : tie.Need-write-requires
 write-requires c κs = search needs
@@ -43,7 +43,7 @@ value-requires c κs = search needs
 
 store-in-requires : tie.Need-store-in-requires
 store-in-requires c κs = let k = rw (c .before .before .before .before .before .before .before .before .before .before .at .given .1, c .before .before .before .before .a2 .given .1) at (c .before .before .before .before .before .before .before .before .before .before .before .before .before .pre .1) in
-    (rw (c .before .before .before .before .before .before .before .wide .ensures .0) (k .inside), rw (c .before .before .before .before .before .before .start-of .ensures .0, c .before .before .before .before .before .before .before .wide .ensures .0) (k .part))
+    (rw (c .before .before .before .before .before .before .before .wide .ensures .0) (k .inside), rw (c .before .before .before .before .before .before .part-start .ensures .0, c .before .before .before .before .before .before .before .wide .ensures .0) (k .part))
 
 move-on-requires-2 : tie.Need-move-on-requires-2
 move-on-requires-2 c κs = search needs
@@ -58,14 +58,14 @@ same-length : tie.Need-same-length
 same-length c = search needs
 
 returns : tie.Need-returns
-returns c = rw (c .before .before .before .before .before .before .before .before .before .before .before .before .before .at .given .1, c .before .before .before .before .before .before .before .a .given .1, c .before .write .ensures .0, c .before .write .ensures .1, c .before .before .before .before .load-in .ensures, c .before .before .before .before .before .before .before .before .before .start-of .ensures .0)
+returns c = rw (c .before .before .before .before .before .before .before .before .before .before .before .before .before .at .given .1, c .before .before .before .before .before .before .before .a .given .1, c .before .write .ensures .0, c .before .write .ensures .1, c .before .before .before .before .load-in .ensures, c .before .before .before .before .before .before .before .before .before .part-start .ensures .0)
     (c .move-on .ensures _ _ _ _)
 
 same-length-2 : tie.Need-same-length-2
 same-length-2 c = search needs
 
 returns-2 : tie.Need-returns-2
-returns-2 c = rw (c .before .before .before .before .before .before .before .before .before .before .before .before .before .before .at .given .1, c .before .before .before .before .before .before .before .before .a2 .given .1, c .before .before .before .store-in .ensures, c .before .before .before .before .value .ensures, c .before .before .before .before .before .before .before .before .before .before .start-of .ensures .0)
+returns-2 c = rw (c .before .before .before .before .before .before .before .before .before .before .before .before .before .before .at .given .1, c .before .before .before .before .before .before .before .before .a2 .given .1, c .before .before .before .store-in .ensures, c .before .before .before .before .value .ensures, c .before .before .before .before .before .before .before .before .before .before .part-start .ensures .0)
     (c .move-on2 .ensures _ _ _ _)
 
 returns-3 : tie.Need-returns-3
@@ -80,7 +80,7 @@ access-at-spec =
     mul-wide
     element-copy-out-wide
     wide-requires
-    start-of-requires
+    part-start-requires
     enum-known-a
     load-in-requires
     write-requires

@@ -4,8 +4,8 @@ use native.Mathlib.Omega.{arith}
 use Rattle.v8.specs.Signed.{signExtend}
 use borrow.Author.Tests.{lt-ltb, le-ltb}
 use borrow.Author.Needs.{needs}
-use Rattle.v8.proofs.read.sign_extend.Statement.{statement}
-use Rattle.v8.proofs.read.sign_extend.Tie as tie
+use Rattle.v8.proofs.signed.sign_extend.Statement.{statement}
+use Rattle.v8.proofs.signed.sign_extend.Tie as tie
 
 sub-half : tie.Need-sub-half
 sub-half c = search needs

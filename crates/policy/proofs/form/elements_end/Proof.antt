@@ -1,8 +1,8 @@
 use native.Mathlib.Omega.{arith}
 use native.Mathlib.Nat.{mul-le-mul-right}
 use borrow.Author.Needs.{needs}
-use Rattle.policy.proofs.form.end_of.Statement.{statement}
-use Rattle.policy.proofs.form.end_of.Tie as tie
+use Rattle.policy.proofs.form.elements_end.Statement.{statement}
+use Rattle.policy.proofs.form.elements_end.Tie as tie
 
 width-of-requires : tie.Need-width-of-requires
 width-of-requires c κs = search needs
@@ -19,5 +19,5 @@ add-result c = let m = mul-le-mul-right (c .before .args .count) (c .width-of .e
 returns : tie.Need-returns
 returns c = simp (c .width-of .ensures .0)
 
-pub end-of-spec : {M : Type 1} → statement M
-end-of-spec = tie.close (tie.spec width-of-requires cast-result mul-result add-result returns)
+pub elements-end-spec : {M : Type 1} → statement M
+elements-end-spec = tie.close (tie.spec width-of-requires cast-result mul-result add-result returns)
