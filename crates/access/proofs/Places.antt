@@ -8,13 +8,14 @@ use borrow.Author.Tests.{leb-true, ltb-true}
 use native.Mathlib.Omega.{arith}
 use Rattle.policy.specs.declared.Policy.{Policy}
 use Rattle.policy.specs.declared.Found.the-variants.{At}
+use Rattle.policy.specs.Policy.{fieldsFrom, valuesFrom}
 use Rattle.policy.specs.Find.{findIn}
 use Rattle.policy.proofs.FoundField.{found-holds}
 use Rattle.access.specs.Locate.{Near}
 
 pub place-small : (fields elements offsets counts : List ℕ) (r low end place : ℕ) → findIn fields elements offsets counts r low end ≡ At place → place < 128
 place-small fields elements offsets counts r low end place e =
-    let p : Policy = record { regions = 0; sizes = []; fields = fields; elements = elements; permissions = []; targets = []; offsets = offsets; counts = counts; lows = []; highs = [] } in
+    let p : Policy = record { regions = record { count = 0; sizes = []; fields = fields }; fields = fieldsFrom elements [] offsets counts; values = valuesFrom [] [] [] } in
     let h = found-holds p r low end place e in
     omega (arith, h .here, h .region-most, h .index-most)
 

@@ -1,7 +1,7 @@
 -- What the search finds: the laws of the lowest number that passes a test, with the test turned into the fact that a field holds the bytes.
 -- In a policy that obeys the rules one field at most does, so that a field that holds them is the one found.
 use Prim.Native.Nat.{ℕ, _+_, _*_, _-_, _≤_, _<_}
-use mathlib.Core.Path.{_≡_, refl, sym, _∙_}
+use mathlib.Core.Path.{_≡_, refl, sym, ap, _∙_}
 use mathlib.Core.Bool.{Bool, true, false, and-false}
 use native.Mathlib.Omega.{arith}
 use borrow.Author.Tests.{ltb-true, ltb-false, lt-ltb, le-leb}
@@ -13,6 +13,7 @@ use Rattle.policy.specs.Policy.{countOf, placeOf, elementsEnd, fieldAt}
 use Rattle.policy.specs.Find.{holdsIn, stopOf, findIn, findField}
 use Rattle.policy.specs.Laws.{Holds, FoundHere, FoundHolds, NoneHolds, Finds}
 use Rattle.policy.specs.declared.Policy.{Policy}
+use Rattle.policy.specs.declared.Search.{Search}
 use Rattle.policy.specs.declared.Found.{Found}
 use Rattle.policy.specs.declared.Found.the-variants.{At, Nothing}
 use Rattle.policy.proofs.Bytes.{held-by-one}
@@ -25,6 +26,10 @@ not-found i z = let y : _≡_ {A = ℕ} 0 1 = cc in omega arith
 
 found-is : (i j : ℕ) → At i ≡ At j → i ≡ j
 found-is i j e = cc
+
+-- what is found, of all that a search gives
+pub is-found : {s t : Search} → s ≡ t → s .found ≡ t .found
+is-found e = ap (λ (x : Search). x .found) e
 
 -- where the search in region r stops: after its fields, of which 16 at most are looked at
 record Stop (n r stop : ℕ) : Type 0 where

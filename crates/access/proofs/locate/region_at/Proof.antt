@@ -33,23 +33,23 @@ shared-slice-read-base c = search needs
 cast-base : tie.Need-cast-base Inv-loop μ-loop
 cast-base c = omega (arith, c .shared-slice-known2 .given (c .before .before .loop .r))
 
-mul-wide : tie.Need-mul-wide Inv-loop μ-loop
-mul-wide c = omega arith
+mul-extent : tie.Need-mul-extent Inv-loop μ-loop
+mul-extent c = omega arith
 
-element-copy-out-wide : tie.Need-element-copy-out-wide Inv-loop μ-loop
-element-copy-out-wide c = omega arith
+element-copy-out-extent : tie.Need-element-copy-out-extent Inv-loop μ-loop
+element-copy-out-extent c = omega arith
 
-wide-requires : tie.Need-wide-requires Inv-loop μ-loop
-wide-requires c κs = search needs
+extent-requires : tie.Need-extent-requires Inv-loop μ-loop
+extent-requires c κs = search needs
 
 add-top : tie.Need-add-top Inv-loop μ-loop
-add-top c = omega (arith, c .wide .ensures .1, c .before .before .shared-slice-known2 .given (c .before .before .before .before .loop .r))
+add-top c = omega (arith, c .extent .ensures .1, c .before .before .shared-slice-known2 .given (c .before .before .before .before .loop .r))
 
 returns : tie.Need-returns Inv-loop μ-loop
 unfolding insideRegion
 returns c = let e = c .if1 .taken in (
-  sym (c .before .before .before .before .before .loop .inv .1 ∙ first-here (insideRegion (now (c .before .before .before .before .before .before .before .args .sizes)) (now (c .before .before .before .before .before .before .before .args .bases)) (c .before .before .before .before .before .before .before .args .address)) _ _ (c .before .before .before .before .loop-test .taken) (rw (c .before .wide .ensures .0) at e)),
-  λ h. near _ _ _ (c .before .wide .ensures .1) e,
+  sym (c .before .before .before .before .before .loop .inv .1 ∙ first-here (insideRegion (now (c .before .before .before .before .before .before .before .args .sizes)) (now (c .before .before .before .before .before .before .before .args .bases)) (c .before .before .before .before .before .before .before .args .address)) _ _ (c .before .before .before .before .loop-test .taken) (rw (c .before .extent .ensures .0) at e)),
+  λ h. near _ _ _ (c .before .extent .ensures .1) e,
 )
 
 add-r : tie.Need-add-r Inv-loop μ-loop
@@ -60,7 +60,7 @@ loop-less c = omega arith
 
 loop-again : tie.Need-loop-again Inv-loop μ-loop
 unfolding insideRegion
-loop-again c = (omega arith, c .before .before .before .before .before .loop .inv .1 ∙ first-next (insideRegion (now (c .before .before .before .before .before .before .before .args .sizes)) (now (c .before .before .before .before .before .before .before .args .bases)) (c .before .before .before .before .before .before .before .args .address)) _ _ (c .before .before .before .before .loop-test .taken) (rw (c .before .wide .ensures .0) at (c .if1 .left)))
+loop-again c = (omega arith, c .before .before .before .before .before .loop .inv .1 ∙ first-next (insideRegion (now (c .before .before .before .before .before .before .before .args .sizes)) (now (c .before .before .before .before .before .before .before .args .bases)) (c .before .before .before .before .before .before .before .args .address)) _ _ (c .before .before .before .before .loop-test .taken) (rw (c .before .extent .ensures .0) at (c .if1 .left)))
 
 returns-2 : tie.Need-returns-2 Inv-loop μ-loop
 returns-2 c = (sym (c .before .loop .inv .1 ∙ first-end (insideRegion (now (c .before .before .before .args .sizes)) (now (c .before .before .before .args .bases)) (c .before .before .before .args .address)) _ _ (c .loop-test .left)), λ h. absurd (omega arith))
@@ -76,9 +76,9 @@ region-at-spec =
     mul-base
     shared-slice-read-base
     cast-base
-    mul-wide
-    element-copy-out-wide
-    wide-requires
+    mul-extent
+    element-copy-out-extent
+    extent-requires
     add-top
     returns
     add-r
