@@ -267,7 +267,7 @@ module _ (p : Policy) (bases : List ℕ) (returns : ℕ) (wf : WellFormed p) (la
           (λ _. tt)
 
       reach-covers : (a : Access) (rd : ℕ) → (stores a && isUnset (entryAt row rd)) ≡ false
-          → (r : Reach) → reachOf p a rs1 (entryAt row rs1) (operandName (addend d)) (operandEntry row (addend d)) ≡ r
+          → (r : Reach) → reachOf (p .regions .fields) (p .fields) a rs1 (entryAt row rs1) (operandName (addend d)) (operandEntry row (addend d)) ≡ r
           → Covering a rd (accessedAt p (row .note) a rd (entryAt row rd) r)
       reach-covers a rd ud (Outside n r) e = tt
       reach-covers a rd ud (Inside place) e =
@@ -285,4 +285,4 @@ module _ (p : Policy) (bases : List ℕ) (returns : ℕ) (wf : WellFormed p) (la
         cond-both (Covering a rd) (isUnset (entryAt row rs1)) (λ _. tt)
         λ ua. cond-both (Covering a rd) (isUnset (operandEntry row (addend d))) (λ _. tt)
         λ ub. cond-both (Covering a rd) (stores a && isUnset (entryAt row rd)) (λ _. tt)
-        λ ud. reach-covers ua ub a rd ud (reachOf p a rs1 (entryAt row rs1) (operandName (addend d)) (operandEntry row (addend d))) refl
+        λ ud. reach-covers ua ub a rd ud (reachOf (p .regions .fields) (p .fields) a rs1 (entryAt row rs1) (operandName (addend d)) (operandEntry row (addend d))) refl

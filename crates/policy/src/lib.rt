@@ -12,6 +12,7 @@ pub mod build;
 mod find;
 
 pub use find::find_in;
+pub use form::field_in;
 
 // A field of a region: `count` elements that begin `offset` bytes after the region's start.
 // lo and hi are signed numbers in excess form, 2^31 more than the number.

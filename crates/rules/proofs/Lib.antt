@@ -4,4 +4,3 @@ pub mod RightReach
 pub mod Narrowed
 pub mod Numbered
 pub mod Placed
-pub mod Parts

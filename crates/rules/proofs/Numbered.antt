@@ -97,23 +97,23 @@ module _ (sizes : List ℕ) (a b : Entry) where
       λ _. cond-both Failing (bothNumbers a b) (λ _. tt) (λ _. refl)
 
 module _ (p : Policy) (a : Access) (rs1 : ℕ) where
-  field-outlies : (s : NumberSet) (place : ℕ) → Outlying (inField p a rs1 s place)
-  unfolding inField
+  field-outlies : (s : NumberSet) (place : ℕ) → Outlying (inField (getD (p .fields .elements) place 0) (getD (p .fields .permissions) place 0) a rs1 s place)
+  unfolding inField fieldAt
   field-outlies s place =
       cond-both Outlying (ltb 4096 (reachEnd s (accessWidth a))) (λ _. refl)
       λ _. cond-both Outlying (not (serves a (fieldAt p place .element))) (λ _. refl)
       λ _. cond-both Outlying (not (onGrid s (accessWidth a))) (λ _. refl)
       λ _. cond-both Outlying (not (allows a (fieldAt p place .permission))) (λ _. refl) (λ _. tt)
 
-  found-outlies : (s : NumberSet) (f : Found) → Outlying (inFound p a rs1 s f)
+  found-outlies : (s : NumberSet) (f : Found) → Outlying (inFound (p .fields) a rs1 s f)
   found-outlies s (Found·.At place) = field-outlies s place
   found-outlies s Found·.Nothing = refl
 
-  region-outlies : (r : ℕ) (s : NumberSet) → Outlying (inRegion p a rs1 r s)
+  region-outlies : (r : ℕ) (s : NumberSet) → Outlying (inRegion (p .regions .fields) (p .fields) a rs1 r s)
   unfolding inRegion
   region-outlies r s = cond-both Outlying (ltb (s .lo) bias) (λ _. refl) (λ _. found-outlies s (findField p r _ (reachEnd s (accessWidth a))))
 
-  reach-outlies : (rs2 : ℕ) (x y : Entry) → Outlying (reachOf p a rs1 x rs2 y)
+  reach-outlies : (rs2 : ℕ) (x y : Entry) → Outlying (reachOf (p .regions .fields) (p .fields) a rs1 x rs2 y)
   unfolding reachOf
   reach-outlies rs2 x y =
       cond-both Outlying (isStartOrNull x) (λ _. refl)
@@ -153,7 +153,7 @@ module _ (n : Note) (rd : ℕ) (o : Operands) where
   access-numbered p a e =
       if-both _
       (cond-both Numbered (stores a && isUnset e) (λ _. refl)
-      λ _. reached-numbered p n a rd e (reachOf p a (o .rs1) (o .first) (o .rs2) (o .second)) (reach-outlies p a (o .rs1) (o .rs2) (o .first) (o .second)))
+      λ _. reached-numbered p n a rd e (reachOf (p .regions .fields) (p .fields) a (o .rs1) (o .first) (o .rs2) (o .second)) (reach-outlies p a (o .rs1) (o .rs2) (o .first) (o .second)))
 
 pub operation-numbered : (p : Policy) (row : Row) (x : Operation) → Numbered (operationChange p row x)
 operation-numbered p row (Sethi rd imm22) = tt

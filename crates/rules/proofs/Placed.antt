@@ -26,8 +26,8 @@ Placed (Inside place) = place < 128
 Placed (Outside number r) = Unit {0}
 
 module _ (p : Policy) (a : Access) (rs1 : ℕ) where
-  field-placed : (s : NumberSet) (place : ℕ) → place < 128 → Placed (inField p a rs1 s place)
-  unfolding inField
+  field-placed : (s : NumberSet) (place : ℕ) → place < 128 → Placed (inField (getD (p .fields .elements) place 0) (getD (p .fields .permissions) place 0) a rs1 s place)
+  unfolding inField fieldAt
   field-placed s place l =
       cond-both Placed (ltb 4096 (reachEnd s (accessWidth a))) (λ _. tt)
       λ _. cond-both Placed (not (serves a (fieldAt p place .element))) (λ _. tt)
@@ -35,18 +35,18 @@ module _ (p : Policy) (a : Access) (rs1 : ℕ) where
       λ _. cond-both Placed (not (allows a (fieldAt p place .permission))) (λ _. tt)
       λ _. l
 
-  found-placed : (r low end : ℕ) (s : NumberSet) (f : Found) → findField p r low end ≡ f → Placed (inFound p a rs1 s f)
+  found-placed : (r low end : ℕ) (s : NumberSet) (f : Found) → findField p r low end ≡ f → Placed (inFound (p .fields) a rs1 s f)
   found-placed r low end s (Found·.At place) e =
       field-placed s place (place-small (p .regions .fields) (p .fields .elements) (p .fields .offsets) (p .fields .counts) r low end place e)
   found-placed r low end s Found·.Nothing e = tt
 
-  region-placed : (r : ℕ) (s : NumberSet) → Placed (inRegion p a rs1 r s)
+  region-placed : (r : ℕ) (s : NumberSet) → Placed (inRegion (p .regions .fields) (p .fields) a rs1 r s)
   unfolding inRegion
   region-placed r s =
       cond-both Placed (ltb (s .lo) bias) (λ _. tt)
       (λ _. found-placed r (s .lo - bias) (reachEnd s (accessWidth a)) s (findField p r (s .lo - bias) (reachEnd s (accessWidth a))) refl)
 
-  reach-placed : (rs2 : ℕ) (x y : Entry) → Placed (reachOf p a rs1 x rs2 y)
+  reach-placed : (rs2 : ℕ) (x y : Entry) → Placed (reachOf (p .regions .fields) (p .fields) a rs1 x rs2 y)
   unfolding reachOf
   reach-placed rs2 x y =
       cond-both Placed (isStartOrNull x) (λ _. tt)
@@ -55,5 +55,5 @@ module _ (p : Policy) (a : Access) (rs1 : ℕ) where
       λ _. cond-both Placed (isNumber x && isAddress y) (λ _. region-placed (y .region) (addSets (x .set) (y .set)))
       λ _. tt
 
-pub placed : (p : Policy) (a : Access) (rs1 rs2 : ℕ) (x y : Entry) (place : ℕ) → reachOf p a rs1 x rs2 y ≡ Inside place → place < 128
+pub placed : (p : Policy) (a : Access) (rs1 rs2 : ℕ) (x y : Entry) (place : ℕ) → reachOf (p .regions .fields) (p .fields) a rs1 x rs2 y ≡ Inside place → place < 128
 placed p a rs1 rs2 x y place e = subst Placed e (reach-placed p a rs1 rs2 x y)

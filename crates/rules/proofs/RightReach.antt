@@ -124,8 +124,8 @@ module _ (p : Policy) (h : Host) (wf : WellFormed p) (laid : Laid (p .regions .c
           last : {f : ℕ} (hi v w : ℕ) → hi - bias + w ≤ f → v + bias ≤ hi → v + w ≤ f
           last hi v w p q = omega arith
 
-      field-good : Good (inField p a rs1 s place)
-      unfolding inField
+      field-good : Good (inField (getD (p .fields .elements) place 0) (getD (p .fields .permissions) place 0) a rs1 s place)
+      unfolding inField fieldAt
       field-good =
           cond-both Good (ltb 4096 (reachEnd s (accessWidth a))) (λ _. tt)
           λ _. cond-both Good (not (serves a (fieldAt p place .element))) (λ _. tt)
@@ -133,11 +133,11 @@ module _ (p : Policy) (h : Host) (wf : WellFormed p) (laid : Laid (p .regions .c
           λ t₂. cond-both Good (not (allows a (fieldAt p place .permission))) (λ _. tt)
           λ t₃. reached (not-false (serves a (fieldAt p place .element)) t₁) (not-false (onGrid s (accessWidth a)) t₂) (not-false (allows a (fieldAt p place .permission)) t₃)
 
-    found-good : bias ≤ s .lo → (f : Found) → findField p r (s .lo - bias) (reachEnd s (accessWidth a)) ≡ f → Good (inFound p a rs1 s f)
+    found-good : bias ≤ s .lo → (f : Found) → findField p r (s .lo - bias) (reachEnd s (accessWidth a)) ≡ f → Good (inFound (p .fields) a rs1 s f)
     found-good low (Found·.At place) e = field-good place (found-holds p r (s .lo - bias) (reachEnd s (accessWidth a)) place e) low
     found-good low Found·.Nothing e = tt
 
-    region-good : Good (inRegion p a rs1 r s)
+    region-good : Good (inRegion (p .regions .fields) (p .fields) a rs1 r s)
     unfolding inRegion
     region-good =
         cond-both Good (ltb (s .lo) bias) (λ _. tt)
@@ -159,7 +159,7 @@ turned x y = omega arith
 module _ (p : Policy) (h : Host) (wf : WellFormed p) (laid : Laid (p .regions .count) (p .regions .sizes) h) (a : Access) (rs1 rs2 : ℕ) (d e : Entry) (x y : ℕ)
     (wd : EntryRules (p .regions .count) (p .regions .sizes) d) (we : EntryRules (p .regions .count) (p .regions .sizes) e) (lx : x < 4294967296) (ly : y < 4294967296)
     (md : Holds h d x) (me : Holds h e y) where
-  reach-good : Good p h wf laid a rs1 x y (reachOf p a rs1 d rs2 e)
+  reach-good : Good p h wf laid a rs1 x y (reachOf (p .regions .fields) (p .fields) a rs1 d rs2 e)
   unfolding reachOf
   reach-good =
       cond-both (Good p h wf laid a rs1 x y) (isStartOrNull d) (λ _. tt)
@@ -175,7 +175,7 @@ module _ (p : Policy) (h : Host) (wf : WellFormed p) (laid : Laid (p .regions .c
       λ _. cond-both (Good p h wf laid a rs1 x y) (isNumber d && isAddress e)
       (λ t. let k = and-went (isNumber d) (isAddress e) t in
       let de = we .address (k .1) in
-      subst (λ (s : NumberSet). Good p h wf laid a rs1 x y (inRegion p a rs1 (e .region) s)) (adds-turn (e .set) (d .set))
+      subst (λ (s : NumberSet). Good p h wf laid a rs1 x y (inRegion (p .regions .fields) (p .fields) a rs1 (e .region) s)) (adds-turn (e .set) (d .set))
       (region-good p h wf laid a rs1 x y (e .region) (addSets (e .set) (d .set)) (de .region)
       (alu-formed Add (e .set) (d .set) (de .set) (wd .number (k .0)))
       (inr (in-region p h laid e y we (k .1) me))

@@ -103,7 +103,7 @@ unfoldable pub accessChange : Policy → Note → Access → ℕ → Entry → O
 accessChange p n a rd e o =
     ifSet (o .rs1) (o .first) (ifSet (o .rs2) (o .second)
     (cond (stores a && isUnset e) (Breaks unsetOperand rd)
-    (accessedAt p n a rd e (reachOf p a (o .rs1) (o .first) (o .rs2) (o .second)))))
+    (accessedAt p n a rd e (reachOf (p .regions .fields) (p .fields) a (o .rs1) (o .first) (o .rs2) (o .second)))))
 
 -- what an operation does to a row
 abbrev pub operationChange : Policy → Row → Operation → Change

@@ -110,7 +110,7 @@ abbrev pub Reaches : Type 0
 Reaches =
     (p : Policy) (h : Host) → WellFormed p → Laid (p .regions .count) (p .regions .sizes) h
     → (a : Access) (rs1 rs2 : ℕ) (d e : Entry) (x y place : ℕ) → EntryRules (p .regions .count) (p .regions .sizes) d → EntryRules (p .regions .count) (p .regions .sizes) e
-    → x < 4294967296 → y < 4294967296 → Holds h d x → Holds h e y → reachOf p a rs1 d rs2 e ≡ Inside place → Reached p h a x y place
+    → x < 4294967296 → y < 4294967296 → Holds h d x → Holds h e y → reachOf (p .regions .fields) (p .fields) a rs1 d rs2 e ≡ Inside place → Reached p h a x y place
 
 -- Narrowing by a condition that holds never drops what is there.
 abbrev pub NarrowsRow : Type 0

@@ -2,5 +2,4 @@ pub mod Result
 pub mod Reach
 pub mod Change
 pub mod Narrow
-pub mod Lent
 pub mod Laws

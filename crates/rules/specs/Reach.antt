@@ -1,16 +1,18 @@
 -- Where an access lies, by the entries of the two operands that it adds (document 01, "One word's conditions": "For memory: 5 .. 10"). The
--- conditions are tested in the paper's order, and each names a register: "5 names the kind 3 register, rs1 first; the others name rs1".
+-- conditions are tested in the paper's order, and each names a register: "5 names the kind 3 register, rs1 first; the others name rs1". Of the
+-- policy it takes how many fields each region has, and where they lie.
 use Prim.Native.Nat.{ℕ, _+_, _-_, _%_}
 use mathlib.Core.Bool.{Bool, cond, not, _&&_}
+use mathlib.Core.List.{List}
 use lib.Dec.{ltb, eqb}
+use lib.ListN.{getD}
 use Rattle.v8.specs.Signed.{bias}
 use Rattle.v8.specs.Numbers.{maybeNull, noRule, outsideFields, wrongElement, offGrid, notAllowed, tooHigh}
 use Rattle.v8.specs.declared.Access.{Access}
-use Rattle.policy.specs.declared.Policy.{Policy}
+use Rattle.policy.specs.declared.Fields.{Fields}
 use Rattle.policy.specs.declared.Found.{Found}
 use Rattle.policy.specs.declared.Found.the-variants as Found·
-use Rattle.policy.specs.Policy.{fieldAt}
-use Rattle.policy.specs.Find.{findField}
+use Rattle.policy.specs.Find.{findIn}
 use Rattle.access.specs.Serve.{accessWidth, serves, allows}
 use Rattle.sets.specs.declared.NumberSet.{NumberSet}
 use Rattle.sets.specs.Rules.{addSets}
@@ -27,30 +29,31 @@ reachEnd s width = s .hi - bias + width
 abbrev pub onGrid : NumberSet → ℕ → Bool
 onGrid s width = eqb (s .lo % width) 0 && eqb (s .step % width) 0
 
--- 13, 8, 9 and 10, of the field at a place that holds the bytes reached
-unfoldable pub inField : Policy → Access → ℕ → NumberSet → ℕ → Reach
-inField p a rs1 s place =
+-- 13, 8, 9 and 10, of the field at a place that holds the bytes reached, by its element and permission
+unfoldable pub inField : ℕ → ℕ → Access → ℕ → NumberSet → ℕ → Reach
+inField element permission a rs1 s place =
     cond (ltb 4096 (reachEnd s (accessWidth a))) (Outside tooHigh rs1)
-    (cond (not (serves a (fieldAt p place .element))) (Outside wrongElement rs1)
+    (cond (not (serves a element)) (Outside wrongElement rs1)
     (cond (not (onGrid s (accessWidth a))) (Outside offGrid rs1)
-    (cond (not (allows a (fieldAt p place .permission))) (Outside notAllowed rs1)
+    (cond (not (allows a permission)) (Outside notAllowed rs1)
     (Inside place))))
 
-abbrev pub inFound : Policy → Access → ℕ → NumberSet → Found → Reach
-inFound p a rs1 s (Found·.At place) = inField p a rs1 s place
-inFound p a rs1 s Found·.Nothing = Outside outsideFields rs1
+abbrev pub inFound : Fields → Access → ℕ → NumberSet → Found → Reach
+inFound fields a rs1 s (Found·.At place) = inField (getD (fields .elements) place 0) (getD (fields .permissions) place 0) a rs1 s place
+inFound fields a rs1 s Found·.Nothing = Outside outsideFields rs1
 
--- 7: the offsets of a region, with all the bytes from the lowest on inside one field
-unfoldable pub inRegion : Policy → Access → ℕ → ℕ → NumberSet → Reach
-inRegion p a rs1 r s =
-    cond (ltb (s .lo) bias) (Outside outsideFields rs1)
-    (inFound p a rs1 s (findField p r (s .lo - bias) (reachEnd s (accessWidth a))))
+module _ (counts : List ℕ) (fields : Fields) where
+  -- 7: the offsets of a region, with all the bytes from the lowest on inside one field
+  unfoldable pub inRegion : Access → ℕ → ℕ → NumberSet → Reach
+  inRegion a rs1 r s =
+      cond (ltb (s .lo) bias) (Outside outsideFields rs1)
+      (inFound fields a rs1 s (findIn counts (fields .elements) (fields .offsets) (fields .counts) r (s .lo - bias) (reachEnd s (accessWidth a))))
 
--- 5 and 6, then the rest on the sum of an address and a number
-unfoldable pub reachOf : Policy → Access → ℕ → Entry → ℕ → Entry → Reach
-reachOf p a rs1 x rs2 y =
-    cond (isStartOrNull x) (Outside maybeNull rs1)
-    (cond (isStartOrNull y) (Outside maybeNull rs2)
-    (cond (isAddress x && isNumber y) (inRegion p a rs1 (x .region) (addSets (x .set) (y .set)))
-    (cond (isNumber x && isAddress y) (inRegion p a rs1 (y .region) (addSets (x .set) (y .set)))
-    (Outside noRule rs1))))
+  -- 5 and 6, then the rest on the sum of an address and a number
+  unfoldable pub reachOf : Access → ℕ → Entry → ℕ → Entry → Reach
+  reachOf a rs1 x rs2 y =
+      cond (isStartOrNull x) (Outside maybeNull rs1)
+      (cond (isStartOrNull y) (Outside maybeNull rs2)
+      (cond (isAddress x && isNumber y) (inRegion a rs1 (x .region) (addSets (x .set) (y .set)))
+      (cond (isNumber x && isAddress y) (inRegion a rs1 (y .region) (addSets (x .set) (y .set)))
+      (Outside noRule rs1))))

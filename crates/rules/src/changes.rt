@@ -5,7 +5,7 @@ ghost use Rattle.rules.specs.Change.{writing, aluChange, shiftChange, op
 use crate::Change;
 use crate::Operands;
 use crate::Result;
-use crate::accessing::access_in;
+use crate::accessing::access_change;
 use crate::notes::alu_note;
 use crate::notes::note_after;
 use crate::operand::operands_of;
@@ -100,7 +100,7 @@ fn operation_change(policy: Policy, row: Row, x: Operation) -> Change
             displacement,
         } => {
             let o = operands_of(row, rs1, addend_of(displacement));
-            access_in(policy, row.note, access, rd, entry_at(row, rd), o)
+            access_change(policy, row.note, access, rd, entry_at(row, rd), o)
         }
     }
 }

@@ -1,10 +1,10 @@
 // Where an access lies, by the entries of the two operands that it adds (specs/Reach.antt). The
-// conditions are tested in the order of the returns. The policy's lists are lent (specs/Lent.antt).
+// conditions are tested in the order of the returns. The policy's lists are lent.
 ghost use mathlib.Core.Path.{_≡_};
 ghost use Prim.Native.Nat.{_-_, _<_, _≤_};
 ghost use Rattle.access.specs.Serve.{accessWidth};
 ghost use Rattle.rules.specs.Reach.{reachEnd, onGrid, inField, inRegion, reachOf};
-ghost use Rattle.rules.specs.Lent.{rightsOf, placesOf};
+ghost use Rattle.policy.specs.Policy.{fieldsFrom};
 ghost use Rattle.v8.specs.Signed.{bias};
 use crate::Operands;
 use crate::Reach;
@@ -52,28 +52,20 @@ fn on_grid(s: NumberSet, a: Access) -> bool
     (s.lo % width == 0) & (s.step as u32 % width == 0)
 }
 
-// Where an access to offsets of the field at a place lies.
-fn in_field<'a>(
-    elements: &'a [u8; 128],
-    permissions: &'a [u8; 128],
-    a: Access,
-    rs1: u8,
-    s: NumberSet,
-    place: usize,
-) -> Reach
-    requires { ⌜ place < 128 ⌝ }
-    ensures { λ r. ⌜ r ≡ inField (rightsOf (now (elements .entry)) (now (permissions .entry))) a rs1 s place ⌝ }
+// Where an access to offsets of the field at a place lies, by its element and permission.
+fn in_field(element: u8, permission: u8, a: Access, rs1: u8, s: NumberSet, place: usize) -> Reach
+    ensures { λ r. ⌜ r ≡ inField element permission a rs1 s place ⌝ }
 {
     if 4096 < reach_end(s, a) {
         return Reach::Outside(TOO_HIGH, rs1);
     }
-    if !serves_element(a, elements[place]) {
+    if !serves_element(a, element) {
         return Reach::Outside(WRONG_ELEMENT, rs1);
     }
     if !on_grid(s, a) {
         return Reach::Outside(OFF_GRID, rs1);
     }
-    if !allowed(a, permissions[place]) {
+    if !allowed(a, permission) {
         return Reach::Outside(NOT_ALLOWED, rs1);
     }
     Reach::Inside(place)
@@ -91,15 +83,17 @@ fn in_region<'a>(
     region: u8,
     s: NumberSet,
 ) -> Reach
-    ensures { λ r. ⌜ r ≡ inRegion (placesOf (now (fields .entry)) (now (elements .entry)) (now (permissions .entry)) (now (offsets .entry)) (now (counts .entry))) a rs1 region s ⌝ }
+    ensures { λ r. ⌜ r ≡ inRegion (now (fields .entry)) (fieldsFrom (now (elements .entry)) (now (permissions .entry)) (now (offsets .entry)) (now (counts .entry))) a rs1 region s ⌝ }
 {
     if s.lo < BIAS {
         return Reach::Outside(OUTSIDE_FIELDS, rs1);
     }
     let low = ByteOffset(offset_of(s.lo));
     let end = ByteOffset(reach_end(s, a));
-    match find_in(fields, elements, offsets, counts, region, low, end) {
-        Found::At(place) => in_field(elements, permissions, a, rs1, s, place),
+    let search = find_in(fields, elements, offsets, counts, region, low, end);
+    let found = search.found;
+    match found {
+        Found::At(place) => in_field(elements[place], permissions[place], a, rs1, s, place),
         Found::Nothing => Reach::Outside(OUTSIDE_FIELDS, rs1),
     }
 }
@@ -114,7 +108,7 @@ pub fn reach_of<'a>(
     a: Access,
     o: Operands,
 ) -> Reach
-    ensures { λ r. ⌜ r ≡ reachOf (placesOf (now (fields .entry)) (now (elements .entry)) (now (permissions .entry)) (now (offsets .entry)) (now (counts .entry))) a (o .rs1) (o .first) (o .rs2) (o .second) ⌝ }
+    ensures { λ r. ⌜ r ≡ reachOf (now (fields .entry)) (fieldsFrom (now (elements .entry)) (now (permissions .entry)) (now (offsets .entry)) (now (counts .entry))) a (o .rs1) (o .first) (o .rs2) (o .second) ⌝ }
 {
     let x = o.first;
     let y = o.second;
