@@ -66,8 +66,8 @@ fits-went a b e u f =
     or-went (isZero a) (isRegionStart (b .region) a) (p .1) (f .zeros (p .0)) (f .start (p .0)))
 
 -- the one member of {0}
-pub only-bias : (s : NumberSet) (n : ℕ) → onlyZero s ≡ true → Member s n → n ≡ bias
-only-bias s n e m =
+pub only-zero : (s : NumberSet) (n : ℕ) → onlyZero s ≡ true → Member s n → n ≡ bias
+only-zero s n e m =
     let p = and-went (eqb (s .lo) bias) (eqb (s .hi) bias) e in
     omega (arith, eqb-true (s .lo) bias (p .0), eqb-true (s .hi) bias (p .1), m .low, m .high)
 
@@ -75,7 +75,7 @@ only-bias s n e m =
 pub zero-holds : (h : Host) (e : Entry) (v : ℕ) → v < 4294967296 → isZero e ≡ true → Holds h e v → v ≡ 0
 zero-holds h e v l z m =
     let p = and-went (isNumber e) (onlyZero (e .set)) z in
-    let q = only-bias (e .set) (excess v) (p .1) (m .number (p .0)) in
+    let q = only-zero (e .set) (excess v) (p .1) (m .number (p .0)) in
     omega (arith, q)
 
 pub start-address : (r : ℕ) (e : Entry) → isRegionStart r e ≡ true → isAddress e ≡ true
@@ -86,7 +86,7 @@ start-holds h r e v z m =
     let p = and-went (isAddress e && eqb (e .region) r) (onlyZero (e .set)) z in
     let q = and-went (isAddress e) (eqb (e .region) r) (p .0) in
     let o = m .address (q .0) in
-    let n = only-bias (e .set) (v - baseOf h (e .region) + bias) (p .1) (o .member) in
+    let n = only-zero (e .set) (v - baseOf h (e .region) + bias) (p .1) (o .member) in
     at (baseOf h (e .region)) (o .above) n ∙ ap (baseOf h) (eqb-true (e .region) r (q .1))
   where
     at : (base : ℕ) → base ≤ v → v - base + bias ≡ bias → v ≡ base

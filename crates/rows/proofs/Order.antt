@@ -14,7 +14,7 @@ use Rattle.rows.specs.declared.Entry.{Entry}
 use Rattle.rows.specs.Entry.{isUnset, isNumber, isAddress, isStartOrNull, isReturn, isZero, isRegionStart, onlyZero, fits}
 use Rattle.rows.specs.Laws.{FitsSelf, FitsOn}
 use Rattle.rows.proofs.Tests.{and-went, true-or, or-true, one-kind}
-use Rattle.rows.proofs.Fitting.{fits-went, numbersFit, addressesFit, startsFit, linksFit, nullFits, start-address, only-bias}
+use Rattle.rows.proofs.Fitting.{fits-went, numbersFit, addressesFit, startsFit, linksFit, nullFits, start-address, only-zero}
 
 module _ (a b : Entry) where
   fit-unset : isUnset b ≡ true → fits a b ≡ true
@@ -135,8 +135,8 @@ module _ (a b : Entry) (e : fits a b ≡ true) where
 -- a set that lies in {0} is {0}
 bias-in : (s t : NumberSet) → SetRules s → SetRules t → fitsSet s t ≡ true → onlyZero t ≡ true → onlyZero s ≡ true
 bias-in s t ws wt f z =
-    let low = only-bias t (s .lo) z (fits-holds s t ws wt f (s .lo) (record { low = omega arith; high = ws .order; grid = none (ws .steps) (s .lo) })) in
-    let high = only-bias t (s .hi) z (fits-holds s t ws wt f (s .hi) (record { low = ws .order; high = omega arith; grid = ws .even })) in
+    let low = only-zero t (s .lo) z (fits-holds s t ws wt f (s .lo) (record { low = omega arith; high = ws .order; grid = none (ws .steps) (s .lo) })) in
+    let high = only-zero t (s .hi) z (fits-holds s t ws wt f (s .hi) (record { low = ws .order; high = omega arith; grid = ws .even })) in
     rw (low, high)
   where
     none : {n : ℕ} → Step n → (l : ℕ) → (l - l) % n ≡ 0

@@ -2,15 +2,15 @@
 use Prim.Native.Nat.{ℕ, _-_, _<_}
 use mathlib.Core.Path.{_≡_, refl, subst}
 use mathlib.Core.Bool.{not, _&&_}
+use mathlib.Core.List.{List}
 use lib.Dec.{ltb}
 use Rattle.v8.specs.Signed.{bias}
 use Rattle.v8.specs.Choice.{cond-both}
 use Rattle.v8.specs.declared.Access.{Access}
-use Rattle.policy.specs.declared.Policy.{Policy}
+use Rattle.policy.specs.declared.Fields.{Fields}
 use Rattle.policy.specs.declared.Found.{Found}
 use Rattle.policy.specs.declared.Found.the-variants as Found·
-use Rattle.policy.specs.Policy.{fieldAt}
-use Rattle.policy.specs.Find.{findField}
+use Rattle.policy.specs.Find.{findIn}
 use Rattle.access.specs.Serve.{accessWidth, serves, allows}
 use Rattle.access.proofs.Places.{place-small}
 use Rattle.sets.specs.declared.NumberSet.{NumberSet}
@@ -25,28 +25,31 @@ abbrev Placed : Reach → Type 0
 Placed (Inside place) = place < 128
 Placed (Outside number r) = Unit {0}
 
-module _ (p : Policy) (a : Access) (rs1 : ℕ) where
-  field-placed : (s : NumberSet) (place : ℕ) → place < 128 → Placed (inField (getD (p .fields .elements) place 0) (getD (p .fields .permissions) place 0) a rs1 s place)
-  unfolding inField fieldAt
-  field-placed s place l =
+module _ (counts : List ℕ) (fields : Fields) (a : Access) (rs1 : ℕ) where
+  field-placed : (element permission : ℕ) (s : NumberSet) (place : ℕ) → place < 128 → Placed (inField element permission a rs1 s place)
+  unfolding inField
+  field-placed element permission s place l =
       cond-both Placed (ltb 4096 (reachEnd s (accessWidth a))) (λ _. tt)
-      λ _. cond-both Placed (not (serves a (fieldAt p place .element))) (λ _. tt)
+      λ _. cond-both Placed (not (serves a element)) (λ _. tt)
       λ _. cond-both Placed (not (onGrid s (accessWidth a))) (λ _. tt)
-      λ _. cond-both Placed (not (allows a (fieldAt p place .permission))) (λ _. tt)
+      λ _. cond-both Placed (not (allows a permission)) (λ _. tt)
       λ _. l
 
-  found-placed : (r low end : ℕ) (s : NumberSet) (f : Found) → findField p r low end ≡ f → Placed (inFound (p .fields) a rs1 s f)
+  abbrev find : ℕ → ℕ → ℕ → Found
+  find r low end = findIn counts (fields .elements) (fields .offsets) (fields .counts) r low end
+
+  found-placed : (r low end : ℕ) (s : NumberSet) (f : Found) → find r low end ≡ f → Placed (inFound fields a rs1 s f)
   found-placed r low end s (Found·.At place) e =
-      field-placed s place (place-small (p .regions .fields) (p .fields .elements) (p .fields .offsets) (p .fields .counts) r low end place e)
+      field-placed _ _ s place (place-small counts (fields .elements) (fields .offsets) (fields .counts) r low end place e)
   found-placed r low end s Found·.Nothing e = tt
 
-  region-placed : (r : ℕ) (s : NumberSet) → Placed (inRegion (p .regions .fields) (p .fields) a rs1 r s)
+  region-placed : (r : ℕ) (s : NumberSet) → Placed (inRegion counts fields a rs1 r s)
   unfolding inRegion
   region-placed r s =
       cond-both Placed (ltb (s .lo) bias) (λ _. tt)
-      (λ _. found-placed r (s .lo - bias) (reachEnd s (accessWidth a)) s (findField p r (s .lo - bias) (reachEnd s (accessWidth a))) refl)
+      (λ _. found-placed r (s .lo - bias) (reachEnd s (accessWidth a)) s (find r (s .lo - bias) (reachEnd s (accessWidth a))) refl)
 
-  reach-placed : (rs2 : ℕ) (x y : Entry) → Placed (reachOf (p .regions .fields) (p .fields) a rs1 x rs2 y)
+  reach-placed : (rs2 : ℕ) (x y : Entry) → Placed (reachOf counts fields a rs1 x rs2 y)
   unfolding reachOf
   reach-placed rs2 x y =
       cond-both Placed (isStartOrNull x) (λ _. tt)
@@ -55,5 +58,6 @@ module _ (p : Policy) (a : Access) (rs1 : ℕ) where
       λ _. cond-both Placed (isNumber x && isAddress y) (λ _. region-placed (y .region) (addSets (x .set) (y .set)))
       λ _. tt
 
-pub placed : (p : Policy) (a : Access) (rs1 rs2 : ℕ) (x y : Entry) (place : ℕ) → reachOf (p .regions .fields) (p .fields) a rs1 x rs2 y ≡ Inside place → place < 128
-placed p a rs1 rs2 x y place e = subst Placed e (reach-placed p a rs1 rs2 x y)
+pub placed : (counts : List ℕ) (fields : Fields) (a : Access) (rs1 rs2 : ℕ) (x y : Entry) (place : ℕ)
+    → reachOf counts fields a rs1 x rs2 y ≡ Inside place → place < 128
+placed counts fields a rs1 rs2 x y place e = subst Placed e (reach-placed counts fields a rs1 rs2 x y)

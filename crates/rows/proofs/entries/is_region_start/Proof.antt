@@ -2,11 +2,11 @@ use borrow.Author.Needs.{needs}
 use Rattle.rows.proofs.entries.is_region_start.Statement.{statement}
 use Rattle.rows.proofs.entries.is_region_start.Tie as tie
 
-only-bias-requires : tie.Need-only-bias-requires
-only-bias-requires c κs = search needs
+only-zero-requires : tie.Need-only-zero-requires
+only-zero-requires c κs = search needs
 
 returns : tie.Need-returns
 returns c = cc
 
 pub is-region-start-spec : {M : Type 1} → statement M
-is-region-start-spec = tie.close (tie.spec only-bias-requires returns)
+is-region-start-spec = tie.close (tie.spec only-zero-requires returns)

@@ -2,11 +2,11 @@ use borrow.Author.Needs.{needs}
 use Rattle.rows.proofs.entries.is_zero.Statement.{statement}
 use Rattle.rows.proofs.entries.is_zero.Tie as tie
 
-only-bias-requires : tie.Need-only-bias-requires
-only-bias-requires c κs = search needs
+only-zero-requires : tie.Need-only-zero-requires
+only-zero-requires c κs = search needs
 
 returns : tie.Need-returns
 returns c = cc
 
 pub is-zero-spec : {M : Type 1} → statement M
-is-zero-spec = tie.close (tie.spec only-bias-requires returns)
+is-zero-spec = tie.close (tie.spec only-zero-requires returns)

@@ -4,7 +4,6 @@ use Rattle.policy.specs.Policy.{fieldAt}
 use Rattle.rows.specs.Entry.{fieldEntry}
 use Rattle.rules.specs.Change.{accessChange}
 use Rattle.rules.proofs.Placed.{placed}
-use Rattle.rules.proofs.Parts.{reach-part}
 use borrow.Author.Tests.{ne-eqb}
 use borrow.Author.Needs.{needs}
 use Rattle.rules.proofs.accessing.access_change.Statement.{statement}
@@ -34,7 +33,7 @@ enum-known-place : tie.Need-enum-known-place
 enum-known-place c = search needs
 
 held-at-requires : tie.Need-held-at-requires
-held-at-requires c κs = placed _ _ _ _ _ _ _ (sym (c .before .before .before .reach-of .ensures) ∙ c .before .place .given .1)
+held-at-requires c κs = placed _ _ _ _ _ _ _ _ (sym (c .before .before .before .reach-of .ensures) ∙ c .before .place .given .1)
 
 accessed-requires : tie.Need-accessed-requires
 accessed-requires c κs = search needs
@@ -46,20 +45,20 @@ returns-4 : tie.Need-returns-4
 unfolding accessChange fieldAt fieldEntry
 returns-4 c =
     let reach = c .before .before .before .before .before in
-    let stored = reach .before in
+    let stored = reach .before .before .before .before .before .before .before in
     let second = stored .before .before .before in
     rw
-    (ne-eqb _ 0 (second .before .before .if1 .left), ne-eqb _ 0 (second .if2 .left), ← stored .before .before .stores .ensures, stored .if3 .left, ← reach-part _ _ _ _ _ _, ← reach .reach-of .ensures, c .before .before .before .place .given .1, ← c .before .held-at .ensures)
+    (ne-eqb _ 0 (second .before .before .if1 .left), ne-eqb _ 0 (second .if2 .left), ← stored .before .before .stores .ensures, stored .if3 .left, ← reach .reach-of .ensures, c .before .before .before .place .given .1, ← c .before .held-at .ensures)
     (c .accessed .ensures)
 
 returns-5 : tie.Need-returns-5
 unfolding accessChange
 returns-5 c =
     let reach = c .before .before .before in
-    let stored = reach .before in
+    let stored = reach .before .before .before .before .before .before .before in
     let second = stored .before .before .before in
     rw
-    (ne-eqb _ 0 (second .before .before .if1 .left), ne-eqb _ 0 (second .if2 .left), ← stored .before .before .stores .ensures, stored .if3 .left, ← reach-part _ _ _ _ _ _, ← reach .reach-of .ensures, c .before .number .given .1)
+    (ne-eqb _ 0 (second .before .before .if1 .left), ne-eqb _ 0 (second .if2 .left), ← stored .before .before .stores .ensures, stored .if3 .left, ← reach .reach-of .ensures, c .before .number .given .1)
 
 pub access-change-spec : {M : Type 1} → statement M
 access-change-spec =

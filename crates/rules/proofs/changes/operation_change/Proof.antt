@@ -45,8 +45,8 @@ operands-of-requires-3 c κs = search needs
 entry-at-requires : tie.Need-entry-at-requires
 entry-at-requires c κs = search needs
 
-access-in-requires : tie.Need-access-in-requires
-access-in-requires c κs = search needs
+access-change-requires : tie.Need-access-change-requires
+access-change-requires c κs = search needs
 
 returns : tie.Need-returns
 returns c = rw (c .before .before .before .before .x .given .1, c .note-after .ensures, c .before .constant .ensures, c .before .before .sethi .ensures)
@@ -58,7 +58,7 @@ returns-3 : tie.Need-returns-3
 returns-3 c = rw (c .before .before .before .x3 .given .1, ← c .before .operands-of2 .ensures) (c .shift-change .ensures)
 
 returns-4 : tie.Need-returns-4
-returns-4 c = rw (c .before .before .before .before .before .x4 .given .1, ← c .before .entry-at .ensures, ← c .before .before .before .addend-of .ensures, ← c .before .before .operands-of3 .ensures) (c .access-in .ensures)
+returns-4 c = rw (c .before .before .before .before .before .x4 .given .1, ← c .before .entry-at .ensures, ← c .before .before .before .addend-of .ensures, ← c .before .before .operands-of3 .ensures) (c .access-change .ensures)
 
 pub operation-change-spec : {M : Type 1} → statement M
 operation-change-spec =
@@ -78,7 +78,7 @@ operation-change-spec =
     addend-of-requires
     operands-of-requires-3
     entry-at-requires
-    access-in-requires
+    access-change-requires
     returns
     returns-2
     returns-3

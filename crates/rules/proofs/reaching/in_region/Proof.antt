@@ -1,9 +1,8 @@
--- The lowest offset is not negative, and a field is searched; a place that is found is one of the 128, and what is asked of its field
--- reads the element and the permission alone.
+-- The lowest offset is not negative, and a field is searched; a place that is found is one of the 128.
 use mathlib.Core.Path.{sym, _∙_}
-use Rattle.policy.specs.Policy.{fieldAt}
+use Rattle.policy.proofs.FoundField.{is-found}
 use Rattle.access.proofs.Places.{place-small}
-use Rattle.rules.specs.Reach.{inField, inRegion}
+use Rattle.rules.specs.Reach.{inRegion}
 use borrow.Author.Tests.{le-ltb, lt-ltb}
 use borrow.Author.Needs.{needs}
 use Rattle.rules.proofs.reaching.in_region.Statement.{statement}
@@ -22,22 +21,28 @@ reach-end-requires c κs = search needs
 find-in-requires : tie.Need-find-in-requires
 find-in-requires c κs = search needs
 
-enum-known-place : tie.Need-enum-known-place
-enum-known-place c = search needs
+enum-known-found : tie.Need-enum-known-found
+enum-known-found c = search needs
+
+element-copy-out-in-field : tie.Need-element-copy-out-in-field
+element-copy-out-in-field c = place-small _ _ _ _ _ _ _ _ (sym (is-found (c .before .before .before .find-in .ensures)) ∙ c .before .found .given .1)
+
+element-copy-out-in-field-2 : tie.Need-element-copy-out-in-field-2
+element-copy-out-in-field-2 c = place-small _ _ _ _ _ _ _ _ (sym (is-found (c .before .before .before .before .find-in .ensures)) ∙ c .before .before .found .given .1)
 
 in-field-requires : tie.Need-in-field-requires
-in-field-requires c κs = place-small _ _ _ _ _ _ _ _ (sym (c .before .before .before .find-in .ensures) ∙ c .before .place .given .1)
+in-field-requires c κs = search needs
 
 enum-told : tie.Need-enum-told
 enum-told c = search needs
 
 returns-2 : tie.Need-returns-2
-unfolding fieldAt inField inRegion
+unfolding inRegion
 returns-2 c =
-    let found = c .before .before .before .before in
+    let found = c .before .before .before .before .before .before in
     let low = found .before .before in
     rw
-    (le-ltb _ 2147483648 (low .before .if1 .left), ← low .offset-of .ensures .0, ← found .before .reach-end .ensures, ← found .find-in .ensures, c .before .before .place .given .1)
+    (le-ltb _ 2147483648 (low .before .if1 .left), ← low .offset-of .ensures .0, ← found .before .reach-end .ensures, ← is-found (found .find-in .ensures), c .before .before .before .before .found .given .1)
     (c .in-field .ensures)
 
 returns-3 : tie.Need-returns-3
@@ -45,7 +50,7 @@ unfolding inRegion
 returns-3 c =
     let found = c .before .before in
     let low = found .before .before in
-    rw (le-ltb _ 2147483648 (low .before .if1 .left), ← low .offset-of .ensures .0, ← found .before .reach-end .ensures, ← found .find-in .ensures, c .enum-told .given .1)
+    rw (le-ltb _ 2147483648 (low .before .if1 .left), ← low .offset-of .ensures .0, ← found .before .reach-end .ensures, ← is-found (found .find-in .ensures), c .enum-told .given .1)
 
 pub in-region-spec : {M : Type 1} → statement M
 in-region-spec =
@@ -55,7 +60,9 @@ in-region-spec =
     offset-of-requires
     reach-end-requires
     find-in-requires
-    enum-known-place
+    enum-known-found
+    element-copy-out-in-field
+    element-copy-out-in-field-2
     in-field-requires
     enum-told
     returns-2
