@@ -31,7 +31,7 @@ use Rattle.rows.specs.Row.{entryAt, rowWith}
 use Rattle.rows.specs.Matches.{Host, Holds}
 use Rattle.rows.specs.Laws.{EntryRules}
 use Rattle.rows.proofs.Tests.{and-went}
-use Rattle.rows.proofs.ByKind.{number-rules, holds-number}
+use Rattle.rows.proofs.ByKind.{number-rules, holds-number, ruled-number}
 use Rattle.rules.specs.declared.Result.{Result}
 use Rattle.rules.specs.declared.Result.the-variants.{Gives, Fails}
 use Rattle.rules.specs.declared.Change.{Change}
@@ -51,10 +51,10 @@ framed-self p m = record { length-kept = refl; bytes-kept = λ a o. refl }
 
 -- an immediate is a single number, and well formed
 constant-rules : (regions : ℕ) (sizes : List ℕ) (v : ℕ) → EntryRules regions sizes (constant v)
-constant-rules regions sizes v = number-rules regions sizes (constant v) refl (single-formed (excess v) (omega arith))
+constant-rules regions sizes v = number-rules refl (single-formed (excess v) (omega arith))
 
 constant-holds : (h : Host) (v : ℕ) → Holds h (constant v) v
-constant-holds h v = holds-number h (constant v) v refl (single-holds (excess v))
+constant-holds h v = holds-number refl (single-holds (excess v))
 
 module _ (p : Policy) (h : Host) (row : Row) (c : Core) (ck : CoreOk p h c) (f : Fitted p h row c) where
   -- an operand that is not unset: it is set, and holds one of the entry's values
@@ -103,7 +103,7 @@ module _ (p : Policy) (h : Host) (row : Row) (c : Core) (ck : CoreOk p h c) (f :
   codes-word op rd rs1 b rb =
       cond-both (λ (x : Note). x .number < 4294967296) (isSub op && leb 1 rs1 && isConstant b && not (eqb rd rs1))
       (λ t. let k = and-went (isSub op && leb 1 rs1) (isConstant b) (and-went (isSub op && leb 1 rs1 && isConstant b) (not (eqb rd rs1)) t .0) in
-      let s = rb .number (and-went (isNumber b) (eqb (b .set .lo) (b .set .hi)) (k .1) .0) in
+      let s = ruled-number (and-went (isNumber b) (eqb (b .set .lo) (b .set .hi)) (k .1) .0) rb in
       below (s .order) (s .top))
       (λ _. omega arith)
     where

@@ -52,6 +52,7 @@ use Rattle.rules.specs.declared.Change.the-variants.{Writes, Keeps, Breaks}
 use Rattle.rules.specs.Change.{operationChange, branchChange, returnChange, codesName}
 use Rattle.rules.specs.Narrow.{RowLeft, left, nothing, narrowRow}
 use Rattle.rules.specs.Laws.{Laid, LeftMatches}
+use Rattle.rows.proofs.ByKind.{held-return}
 use Rattle.rules.proofs.Narrowed.{narrows-row}
 use Rattle.checker.specs.Answer.{passes}
 use Rattle.checker.specs.Routine.{Routine, count, rowAt, resultEntry, rowBytes}
@@ -345,7 +346,7 @@ module _ (t : Routine) (bases : List ℕ) (returns : ℕ) (wf : WellFormed (t .p
   return-held row after c f =
       cond-both (λ (k : Change). After row k after → R) (isUnset (entryAt row link)) (λ _ x. absurd x)
       λ u. cond-both (λ (k : Change). After row k after → R) (isReturn (entryAt row link))
-      (λ r x. let m = f .matches .entries link u in (m .0, m .1 .return r, x)) (λ _ x. absurd x)
+      (λ r x. let m = f .matches .entries link u in (m .0, held-return r (m .1), x)) (λ _ x. absurd x)
     where
       R : Type 0
       R = (isSet (c .registers) link ≡ true) × (valueOf (c .registers) link ≡ returns) × (after ≡ row)

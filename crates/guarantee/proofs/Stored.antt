@@ -30,6 +30,7 @@ use Rattle.sets.proofs.Ends.{ended-only}
 use Rattle.rows.specs.declared.Entry.{Entry}
 use Rattle.rows.specs.Entry.{numberIn, fieldEntry}
 use Rattle.rows.specs.Matches.{Host, Holds}
+use Rattle.rows.proofs.ByKind.{held-number}
 use Rattle.guarantee.specs.Fields.{loadFor, isReadable, fieldOf, byteOf, elementAt, Declared}
 use Rattle.guarantee.specs.Laws.{InElement, LoadDeclared, StoreDeclared, StoreFramed}
 use Rattle.guarantee.proofs.Elements.{element-step, load-wide, serves-load, store-wide, Indexed, indexed, one-element, number-whole, word-whole}
@@ -68,7 +69,7 @@ value-whole regions size h f v rules small holds = at (ltb (f .element) 6) refl
     at true t =
         let below : f .element ≤ 5 = omega (arith, ltb-true (f .element) 6 t) in
         let numbers = rules .numbers below in
-        let m : Member (ended 1 (f .lo) (f .hi)) (excess v) = subst (λ (e : Entry). Holds h e v) (number-entry f t) holds .number refl in
+        let m : Member (ended 1 (f .lo) (f .hi)) (excess v) = held-number refl (subst (λ (e : Entry). Holds h e v) (number-entry f t) holds) in
         let n = ended-only 1 (f .lo) (f .hi) (excess v) m in
         number-whole (f .element) v (rules .element-least) (rules .element-most) below small
         (between (f .lo) (numbers .least) (n .low)) (between (f .hi) (n .high) (numbers .most))

@@ -46,13 +46,13 @@ elementAt p r f i = byteOf p r (f .offset .0 + widthOf (f .element) * i)
 -- every readable field holds declared values
 abbrev pub Declared : Policy → Host → List ℕ → Type 0
 Declared p h memory =
-    (r k i : ℕ) → r < p .regions .count → k < countOf p r → isReadable (fieldOf p r k) ≡ true → i < fieldOf p r k .count
+    (r k i : ℕ) → r < p .regions .count → k < countOf p r → readable (fieldOf p r k .permission) ≡ true → i < fieldOf p r k .count
     → Holds h (fieldEntry (fieldOf p r k)) (loadOf (loadFor (fieldOf p r k .element)) memory (elementAt p r (fieldOf p r k) i))
 
 -- place a of the lent memory lies outside writable fields
 abbrev pub OutsideWritable : Policy → ℕ → Type 0
 OutsideWritable p a =
-    (r k b : ℕ) → r < p .regions .count → k < countOf p r → isWritable (fieldOf p r k) ≡ true → InField (fieldOf p r k) b → a ≡ byteOf p r b → ⊥
+    (r k b : ℕ) → r < p .regions .count → k < countOf p r → writable (fieldOf p r k .permission) ≡ true → InField (fieldOf p r k) b → a ≡ byteOf p r b → ⊥
 
 -- "every byte of the lent memory outside writable fields is as it was at the start"
 pub record Framed (p : Policy) (before after : List ℕ) : Type 0 where

@@ -32,7 +32,7 @@ pub record InElement (p : Policy) (a : Access) (r k offset : ℕ) : Type 0 where
 abbrev pub LoadDeclared : Type 0
 LoadDeclared =
     (p : Policy) (h : Host) → WellFormed p → (memory : List ℕ) → Declared p h memory
-    → (op : LoadOp) (r k offset : ℕ) → InElement p (Loads op) r k offset → isReadable (fieldOf p r k) ≡ true
+    → (op : LoadOp) (r k offset : ℕ) → InElement p (Loads op) r k offset → readable (fieldOf p r k .permission) ≡ true
     → Holds h (fieldEntry (fieldOf p r k)) (loadOf op memory (byteOf p r offset))
 
 -- A store of a value that the field's entry holds keeps the declared values of every field.
@@ -45,5 +45,5 @@ StoreDeclared =
 -- A store into a writable field keeps every byte outside writable fields.
 abbrev pub StoreFramed : Type 0
 StoreFramed =
-    (p : Policy) (memory : List ℕ) (op : StoreOp) (r k offset v : ℕ) → InElement p (Stores op) r k offset → isWritable (fieldOf p r k) ≡ true
+    (p : Policy) (memory : List ℕ) (op : StoreOp) (r k offset v : ℕ) → InElement p (Stores op) r k offset → writable (fieldOf p r k .permission) ≡ true
     → Framed p memory (storeOf op v (byteOf p r offset) memory)

@@ -40,14 +40,14 @@ module _ (regions : ℕ) (sizes : List ℕ) (e : Entry) where
   otherForm = (isUnset e || isReturn e) && eqb (e .region) 0 && isBlank (e .set)
 
   as-number : e .set .hi < 4294967296 → isNumber e ≡ true → numberForm ≡ true → EntryRules regions sizes e
-  as-number top k f = number-rules regions sizes e k (obeys (e .set) top (and-went (eqb (e .region) 0) (setOk (e .set)) f .1))
+  as-number top k f = number-rules k (obeys (e .set) top (and-went (eqb (e .region) 0) (setOk (e .set)) f .1))
 
   as-address : e .set .hi < 4294967296 → isAddress e ≡ true → addressForm ≡ true → EntryRules regions sizes e
   as-address top k f =
       let p = and-went (ltb (e .region) regions && setOk (e .set) && leb bias (e .set .lo)) (leb (e .set .hi) (bias + sizeIn sizes (e .region))) f in
       let q = and-went (ltb (e .region) regions && setOk (e .set)) (leb bias (e .set .lo)) (p .0) in
       let r = and-went (ltb (e .region) regions) (setOk (e .set)) (q .0) in
-      address-rules regions sizes e k
+      address-rules k
       (record {
         region = ltb-true (e .region) regions (r .0);
         set = obeys (e .set) top (r .1);
@@ -56,13 +56,13 @@ module _ (regions : ℕ) (sizes : List ℕ) (e : Entry) where
       })
 
   as-start : isStartOrNull e ≡ true → startForm ≡ true → EntryRules regions sizes e
-  as-start k f = start-rules regions sizes e k (ltb-true (e .region) regions (and-went (ltb (e .region) regions) (isBlank (e .set)) f .0))
+  as-start k f = start-rules k (ltb-true (e .region) regions (and-went (ltb (e .region) regions) (isBlank (e .set)) f .0))
 
   as-other : otherForm ≡ true → EntryRules regions sizes e
   as-other f =
       let p = and-went ((isUnset e || isReturn e) && eqb (e .region) 0) (isBlank (e .set)) f in
       let q = and-went (isUnset e || isReturn e) (eqb (e .region) 0) (p .0) in
-      or-went (isUnset e) (isReturn e) (q .0) (unset-rules regions sizes e) (return-rules regions sizes e)
+      or-went (isUnset e) (isReturn e) (q .0) (unset-rules) (return-rules)
 
 pub entry-obeys : EntryObeys
 unfolding entryOk
@@ -109,7 +109,7 @@ row-obeys regions sizes bytes at e = record { entries = λ r. by r (ltb r 32) re
         (entry-obeys regions sizes (entryOf bytes (entryPlace at r)) (read-top bytes (entryPlace at r))
         (formed-entry regions sizes bytes at r (ltb-true r 32 t) (formed-each regions sizes bytes at e r (omega (arith, ltb-true r 32 t)))))
     by r false t =
-        subst (EntryRules regions sizes) (sym (beyond (rowOf bytes at) r (ltb-false r 32 t))) (unset-rules regions sizes noEntry refl)
+        subst (EntryRules regions sizes) (sym (beyond (rowOf bytes at) r (ltb-false r 32 t))) (unset-rules refl)
 
 from-T : (t : Bool) → T t → t ≡ true
 from-T true h = refl
@@ -125,13 +125,13 @@ unfolding fieldEntry
 field-entry-obeys regions size sizes f w =
     cond-both (EntryRules regions sizes) (ltb (f .element) 6)
     (λ t. let n = w .numbers (omega (arith, ltb-true (f .element) 6 t)) in
-    number-rules regions sizes (numberIn (ended 1 (f .lo) (f .hi))) refl
+    number-rules refl
     (ended-formed 1 (f .lo) (f .hi) s1 (n .order) (lower (n .most) (most-top (f .element) (omega (arith, ltb-true (f .element) 6 t)))) (mod-one (f .hi - f .lo))))
     (λ t. let a = w .address (ltb-false (f .element) 6 t) in
     cond-both (EntryRules regions sizes) (eqb (f .element) 6)
-    (λ _. address-rules regions sizes (regionStart (f .target)) refl
+    (λ _. address-rules refl
     (record { region = a .target; set = single-formed bias (omega arith); low = omega arith; high = omega arith }))
-    (λ _. start-rules regions sizes (startOrNull (f .target)) refl (a .target)))
+    (λ _. start-rules refl (a .target)))
   where
     lower : {a b : ℕ} → a ≤ b → b < 4294967296 → a < 4294967296
     lower p q = omega arith

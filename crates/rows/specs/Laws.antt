@@ -10,7 +10,8 @@ use Rattle.sets.specs.Sets.{SetRules}
 use Rattle.rows.specs.declared.Entry.{Entry}
 use Rattle.rows.specs.declared.Note.{Note}
 use Rattle.rows.specs.declared.Row.{Row}
-use Rattle.rows.specs.Entry.{isNumber, isAddress, isStartOrNull, sizeIn, entryOk, fits, fitsNote, fieldEntry}
+use Rattle.rows.specs.Kind.{Kind, unset, number, address, start, returnAddress, none, kindOf}
+use Rattle.rows.specs.Entry.{sizeIn, entryOk, fits, fitsNote, fieldEntry}
 use Rattle.rows.specs.Row.{entryAt, rowOf, formFault, misfit, places}
 use Rattle.rows.specs.Matches.{Host, Matches, Held, NoteMatches, RowMatches}
 use Rattle.v8.specs.Signed.{bias}
@@ -22,12 +23,19 @@ pub record AddressRules (regions : ℕ) (sizes : List ℕ) (e : Entry) : Type 0 
   pub low : bias ≤ e .set .lo
   pub high : e .set .hi ≤ bias + sizeIn sizes (e .region)
 
+-- what the form of an entry of a kind says
+module _ (regions : ℕ) (sizes : List ℕ) (e : Entry) where
+  abbrev pub RulesAs : Kind → Type 0
+  RulesAs unset = Unit {0}
+  RulesAs number = SetRules (e .set)
+  RulesAs address = AddressRules regions sizes e
+  RulesAs start = e .region < regions
+  RulesAs returnAddress = Unit {0}
+  RulesAs none = ⊥
+
 -- what the form of an entry says
 pub record EntryRules (regions : ℕ) (sizes : List ℕ) (e : Entry) : Type 0 where
-  pub kind : e .kind ≤ 4
-  pub number : isNumber e ≡ true → SetRules (e .set)
-  pub address : isAddress e ≡ true → AddressRules regions sizes e
-  pub start : isStartOrNull e ≡ true → e .region < regions
+  pub by-kind : RulesAs regions sizes e (kindOf (e .kind))
 
 -- what the form of a row says
 pub record RowRules (regions : ℕ) (sizes : List ℕ) (row : Row) : Type 0 where

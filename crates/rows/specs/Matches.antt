@@ -17,7 +17,8 @@ use Rattle.sets.specs.Laws.{Offset}
 use Rattle.rows.specs.declared.Entry.{Entry}
 use Rattle.rows.specs.declared.Note.{Note}
 use Rattle.rows.specs.declared.Row.{Row}
-use Rattle.rows.specs.Entry.{isUnset, isNumber, isAddress, isStartOrNull, isReturn, isComparison}
+use Rattle.rows.specs.Kind.{Kind, unset, number, address, start, returnAddress, none, kindOf}
+use Rattle.rows.specs.Entry.{isUnset, isComparison}
 use Rattle.rows.specs.Row.{entryAt}
 
 -- what the host has chosen: where each region starts, and the return address
@@ -29,16 +30,23 @@ pub record Host : Type 0 where
 abbrev pub baseOf : Host → ℕ → ℕ
 baseOf h r = getD (h .bases) r 0
 
+module _ (h : Host) (e : Entry) (v : ℕ) where
+  -- a word is one of the values of an entry of a kind
+  abbrev pub HoldsAs : Kind → Type 0
+  HoldsAs unset = Unit {0}
+  -- "1 number: one of lo, lo+step, .., hi, read signed"
+  HoldsAs number = Member (e .set) (excess v)
+  -- "2 address: region start plus an offset from the same sort of set"
+  HoldsAs address = Offset (baseOf h (e .region)) (e .set) v
+  -- "3 address of a region's start, or null"
+  HoldsAs start = (v ≡ 0) ⊎ (v ≡ baseOf h (e .region))
+  -- "4 return address"
+  HoldsAs returnAddress = v ≡ h .returns
+  HoldsAs none = Unit {0}
+
 -- a word is one of the entry's values
 pub record Holds (h : Host) (e : Entry) (v : ℕ) : Type 0 where
-  -- "1 number: one of lo, lo+step, .., hi, read signed"
-  pub number : isNumber e ≡ true → Member (e .set) (excess v)
-  -- "2 address: region start plus an offset from the same sort of set"
-  pub address : isAddress e ≡ true → Offset (baseOf h (e .region)) (e .set) v
-  -- "3 address of a region's start, or null"
-  pub start : isStartOrNull e ≡ true → (v ≡ 0) ⊎ (v ≡ baseOf h (e .region))
-  -- "4 return address"
-  pub return : isReturn e ≡ true → v ≡ h .returns
+  pub by-kind : HoldsAs h e v (kindOf (e .kind))
 
 -- a register, marked set or not, matches an entry
 abbrev pub Matches : Host → Entry → Bool → ℕ → Type 0

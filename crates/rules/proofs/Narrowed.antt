@@ -30,7 +30,7 @@ use Rattle.rows.specs.Row.{entryAt}
 use Rattle.rows.specs.Matches.{Host, baseOf, Holds, Matches, Held, RowMatches}
 use Rattle.rows.specs.Laws.{EntryRules, RowRules}
 use Rattle.rows.proofs.Tests.{and-went, false-true, other-kind}
-use Rattle.rows.proofs.ByKind.{holds-number, holds-address, number-rules, address-rules, unset-rules}
+use Rattle.rows.proofs.ByKind.{holds-number, holds-address, held-number, held-start, number-rules, address-rules, unset-rules, ruled-number, ruled-start}
 use Rattle.rules.specs.declared.EntryLeft.{EntryLeft}
 use Rattle.rules.specs.declared.EntryLeft.the-variants.{Left, Nothing}
 use Rattle.rules.specs.Narrow.{narrows, leftOf, narrowStart, narrowEntry, RowLeft, rowLeft, narrowRow}
@@ -48,7 +48,7 @@ module _ (regions : ℕ) (sizes : List ℕ) (h : Host) (row : Row) (g : Held) (s
   row-kept (Left e) k = (
     record {
       entries = λ r. entry-after (λ (_ : ℕ) (x : Entry). EntryRules regions sizes x) row (row .note .register) e (row .note)
-          (λ _. unset-rules regions sizes noEntry refl) r (λ _ _ _. k .0) (λ _. rules .entries r);
+          (λ _. unset-rules refl) r (λ _ _ _. k .0) (λ _. rules .entries r);
       number = rules .number;
     },
     record {
@@ -67,8 +67,8 @@ module _ (regions : ℕ) (sizes : List ℕ) (h : Host) (row : Row) (g : Held) (s
     -- a number
     number-kept : (k : isNumber e ≡ true) (x : SetLeft) → LeftFormed x → Among x (excess (g .value (row .note .register))) → Kept (leftOf x)
     number-kept k (Set·.Left s) f a = (
-      number-rules regions sizes (numberIn s) refl f,
-      λ _. (me (other-kind (e .kind) 1 0 k (λ x. omega arith)) .0, holds-number h (numberIn s) (g .value (row .note .register)) refl a),
+      number-rules refl f,
+      λ _. (me (other-kind (e .kind) 1 0 k (λ x. omega arith)) .0, holds-number refl a),
     )
     number-kept k Set·.Nothing f a = a
 
@@ -76,10 +76,10 @@ module _ (regions : ℕ) (sizes : List ℕ) (h : Host) (row : Row) (g : Held) (s
     start-kept : isStartOrNull e ≡ true → n ≡ bias → (c′ : Narrowing) → c ≡ c′ → Kept (narrowStart c′ e)
     start-kept k z Unrelated q = (w, me)
     start-kept k z EqualTo q = (
-      number-rules regions sizes (constant 0) refl (single-formed bias (omega arith)),
+      number-rules refl (single-formed bias (omega arith)),
       λ _. (
         set .0,
-        holds-number h (constant 0) (g .value (row .note .register)) refl
+        holds-number refl
             (subst (λ (v : ℕ). Member (single bias) v) (sym (same q)) (single-holds bias)),
       ),
     )
@@ -93,9 +93,9 @@ module _ (regions : ℕ) (sizes : List ℕ) (h : Host) (row : Row) (g : Held) (s
             (subst (λ (i : ℕ). eqb (excess (g .value (row .note .register))) i ≡ true) z
             (subst (λ (i : Narrowing). compares i (excess (g .value (row .note .register))) n true ≡ true) q obeys))
     start-kept k z NotEqualTo q = (
-      address-rules regions sizes (regionStart (e .region)) refl
-          (record { region = w .start k; set = single-formed bias (omega arith); low = omega arith; high = omega arith }),
-      λ _. (set .0, holds-address h (regionStart (e .region)) (g .value (row .note .register)) refl (from (set .1 .start k))),
+      address-rules refl
+          (record { region = ruled-start k w; set = single-formed bias (omega arith); low = omega arith; high = omega arith }),
+      λ _. (set .0, holds-address refl (from (held-start k (set .1)))),
     )
       where
         set : (g .mark (row .note .register) ≡ true) × Holds h e (g .value (row .note .register))
@@ -124,8 +124,8 @@ module _ (regions : ℕ) (sizes : List ℕ) (h : Host) (row : Row) (g : Held) (s
     unfolding narrowEntry
     entry-kept =
         cond-both Kept (isNumber e)
-        (λ k. number-kept k (narrowSet c (e .set) n) (narrow-formed c (e .set) n (w .number k))
-        (narrow-keeps c (e .set) n (excess (g .value (row .note .register))) (w .number k) (me (other-kind (e .kind) 1 0 k (λ x. omega arith)) .1 .number k) obeys))
+        (λ k. number-kept k (narrowSet c (e .set) n) (narrow-formed c (e .set) n (ruled-number k w))
+        (narrow-keeps c (e .set) n (excess (g .value (row .note .register))) (ruled-number k w) (held-number k (me (other-kind (e .kind) 1 0 k (λ x. omega arith)) .1)) obeys))
         λ _. cond-both Kept (isStartOrNull e && eqb n bias)
         (λ t. let p = and-went (isStartOrNull e) (eqb n bias) t in start-kept (p .0) (eqb-true n bias (p .1)) c refl)
         λ _. (w, me)

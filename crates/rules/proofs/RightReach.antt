@@ -37,6 +37,7 @@ use Rattle.rows.specs.Entry.{isNumber, isAddress, isStartOrNull, sizeIn}
 use Rattle.rows.specs.Matches.{Host, baseOf, Holds}
 use Rattle.rows.specs.Laws.{EntryRules}
 use Rattle.rows.proofs.Tests.{and-went}
+use Rattle.rows.proofs.ByKind.{held-number, held-address, ruled-number, ruled-address}
 use Rattle.rules.specs.declared.Reach.{Reach}
 use Rattle.rules.specs.declared.Reach.the-variants.{Inside, Outside}
 use Rattle.rules.specs.Reach.{reachEnd, onGrid, inField, inFound, inRegion, reachOf}
@@ -148,7 +149,7 @@ module _ (p : Policy) (h : Host) (wf : WellFormed p) (laid : Laid (p .regions .c
 in-region : (p : Policy) (h : Host) → Laid (p .regions .count) (p .regions .sizes) h → (e : Entry) (v : ℕ) → EntryRules (p .regions .count) (p .regions .sizes) e → isAddress e ≡ true → Holds h e v
     → (baseOf h (e .region) ≤ v) × (v ≤ baseOf h (e .region) + sizeOf p (e .region))
 in-region p h laid e v w k m =
-    let d = w .address k in let o = m .address k in
+    let d = ruled-address k w in let o = held-address k m in
     (o .above, at (baseOf h (e .region)) (e .set .hi) (sizeIn (p .regions .sizes) (e .region)) (sizeOf p (e .region)) (o .above) (o .member .high) (d .high) (size-in (p .regions .sizes) (e .region) (omega (arith, laid .regions-most, d .region))))
   where
     at : (b hi s t : ℕ) → b ≤ v → v - b + bias ≤ hi → hi ≤ bias + s → s ≡ t → v ≤ b + t
@@ -167,22 +168,22 @@ module _ (p : Policy) (h : Host) (wf : WellFormed p) (laid : Laid (p .regions .c
       λ _. cond-both (Good p h wf laid a rs1 x y) (isStartOrNull e) (λ _. tt)
       λ _. cond-both (Good p h wf laid a rs1 x y) (isAddress d && isNumber e)
       (λ t. let k = and-went (isAddress d) (isNumber e) t in
-      let da = wd .address (k .0) in
+      let da = ruled-address (k .0) wd in
       region-good p h wf laid a rs1 x y (d .region) (addSets (d .set) (e .set)) (da .region)
-      (alu-formed Add (d .set) (e .set) (da .set) (we .number (k .1)))
+      (alu-formed Add (d .set) (e .set) (da .set) (ruled-number (k .1) we))
       (inl (in-region p h laid d x wd (k .0) md))
-      (λ low high below. adds-offset (d .set) (e .set) (baseOf h (d .region)) (sizeIn (p .regions .sizes) (d .region)) x y (da .set) (we .number (k .1)) ly below low high
-      (md .address (k .0)) (me .number (k .1))))
+      (λ low high below. adds-offset (d .set) (e .set) (baseOf h (d .region)) (sizeIn (p .regions .sizes) (d .region)) x y (da .set) (ruled-number (k .1) we) ly below low high
+      (held-address (k .0) md) (held-number (k .1) me)))
       λ _. cond-both (Good p h wf laid a rs1 x y) (isNumber d && isAddress e)
       (λ t. let k = and-went (isNumber d) (isAddress e) t in
-      let de = we .address (k .1) in
+      let de = ruled-address (k .1) we in
       subst (λ (s : NumberSet). Good p h wf laid a rs1 x y (inRegion (p .regions .fields) (p .fields) a rs1 (e .region) s)) (adds-turn (e .set) (d .set))
       (region-good p h wf laid a rs1 x y (e .region) (addSets (e .set) (d .set)) (de .region)
-      (alu-formed Add (e .set) (d .set) (de .set) (wd .number (k .0)))
+      (alu-formed Add (e .set) (d .set) (de .set) (ruled-number (k .0) wd))
       (inr (in-region p h laid e y we (k .1) me))
       (λ low high below. subst (Offset (baseOf h (e .region)) (addSets (e .set) (d .set))) (turned y x)
-      (adds-offset (e .set) (d .set) (baseOf h (e .region)) (sizeIn (p .regions .sizes) (e .region)) y x (de .set) (wd .number (k .0)) lx below low high
-      (me .address (k .1)) (md .number (k .0))))))
+      (adds-offset (e .set) (d .set) (baseOf h (e .region)) (sizeIn (p .regions .sizes) (e .region)) y x (de .set) (ruled-number (k .0) wd) lx below low high
+      (held-address (k .1) me) (held-number (k .0) md)))))
       λ _. tt
 
 pub reaches : Reaches

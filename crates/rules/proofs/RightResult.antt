@@ -30,7 +30,7 @@ use Rattle.rows.specs.Entry.{isNumber, isAddress, isStartOrNull, isZero, isCons
 use Rattle.rows.specs.Matches.{Host, baseOf, Holds}
 use Rattle.rows.specs.Laws.{EntryRules}
 use Rattle.rows.proofs.Tests.{and-went, false-true}
-use Rattle.rows.proofs.ByKind.{holds-number, holds-address, number-rules, address-rules}
+use Rattle.rows.proofs.ByKind.{holds-number, holds-address, held-number, held-address, number-rules, address-rules, ruled-number, ruled-address}
 use Rattle.rows.proofs.Fitting.{zero-holds}
 use Rattle.rules.specs.declared.Result.{Result}
 use Rattle.rules.specs.declared.Result.the-variants.{Gives}
@@ -41,7 +41,7 @@ use Rattle.rules.specs.Laws.{Laid, Right, AluRight, ShiftRight}
 pub constant-holds : (h : Host) (e : Entry) (v : ℕ) → v < 4294967296 → isConstant e ≡ true → Holds h e v → wordOf e ≡ v
 constant-holds h e v l c m =
     let p = and-went (isNumber e) (eqb (e .set .lo) (e .set .hi)) c in
-    let n = m .number (p .0) in
+    let n = held-number (p .0) m in
     let q : excess v ≡ e .set .lo = omega (arith, n .low, n .high, eqb-true (e .set .lo) (e .set .hi) (p .1)) in
     ap excess (sym q) ∙ back v l
   where
@@ -84,11 +84,11 @@ module _ (regions : ℕ) (sizes : List ℕ) (h : Host) where
   -- a single number
   constant-right : (v : ℕ) → Right regions sizes h (Gives (constant v)) v
   constant-right v =
-      (number-rules regions sizes (constant v) refl (single-formed (excess v) (omega arith)), holds-number h (constant v) v refl (single-holds (excess v)))
+      (number-rules refl (single-formed (excess v) (omega arith)), holds-number refl (single-holds (excess v)))
 
   -- a number of a set
   number-right : (s : NumberSet) (v : ℕ) → SetRules s → Member s (excess v) → Right regions sizes h (Gives (numberIn s)) v
-  number-right s v w m = (number-rules regions sizes (numberIn s) refl w, holds-number h (numberIn s) v refl m)
+  number-right s v w m = (number-rules refl w, holds-number refl m)
 
   -- both operands are single numbers
   given-constants : (f : ℕ → ℕ → ℕ) (a b : Entry) (x y : ℕ) → x < 4294967296 → y < 4294967296 → Holds h a x → Holds h b y
@@ -108,8 +108,8 @@ module _ (regions : ℕ) (sizes : List ℕ) (h : Host) where
         (λ t. let p = and-went (leb bias (s .lo)) (leb (s .hi) (bias + sizeIn sizes r)) t in
         let low = leb-true bias (s .lo) (p .0) in
         let high = leb-true (s .hi) (bias + sizeIn sizes r) (p .1) in (
-          address-rules regions sizes (addressIn r s) refl (record { region = l; set = w; low = low; high = high }),
-          holds-address h (addressIn r s) v refl (o low high below),
+          address-rules refl (record { region = l; set = w; low = low; high = high }),
+          holds-address refl (o low high below),
         ))
         (λ t. tt)
       where
@@ -126,18 +126,18 @@ module _ (regions : ℕ) (sizes : List ℕ) (h : Host) where
       sum-right =
           cond-both (λ (r : Result). Right regions sizes h r (add32 x y)) (isAddress a && isNumber b)
           (λ t. let p = and-went (isAddress a) (isNumber b) t in
-          let da = wa .address (p .0) in
-          offsets-right (a .region) (addSets (a .set) (b .set)) (add32 x y) (da .region) (alu-formed Add (a .set) (b .set) (da .set) (wb .number (p .1)))
-          (λ low high below. adds-offset (a .set) (b .set) (baseOf h (a .region)) (sizeIn sizes (a .region)) x y (da .set) (wb .number (p .1)) ly below low high
-          (ma .address (p .0)) (mb .number (p .1))))
+          let da = ruled-address (p .0) wa in
+          offsets-right (a .region) (addSets (a .set) (b .set)) (add32 x y) (da .region) (alu-formed Add (a .set) (b .set) (da .set) (ruled-number (p .1) wb))
+          (λ low high below. adds-offset (a .set) (b .set) (baseOf h (a .region)) (sizeIn sizes (a .region)) x y (da .set) (ruled-number (p .1) wb) ly below low high
+          (held-address (p .0) ma) (held-number (p .1) mb)))
           λ _. cond-both (λ (r : Result). Right regions sizes h r (add32 x y)) (isNumber a && isAddress b)
           (λ t. let p = and-went (isNumber a) (isAddress b) t in
-          let db = wb .address (p .1) in
+          let db = ruled-address (p .1) wb in
           subst (λ (s : NumberSet). Right regions sizes h (offsetsGive sizes (b .region) s) (add32 x y)) (adds-turn (b .set) (a .set))
-          (offsets-right (b .region) (addSets (b .set) (a .set)) (add32 x y) (db .region) (alu-formed Add (b .set) (a .set) (db .set) (wa .number (p .0)))
+          (offsets-right (b .region) (addSets (b .set) (a .set)) (add32 x y) (db .region) (alu-formed Add (b .set) (a .set) (db .set) (ruled-number (p .0) wa))
           (λ low high below. subst (Offset (baseOf h (b .region)) (addSets (b .set) (a .set))) (turned y x)
-          (adds-offset (b .set) (a .set) (baseOf h (b .region)) (sizeIn sizes (b .region)) y x (db .set) (wa .number (p .0)) lx below low high
-          (mb .address (p .1)) (ma .number (p .0))))))
+          (adds-offset (b .set) (a .set) (baseOf h (b .region)) (sizeIn sizes (b .region)) y x (db .set) (ruled-number (p .0) wa) lx below low high
+          (held-address (p .1) mb) (held-number (p .0) ma)))))
           λ _. tt
         where
           turned : (x y : ℕ) → add32 x y ≡ add32 y x
@@ -148,10 +148,10 @@ module _ (regions : ℕ) (sizes : List ℕ) (h : Host) where
       difference-right =
           cond-both (λ (r : Result). Right regions sizes h r (sub32 x y)) (isAddress a && isNumber b)
           (λ t. let p = and-went (isAddress a) (isNumber b) t in
-          let da = wa .address (p .0) in
-          offsets-right (a .region) (subSets (a .set) (b .set)) (sub32 x y) (da .region) (alu-formed Sub (a .set) (b .set) (da .set) (wb .number (p .1)))
-          (λ low high below. subs-offset (a .set) (b .set) (baseOf h (a .region)) (sizeIn sizes (a .region)) x y (da .set) (wb .number (p .1)) ly below low high
-          (ma .address (p .0)) (mb .number (p .1))))
+          let da = ruled-address (p .0) wa in
+          offsets-right (a .region) (subSets (a .set) (b .set)) (sub32 x y) (da .region) (alu-formed Sub (a .set) (b .set) (da .set) (ruled-number (p .1) wb))
+          (λ low high below. subs-offset (a .set) (b .set) (baseOf h (a .region)) (sizeIn sizes (a .region)) x y (da .set) (ruled-number (p .1) wb) ly below low high
+          (held-address (p .0) ma) (held-number (p .1) mb)))
           λ _. cond-both (λ (r : Result). Right regions sizes h r (sub32 x y)) (isStartOrNull a && isZero b)
           (λ t. let p = and-went (isStartOrNull a) (isZero b) t in
           (wa, subst (Holds h a) (less x y lx (zero-holds h b y ly (p .1) mb)) ma))
@@ -181,8 +181,8 @@ alu-right regions sizes h laid op a b x y wa wb lx ly ma mb =
     λ _. cond-both R (bothNumbers a b)
     (λ t. let p = and-went (isNumber a) (isNumber b) t in
     number-right regions sizes h (aluSets op (a .set) (b .set)) (aluOf op x y)
-    (alu-formed op (a .set) (b .set) (wa .number (p .0)) (wb .number (p .1)))
-    (alu-holds op (a .set) (b .set) x y (wa .number (p .0)) (wb .number (p .1)) lx ly (ma .number (p .0)) (mb .number (p .1))))
+    (alu-formed op (a .set) (b .set) (ruled-number (p .0) wa) (ruled-number (p .1) wb))
+    (alu-holds op (a .set) (b .set) x y (ruled-number (p .0) wa) (ruled-number (p .1) wb) lx ly (held-number (p .0) ma) (held-number (p .1) mb)))
     λ _. rule-right regions sizes h laid a b x y wa wb lx ly ma mb op
   where
     R : Result → Type 0
@@ -205,9 +205,9 @@ shift-right regions sizes h op a b x y wa wb lx ly ma mb =
     (λ t. let p = and-went (bothNumbers a b) (isConstant b) t in
     let q = and-went (isNumber a) (isNumber b) (p .0) in
     rw (constant-holds h b y ly (p .1) mb)
-    (number-right regions sizes h (shiftSet op (a .set) (y % 32)) (shiftOf op x y) (shift-formed op (a .set) (y % 32) (omega arith) (wa .number (q .0)))
+    (number-right regions sizes h (shiftSet op (a .set) (y % 32)) (shiftOf op x y) (shift-formed op (a .set) (y % 32) (omega arith) (ruled-number (q .0) wa))
     (subst (λ (v : ℕ). Member (shiftSet op (a .set) (y % 32)) (excess v)) (count-mod op x y)
-    (shift-holds op (a .set) x (y % 32) (omega arith) (wa .number (q .0)) lx (ma .number (q .0))))))
+    (shift-holds op (a .set) x (y % 32) (omega arith) (ruled-number (q .0) wa) lx (held-number (q .0) ma)))))
     λ _. cond-both R (bothNumbers a b)
     (λ t. number-right regions sizes h full (shiftOf op x y) full-formed (full-holds (shiftOf op x y)))
     λ _. tt

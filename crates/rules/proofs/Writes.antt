@@ -61,7 +61,7 @@ module _ (P : ℕ → Entry → Type 0) (row : Row) (rd : ℕ) (e : Entry) (n : 
 pub writes-row : WritesRow
 writes-row regions sizes h row g g′ rd v e n w rules m re he top note = (
   record {
-    entries = λ r. entry-after (λ (_ : ℕ) (x : Entry). EntryRules regions sizes x) row rd e n (λ _. unset-rules regions sizes noEntry refl) r
+    entries = λ r. entry-after (λ (_ : ℕ) (x : Entry). EntryRules regions sizes x) row rd e n (λ _. unset-rules refl) r
         (λ _ _ _. re) (λ _. rules .entries r);
     number = top;
   },
