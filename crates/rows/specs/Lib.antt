@@ -1,4 +1,6 @@
 pub mod Entry
+pub mod Geometry
+pub mod Flaw
 pub mod Row
 pub mod Matches
 pub mod Laws
