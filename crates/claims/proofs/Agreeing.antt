@@ -8,7 +8,7 @@ use native.Mathlib.Omega.{arith}
 use lib.Dec.{ltb}
 use borrow.Author.Tests.{ltb-true}
 use Rattle.memory.specs.Memory.{byteAt, wordAt}
-use Rattle.rows.specs.Row.{entryOf, noteOf, entriesFrom, rowOf, entryFormed, noteFormed, entryPlace, notePlace, r0Ok, formedAt}
+use Rattle.rows.specs.Row.{entryOf, noteOf, entriesFrom, rowOf, entryFormed, noteFormed, entryStart, noteStart, r0Ok, formedAt}
 
 module _ (xs ys : List ℕ) where
   -- n bytes of the one list from x on are those of the other from y on
@@ -77,11 +77,11 @@ module _ (xs ys : List ℕ) where
       where
         at : (t : Bool) → ltb r 32 ≡ t
             → cond (ltb r 32)
-            (entryFormed regions sizes xs (entryPlace x r) && r0Ok r (entryOf xs (entryPlace x r)))
-            (noteFormed xs (notePlace x))
+            (entryFormed regions sizes xs (entryStart x r) && r0Ok r (entryOf xs (entryStart x r)))
+            (noteFormed xs (noteStart x))
             ≡ cond (ltb r 32)
-            (entryFormed regions sizes ys (entryPlace y r) && r0Ok r (entryOf ys (entryPlace y r)))
-            (noteFormed ys (notePlace y))
+            (entryFormed regions sizes ys (entryStart y r) && r0Ok r (entryOf ys (entryStart y r)))
+            (noteFormed ys (noteStart y))
         at true t =
             let k = part x y 392 (12 * r) 12 (omega (arith, ltb-true r 32 t)) h in
             rw (t, k 3 (omega arith), same-entry (x + 12 * r) (y + 12 * r) k)

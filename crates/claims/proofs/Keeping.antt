@@ -13,7 +13,7 @@ use Rattle.rows.specs.declared.Entry.{Entry}
 use Rattle.rows.specs.declared.Note.{Note}
 use Rattle.rows.specs.declared.Row.{Row}
 use Rattle.rows.specs.Entry.{isComparison, noteOk, fitsNote}
-use Rattle.rows.specs.Row.{entryAt, entriesWith, rowWith, noteOf, rowOf, notePlace, formedAt, formFault, fitsAt, misfitsAt, misfit, places}
+use Rattle.rows.specs.Row.{entryAt, entriesWith, rowWith, noteOf, rowOf, noteStart, formedAt, formFault, fitsAt, misfitsAt, misfit, places}
 use Rattle.rows.proofs.Tests.{or-true, and-went}
 use Rattle.rows.proofs.Order.{fits-self}
 use Rattle.rows.proofs.Obeying.{formed-each, row-obeys}
@@ -50,7 +50,7 @@ module _ (regions : ℕ) (sizes bytes : List ℕ) (at : ℕ) (h : places ≤ for
 
   note-formed : noteOk (row .note) ≡ true
   unfolding formedAt rowOf
-  note-formed = needed (formedAt regions sizes bytes at 32) (noteOk (noteOf bytes (notePlace at))) (formed 32 (omega arith)) (λ f. rw (f, and-false))
+  note-formed = needed (formedAt regions sizes bytes at 32) (noteOk (noteOf bytes (noteStart at))) (formed 32 (omega arith)) (λ f. rw (f, and-false))
 
   -- a well formed row fits itself
   pub row-self : places ≤ misfit (rowOf bytes at) (rowOf bytes at)

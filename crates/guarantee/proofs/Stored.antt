@@ -17,7 +17,7 @@ use Rattle.v8.specs.declared.Access.the-variants.{Loads, Stores}
 use Rattle.policy.specs.declared.Policy.{Policy}
 use Rattle.policy.specs.declared.Field.{Field}
 use Rattle.policy.specs.Element.{widthOf}
-use Rattle.policy.specs.Policy.{sizeOf, countOf, fieldEnd}
+use Rattle.policy.specs.Policy.{readable, sizeOf, countOf, fieldEnd}
 use Rattle.policy.specs.Laws.{WellFormed, FieldRules}
 use Rattle.memory.specs.Memory.{loadWidth, loadOf, storeWidth, storeOf}
 use Rattle.memory.specs.Place.{partStart, lengthOf}
@@ -31,7 +31,7 @@ use Rattle.rows.specs.declared.Entry.{Entry}
 use Rattle.rows.specs.Entry.{numberIn, fieldEntry}
 use Rattle.rows.specs.Matches.{Host, Holds}
 use Rattle.rows.proofs.ByKind.{held-number}
-use Rattle.guarantee.specs.Fields.{loadFor, isReadable, fieldOf, byteOf, elementAt, Declared}
+use Rattle.guarantee.specs.Fields.{loadFor, fieldOf, byteOf, elementAt, Declared}
 use Rattle.guarantee.specs.Laws.{InElement, LoadDeclared, StoreDeclared, StoreFramed}
 use Rattle.guarantee.proofs.Elements.{element-step, load-wide, serves-load, store-wide, Indexed, indexed, one-element, number-whole, word-whole}
 
@@ -114,7 +114,7 @@ module _ (p : Policy) (h : Host) (wf : WellFormed p) (memory : List ℕ) (long :
       room start whole n size w end a b c d = omega arith
 
   -- every other element is as it was
-  other-now : (r′ k′ i′ : ℕ) → r′ < p .regions .count → k′ < countOf p r′ → isReadable (fieldOf p r′ k′) ≡ true → i′ < fieldOf p r′ k′ .count
+  other-now : (r′ k′ i′ : ℕ) → r′ < p .regions .count → k′ < countOf p r′ → readable (fieldOf p r′ k′ .permission) ≡ true → i′ < fieldOf p r′ k′ .count
       → (r ≡ r′ → k ≡ k′ → stored .index ≡ i′ → ⊥) → Now r′ k′ i′
   other-now r′ k′ i′ l m readable n other =
       let f′ = fieldOf p r′ k′ in

@@ -2,7 +2,7 @@
 -- bytes that a run may change.
 use Prim.Native.Nat.{ℕ, _+_, _*_, _<_}
 use mathlib.Core.Path.{_≡_}
-use mathlib.Core.Bool.{Bool, true, cond, _||_}
+use mathlib.Core.Bool.{true, cond}
 use mathlib.Core.List.{List}
 use lib.Dec.{eqb}
 use lib.ListN.{length}
@@ -11,7 +11,7 @@ use Rattle.v8.specs.declared.LoadOp.the-variants.{Ld, Ldub, Lduh, Ldsb, Ldsh}
 use Rattle.policy.specs.declared.Policy.{Policy}
 use Rattle.policy.specs.declared.Field.{Field}
 use Rattle.policy.specs.Element.{widthOf}
-use Rattle.policy.specs.Policy.{countOf, placeOf, fieldAt}
+use Rattle.policy.specs.Policy.{readable, writable, countOf, placeOf, fieldAt}
 use Rattle.policy.specs.Laws.{InField}
 use Rattle.memory.specs.Memory.{byteAt, loadOf}
 use Rattle.memory.specs.Place.{partStart}
@@ -22,14 +22,6 @@ use Rattle.rows.specs.Matches.{Host, Holds}
 -- address or null"
 abbrev pub loadFor : ℕ → LoadOp
 loadFor e = cond (eqb e 1) Ldub (cond (eqb e 2) Ldsb (cond (eqb e 3) Lduh (cond (eqb e 4) Ldsh Ld)))
-
--- "readable fields (permission 1 or 3)"
-abbrev pub isReadable : Field → Bool
-isReadable f = eqb (f .permission) 1 || eqb (f .permission) 3
-
--- writable fields: permission 2 or 3
-abbrev pub isWritable : Field → Bool
-isWritable f = eqb (f .permission) 2 || eqb (f .permission) 3
 
 -- field k of region r
 abbrev pub fieldOf : Policy → ℕ → ℕ → Field
@@ -43,7 +35,7 @@ byteOf p r b = partStart (p .regions .sizes) r + b
 abbrev pub elementAt : Policy → ℕ → Field → ℕ → ℕ
 elementAt p r f i = byteOf p r (f .offset .0 + widthOf (f .element) * i)
 
--- every readable field holds declared values
+-- every readable field, "(permission 1 or 3)", holds declared values
 abbrev pub Declared : Policy → Host → List ℕ → Type 0
 Declared p h memory =
     (r k i : ℕ) → r < p .regions .count → k < countOf p r → readable (fieldOf p r k .permission) ≡ true → i < fieldOf p r k .count

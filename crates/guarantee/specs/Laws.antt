@@ -10,14 +10,14 @@ use Rattle.v8.specs.declared.StoreOp.{StoreOp}
 use Rattle.v8.specs.declared.Access.{Access}
 use Rattle.v8.specs.declared.Access.the-variants.{Loads, Stores}
 use Rattle.policy.specs.declared.Policy.{Policy}
-use Rattle.policy.specs.Policy.{countOf, fieldEnd}
+use Rattle.policy.specs.Policy.{readable, writable, countOf, fieldEnd}
 use Rattle.policy.specs.Laws.{WellFormed}
 use Rattle.memory.specs.Memory.{loadOf, storeOf}
 use Rattle.memory.specs.Place.{lengthOf}
 use Rattle.access.specs.Serve.{accessWidth, serves}
 use Rattle.rows.specs.Entry.{fieldEntry}
 use Rattle.rows.specs.Matches.{Host, Holds}
-use Rattle.guarantee.specs.Fields.{isReadable, isWritable, fieldOf, byteOf, Declared, Framed}
+use Rattle.guarantee.specs.Fields.{fieldOf, byteOf, Declared, Framed}
 
 -- an access at an offset of region r, inside its field k
 pub record InElement (p : Policy) (a : Access) (r k offset : ℕ) : Type 0 where

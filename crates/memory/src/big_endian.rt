@@ -1,27 +1,14 @@
 // Loads and stores in a slice of bytes, big-endian as V8 has them (specs/Memory.antt).
 ghost use mathlib.Core.Path.{_≡_};
-ghost use Prim.Native.Nat.{_+_, _≤_, _<_};
+ghost use Prim.Native.Nat.{_+_, _≤_};
 ghost use lib.ListN.{length};
-ghost use Rattle.memory.specs.Memory.{byteAt, halfAt, loadWidth, loadOf, storeWidth, storeOf};
+ghost use Rattle.memory.specs.Memory.{loadWidth, loadOf, storeWidth, storeOf};
+use crate::reading::byte_within;
+use crate::reading::half_within;
+use crate::reading::word_within;
 use v8::LoadOp;
 use v8::StoreOp;
 use v8::signed::sign_extend;
-
-// The byte at a place.
-fn byte_at(memory: &[u8], at: usize) -> u32
-    requires { ⌜ at < length (now memory) ⌝ }
-    ensures { λ r. ⌜ (r ≡ byteAt (now (memory .entry)) at) × (r < 256) ⌝ }
-{
-    memory[at] as u32
-}
-
-// The halfword at a place.
-fn half_at(memory: &[u8], at: usize) -> u32
-    requires { ⌜ at + 2 ≤ length (now memory) ⌝ }
-    ensures { λ r. ⌜ (r ≡ halfAt (now (memory .entry)) at) × (r < 65536) ⌝ }
-{
-    byte_at(memory, at) * 256 + byte_at(memory, at + 1)
-}
 
 // What a load at a place puts into the register.
 pub fn load(op: LoadOp, memory: &[u8], at: usize) -> u32
@@ -29,11 +16,11 @@ pub fn load(op: LoadOp, memory: &[u8], at: usize) -> u32
     ensures { λ r. ⌜ r ≡ loadOf op (now (memory .entry)) at ⌝ }
 {
     match op {
-        LoadOp::Ld => half_at(memory, at) * 65536 + half_at(memory, at + 2),
-        LoadOp::Ldub => byte_at(memory, at),
-        LoadOp::Lduh => half_at(memory, at),
-        LoadOp::Ldsb => sign_extend(8, byte_at(memory, at)),
-        LoadOp::Ldsh => sign_extend(16, half_at(memory, at)),
+        LoadOp::Ld => word_within(memory, at),
+        LoadOp::Ldub => byte_within(memory, at),
+        LoadOp::Lduh => half_within(memory, at),
+        LoadOp::Ldsb => sign_extend(8, byte_within(memory, at)),
+        LoadOp::Ldsh => sign_extend(16, half_within(memory, at)),
     }
 }
 

@@ -1,4 +1,6 @@
 pub mod Tests
+pub mod LowestFlaw
+pub mod Named
 pub mod FormKinds
 pub mod FitKinds
 pub mod ReadRows

@@ -8,9 +8,9 @@ use native.Mathlib.Omega.{arith}
 use lib.Dec.{T, leb, ltb, eqb}
 use lib.ListN.{getD}
 use native.Mathlib.Nat.{mod-one}
-use borrow.Author.Tests.{ltb-true, ltb-false, leb-true, lt-ltb, not-false}
+use borrow.Author.Tests.{ltb-true, ltb-false, leb-true, not-false}
 use Rattle.v8.specs.Signed.{bias}
-use Rattle.v8.specs.Search.{first-least, needed}
+use Rattle.v8.specs.Search.{needed}
 use Rattle.v8.specs.Table.{at}
 use Rattle.v8.specs.Choice.{cond-went, cond-both}
 use Rattle.policy.specs.Element.{mosts, mostOf}
@@ -18,10 +18,14 @@ use Rattle.sets.specs.Sets.{setOk, s1, numbers, ended}
 use Rattle.sets.proofs.Formed.{obeys}
 use Rattle.sets.proofs.Ends.{ended-formed, single-formed}
 use Rattle.rows.specs.declared.Entry.{Entry}
+use Rattle.rows.specs.declared.Flaw.the-variants.{None}
 use Rattle.rows.specs.Entry.{noEntry, isUnset, isNumber, isAddress, isStartOrNull, isReturn, isBlank, numberIn, regionStart, startOrNull, sizeIn, entryOk, fieldEntry}
-use Rattle.rows.specs.Row.{entryAt, entryOf, entryPlace, noteOf, rowOf, formedAt, brokenAt, formFault, places}
+use Rattle.rows.specs.Geometry.{entryCount, entryStart, noteName, places}
+use Rattle.rows.specs.Row.{entryAt, entryOf, noteOf, rowOf, formedAt, brokenAt, formFault}
 use Rattle.rows.specs.Laws.{EntryRules, EntryObeys, RowObeys, FieldEntryObeys}
 use Rattle.rows.proofs.Tests.{or-went, and-went}
+use Rattle.rows.proofs.LowestFlaw.{none-broken}
+use Rattle.rows.proofs.Named.{not-note, named-below}
 use Rattle.rows.proofs.ByKind.{number-rules, address-rules, start-rules, unset-rules, return-rules}
 use Rattle.rows.proofs.ReadRows.{entry-read}
 use Rattle.rows.proofs.RowFitting.{beyond}
@@ -76,20 +80,20 @@ entry-obeys regions sizes e top f =
     (as-start regions sizes e)
     λ _ f₃. as-other regions sizes e f₃
 
--- no fault found is none
-pub formed-each : (regions : ℕ) (sizes bytes : List ℕ) (at : ℕ) → places ≤ formFault regions sizes bytes at
+-- where no flaw is found, each place is well formed
+pub formed-each : (regions : ℕ) (sizes bytes : List ℕ) (at : ℕ) → formFault regions sizes bytes at ≡ None
     → (r : ℕ) → r < places → formedAt regions sizes bytes at r ≡ true
 unfolding formFault
 formed-each regions sizes bytes at e r l =
     not-false (formedAt regions sizes bytes at r)
-    (first-least (brokenAt regions sizes bytes at) 0 places r (omega arith) (omega arith))
+    (none-broken (brokenAt regions sizes bytes at) e r l)
 
-pub formed-entry : (regions : ℕ) (sizes bytes : List ℕ) (at r : ℕ) → r < 32 → formedAt regions sizes bytes at r ≡ true
-    → entryOk regions sizes (entryOf bytes (entryPlace at r)) ≡ true
+pub formed-entry : (regions : ℕ) (sizes bytes : List ℕ) (at r : ℕ) → r < noteName → formedAt regions sizes bytes at r ≡ true
+    → entryOk regions sizes (entryOf bytes (entryStart at r)) ≡ true
 unfolding formedAt
 formed-entry regions sizes bytes at r l e =
-    needed (formedAt regions sizes bytes at r) (entryOk regions sizes (entryOf bytes (entryPlace at r))) e
-    (λ f. rw (lt-ltb r 32 l, f, and-false))
+    needed (formedAt regions sizes bytes at r) (entryOk regions sizes (entryOf bytes (entryStart at r))) e
+    (λ f. rw (not-note r l, named-below r l, f, and-false))
 
 -- a number read from bytes is one of 32 bits
 read-top : (bytes : List ℕ) (at : ℕ) → entryOf bytes at .set .hi < 4294967296
@@ -101,15 +105,15 @@ unfolding rowOf noteOf
 read-number bytes at = omega arith
 
 pub row-obeys : RowObeys
-row-obeys regions sizes bytes at e = record { entries = λ r. by r (ltb r 32) refl; number = read-number bytes at }
+row-obeys regions sizes bytes at e = record { entries = λ r. by r (ltb r entryCount) refl; number = read-number bytes at }
   where
-    by : (r : ℕ) (t : Bool) → ltb r 32 ≡ t → EntryRules regions sizes (entryAt (rowOf bytes at) r)
+    by : (r : ℕ) (t : Bool) → ltb r entryCount ≡ t → EntryRules regions sizes (entryAt (rowOf bytes at) r)
     by r true t =
-        subst (EntryRules regions sizes) (sym (entry-read bytes at r (ltb-true r 32 t)))
-        (entry-obeys regions sizes (entryOf bytes (entryPlace at r)) (read-top bytes (entryPlace at r))
-        (formed-entry regions sizes bytes at r (ltb-true r 32 t) (formed-each regions sizes bytes at e r (omega (arith, ltb-true r 32 t)))))
+        subst (EntryRules regions sizes) (sym (entry-read bytes at r (ltb-true r entryCount t)))
+        (entry-obeys regions sizes (entryOf bytes (entryStart at r)) (read-top bytes (entryStart at r))
+        (formed-entry regions sizes bytes at r (ltb-true r entryCount t) (formed-each regions sizes bytes at e r (omega (arith, ltb-true r entryCount t)))))
     by r false t =
-        subst (EntryRules regions sizes) (sym (beyond (rowOf bytes at) r (ltb-false r 32 t))) (unset-rules refl)
+        subst (EntryRules regions sizes) (sym (beyond (rowOf bytes at) r (ltb-false r entryCount t))) (unset-rules refl)
 
 from-T : (t : Bool) → T t → t ≡ true
 from-T true h = refl

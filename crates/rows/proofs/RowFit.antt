@@ -1,5 +1,5 @@
 -- What is fitted at each place of a row against the row in the bytes.
-use Prim.Native.Nat.{ℕ, _≤_, _<_}
+use Prim.Native.Nat.{ℕ, _+_, _≤_, _<_}
 use mathlib.Core.Bool.{true, false, not}
 use mathlib.Core.List.{List}
 use mathlib.Core.Path.{_≡_, refl, ap, _∙_}
@@ -7,36 +7,41 @@ use native.Mathlib.Nat.{le-antisymm}
 use native.Mathlib.Omega.{arith}
 use borrow.Author.Tests.{lt-ltb}
 use lib.ListN.{getD}
-use Rattle.v8.specs.Search.{first, first-here, first-next, first-end}
-use Rattle.rows.specs.Entry.{noEntry, fits, fitsNote}
-use Rattle.rows.specs.Row.{entryAt, entryOf, entryPlace, notePlace, noteOf, rowOf, fitsAt, misfitsAt, places}
+use Rattle.rows.specs.declared.Flaw.the-variants.{None, At}
 use Rattle.rows.specs.declared.Row.{Row}
+use Rattle.rows.specs.Entry.{noEntry, fits, fitsNote}
+use Rattle.rows.specs.Geometry.{entryCount, noteName, entryStart, noteStart}
+use Rattle.rows.specs.Flaw.{flawFrom}
+use Rattle.rows.specs.Row.{entryAt, entryOf, noteOf, rowOf, fitsAt, misfitsAt}
+use Rattle.rows.proofs.Named.{not-note, named-below}
+use Rattle.rows.proofs.LowestFlaw.{flaw-here, flaw-next, flaw-end}
 use Rattle.rows.proofs.ReadRows.{entry-read}
 
--- the entry of a register that there is
-pub entry-held : (row : Row) (r : ℕ) → r < 32 → entryAt row r ≡ getD (row .entries) r noEntry
+-- an entry that there is
+pub entry-held : (row : Row) (i : ℕ) → i < entryCount → entryAt row i ≡ getD (row .entries) i noEntry
 unfolding entryAt
-entry-held row r l = rw (lt-ltb _ _ l)
+entry-held row i l = rw (lt-ltb _ _ l)
 
 module _ (row : Row) (bytes : List ℕ) (at : ℕ) where
   -- a register's entry against the one at its place
   pub misfits-register :
-      (r : ℕ) → r < 32 → misfitsAt row (rowOf bytes at) r ≡ not (fits (getD (row .entries) r noEntry) (entryOf bytes (entryPlace at r)))
+      (r : ℕ) → r < noteName → misfitsAt row (rowOf bytes at) r ≡ not (fits (getD (row .entries) r noEntry) (entryOf bytes (entryStart at r)))
   unfolding fitsAt
-  misfits-register r l = rw (lt-ltb _ _ l, entry-held row r l, entry-read bytes at r l)
+  misfits-register r l =
+      rw (not-note r l, named-below r l, entry-held row r (omega arith), entry-read bytes at r (omega arith))
 
   -- the note against the one in the bytes
-  pub misfits-note : misfitsAt row (rowOf bytes at) 32 ≡ not (fitsNote (row .note) (noteOf bytes (notePlace at)))
+  pub misfits-note : misfitsAt row (rowOf bytes at) noteName ≡ not (fitsNote (row .note) (noteOf bytes (noteStart at)))
   unfolding fitsAt rowOf
   misfits-note = refl
 
   -- the search past the registers: the note decides
   pub note-fits :
-      (r : ℕ) → r ≤ 32 → 32 ≤ r → fitsNote (row .note) (noteOf bytes (notePlace at)) ≡ true → first (misfitsAt row (rowOf bytes at)) r places ≡ places
+      (r : ℕ) → r ≤ noteName → noteName ≤ r → fitsNote (row .note) (noteOf bytes (noteStart at)) ≡ true → flawFrom (misfitsAt row (rowOf bytes at)) r ≡ None
   note-fits r h l e = let f = misfitsAt row (rowOf bytes at) in
-      ap (λ (i : ℕ). first f i places) (le-antisymm h l) ∙ first-next f 32 places (omega arith) (misfits-note ∙ ap not e) ∙ first-end f 33 places (omega arith)
+      ap (flawFrom f) (le-antisymm h l) ∙ flaw-next f noteName (omega arith) (misfits-note ∙ ap not e) ∙ flaw-end f (noteName + 1) (omega arith)
 
   pub note-misfits :
-      (r : ℕ) → r ≤ 32 → 32 ≤ r → fitsNote (row .note) (noteOf bytes (notePlace at)) ≡ false → first (misfitsAt row (rowOf bytes at)) r places ≡ 32
+      (r : ℕ) → r ≤ noteName → noteName ≤ r → fitsNote (row .note) (noteOf bytes (noteStart at)) ≡ false → flawFrom (misfitsAt row (rowOf bytes at)) r ≡ At noteName
   note-misfits r h l e = let f = misfitsAt row (rowOf bytes at) in
-      ap (λ (i : ℕ). first f i places) (le-antisymm h l) ∙ first-here f 32 places (omega arith) (misfits-note ∙ ap not e)
+      ap (flawFrom f) (le-antisymm h l) ∙ flaw-here f noteName (omega arith) (misfits-note ∙ ap not e)

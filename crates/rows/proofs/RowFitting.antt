@@ -5,15 +5,18 @@ use mathlib.Core.Path.{_≡_, refl, sym, ap, _∙_, subst}
 use mathlib.Core.Bool.{Bool, true, false, not, _&&_, _||_}
 use native.Mathlib.Omega.{arith}
 use lib.Dec.{eqb, ltb}
-use borrow.Author.Tests.{eqb-true, ltb-true, ltb-false, lt-ltb, le-ltb, not-true, not-false}
-use Rattle.v8.specs.Search.{first-least}
+use borrow.Author.Tests.{eqb-true, ltb-true, ltb-false, le-ltb, not-true, not-false}
 use Rattle.rows.specs.declared.Entry.{Entry}
+use Rattle.rows.specs.declared.Flaw.the-variants.{None}
 use Rattle.rows.specs.declared.Row.{Row}
 use Rattle.rows.specs.Entry.{noEntry, fits, fitsNote}
-use Rattle.rows.specs.Row.{entryAt, fitsAt, misfitsAt, misfit, places}
+use Rattle.rows.specs.Geometry.{entryCount, noteName, places}
+use Rattle.rows.specs.Row.{entryAt, fitsAt, misfitsAt, misfit}
 use Rattle.rows.specs.Matches.{Matches, NoteMatches}
 use Rattle.rows.specs.Laws.{NoteFits, RowFits}
 use Rattle.rows.proofs.Tests.{or-went, and-went, false-true, one-kind}
+use Rattle.rows.proofs.LowestFlaw.{none-broken}
+use Rattle.rows.proofs.Named.{not-note, named-below}
 use Rattle.rows.proofs.Fitting.{fits-matches}
 
 pub note-fits : NoteFits
@@ -43,31 +46,31 @@ note-fits g a b e m =
           compared = λ c. m .compared (ap (λ (k : ℕ). eqb k 2) p ∙ c) ∙ rw (q, r);
         }
 
-pub fits-each : (a b : Row) → places ≤ misfit a b → (r : ℕ) → r < places → fitsAt a b r ≡ true
+pub fits-each : (a b : Row) → misfit a b ≡ None → (r : ℕ) → r < places → fitsAt a b r ≡ true
 unfolding misfit
-fits-each a b e r l = not-false (fitsAt a b r) (first-least (misfitsAt a b) 0 places r (omega arith) (omega arith))
+fits-each a b e r l = not-false (fitsAt a b r) (none-broken (misfitsAt a b) e r l)
 
-fits-here : (a b : Row) → places ≤ misfit a b → (r : ℕ) → r < 32 → fits (entryAt a r) (entryAt b r) ≡ true
+fits-here : (a b : Row) → misfit a b ≡ None → (r : ℕ) → r < entryCount → fits (entryAt a r) (entryAt b r) ≡ true
 unfolding fitsAt
 fits-here a b e r l =
-    let q : fitsAt a b r ≡ fits (entryAt a r) (entryAt b r) = rw (lt-ltb r 32 l) in
+    let q : fitsAt a b r ≡ fits (entryAt a r) (entryAt b r) = rw (not-note r l, named-below r l) in
     sym q ∙ fits-each a b e r (omega arith)
 
-fits-last : (a b : Row) → places ≤ misfit a b → fitsNote (a .note) (b .note) ≡ true
+fits-last : (a b : Row) → misfit a b ≡ None → fitsNote (a .note) (b .note) ≡ true
 unfolding fitsAt
-fits-last a b e = fits-each a b e 32 (omega arith)
+fits-last a b e = fits-each a b e noteName (omega arith)
 
--- a number above 31 names no register
-pub beyond : (row : Row) (r : ℕ) → 32 ≤ r → entryAt row r ≡ noEntry
+-- there is no entry after the last
+pub beyond : (row : Row) (r : ℕ) → entryCount ≤ r → entryAt row r ≡ noEntry
 unfolding entryAt
-beyond row r l = rw (le-ltb r 32 l)
+beyond row r l = rw (le-ltb r entryCount l)
 
 pub row-fits : RowFits
 row-fits h regions sizes a b g small wa wb e m =
-    record { entries = λ r. at r (ltb r 32) refl; note = note-fits g (a .note) (b .note) (fits-last a b e) (m .note) }
+    record { entries = λ r. at r (ltb r entryCount) refl; note = note-fits g (a .note) (b .note) (fits-last a b e) (m .note) }
   where
-    at : (r : ℕ) (t : Bool) → ltb r 32 ≡ t → Matches h (entryAt b r) (g .mark r) (g .value r)
+    at : (r : ℕ) (t : Bool) → ltb r entryCount ≡ t → Matches h (entryAt b r) (g .mark r) (g .value r)
     at r true t =
         fits-matches h regions sizes (entryAt a r) (entryAt b r) (g .mark r) (g .value r) (small r) (wa .entries r) (wb .entries r)
-        (fits-here a b e r (ltb-true r 32 t)) (m .entries r)
-    at r false t = subst (λ (x : Entry). Matches h x (g .mark r) (g .value r)) (sym (beyond b r (ltb-false r 32 t))) (λ u. false-true (sym u))
+        (fits-here a b e r (ltb-true r entryCount t)) (m .entries r)
+    at r false t = subst (λ (x : Entry). Matches h x (g .mark r) (g .value r)) (sym (beyond b r (ltb-false r entryCount t))) (λ u. false-true (sym u))

@@ -8,11 +8,12 @@ use Rattle.policy.specs.declared.Field.{Field}
 use Rattle.policy.specs.Laws.{FieldRules}
 use Rattle.sets.specs.Sets.{SetRules}
 use Rattle.rows.specs.declared.Entry.{Entry}
+use Rattle.rows.specs.declared.Flaw.the-variants.{None}
 use Rattle.rows.specs.declared.Note.{Note}
 use Rattle.rows.specs.declared.Row.{Row}
 use Rattle.rows.specs.Kind.{Kind, unset, number, address, start, returnAddress, none, kindOf}
 use Rattle.rows.specs.Entry.{sizeIn, entryOk, fits, fitsNote, fieldEntry}
-use Rattle.rows.specs.Row.{entryAt, rowOf, formFault, misfit, places}
+use Rattle.rows.specs.Row.{entryAt, rowOf, formFault, misfit}
 use Rattle.rows.specs.Matches.{Host, Matches, Held, NoteMatches, RowMatches}
 use Rattle.v8.specs.Signed.{bias}
 
@@ -47,10 +48,10 @@ abbrev pub EntryObeys : Type 0
 EntryObeys =
     (regions : ℕ) (sizes : List ℕ) (e : Entry) → e .set .hi < 4294967296 → entryOk regions sizes e ≡ true → EntryRules regions sizes e
 
--- A row read from bytes in which no fault of form is found obeys the rules.
+-- A row read from bytes that has no flaw of form obeys the rules.
 abbrev pub RowObeys : Type 0
 RowObeys =
-    (regions : ℕ) (sizes bytes : List ℕ) (at : ℕ) → places ≤ formFault regions sizes bytes at → RowRules regions sizes (rowOf bytes at)
+    (regions : ℕ) (sizes bytes : List ℕ) (at : ℕ) → formFault regions sizes bytes at ≡ None → RowRules regions sizes (rowOf bytes at)
 
 -- What a load of a field gives is well formed.
 abbrev pub FieldEntryObeys : Type 0
@@ -80,4 +81,4 @@ NoteFits = (g : Held) (a b : Note) → fitsNote a b ≡ true → NoteMatches a g
 abbrev pub RowFits : Type 0
 RowFits =
     (h : Host) (regions : ℕ) (sizes : List ℕ) (a b : Row) (g : Held) → ((r : ℕ) → g .value r < 4294967296)
-    → RowRules regions sizes a → RowRules regions sizes b → places ≤ misfit a b → RowMatches h a g → RowMatches h b g
+    → RowRules regions sizes a → RowRules regions sizes b → misfit a b ≡ None → RowMatches h a g → RowMatches h b g

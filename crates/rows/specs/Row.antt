@@ -1,31 +1,33 @@
--- Rows, read from bytes (document 01, "Rows"): "A row is 32 entries of 12 bytes and a note of 8: 392 bytes. An entry: kind, region, step,
--- zero (a byte each), lo, hi (signed 32-bit)." "Note: kind, register, two zero bytes, a signed number." Numbers are big-endian.
-use Prim.Native.Nat.{ℕ, zero, suc, _+_, _*_}
+-- Rows, read from bytes (document 01, "Rows"): "An entry: kind, region, step, zero (a byte each), lo, hi (signed 32-bit)." "Note: kind,
+-- register, two zero bytes, a signed number." Numbers are big-endian. How many bytes each takes, and where it stands, is in Geometry.
+use Prim.Native.Nat.{ℕ, zero, suc, _+_}
 use mathlib.Core.Bool.{Bool, cond, not, _&&_, _||_}
 use mathlib.Core.List.{List, [], _∷_}
 use lib.Dec.{ltb, eqb}
 use lib.ListN.{getD, set}
 use Rattle.v8.specs.Signed.{excess}
-use Rattle.v8.specs.Search.{first}
 use Rattle.memory.specs.Memory.{byteAt, wordAt}
 use Rattle.sets.specs.Sets.{numbers}
 use Rattle.rows.specs.declared.Entry.{Entry}
+use Rattle.rows.specs.declared.Flaw.{Flaw}
 use Rattle.rows.specs.declared.Note.{Note}
 use Rattle.rows.specs.declared.Row.{Row}
 use Rattle.rows.specs.Entry.{noEntry, isZero, entryOk, fits, noteOk, fitsNote}
+use Rattle.rows.specs.Geometry.{entryCount, entryBytes, entryStart, noteStart, noteName, entryNamed}
+use Rattle.rows.specs.Flaw.{flawFrom}
 
--- the entry of register r
+-- entry i of a row, which is register i's; there is none after the last
 unfoldable pub entryAt : Row → ℕ → Entry
-entryAt row r = cond (ltb r 32) (getD (row .entries) r noEntry) noEntry
+entryAt row i = cond (ltb i entryCount) (getD (row .entries) i noEntry) noEntry
 
 -- a row after register r is given an entry: "writes to it vanish" for r0
 unfoldable pub entriesWith : List Entry → ℕ → Entry → List Entry
-entriesWith entries r e = cond (eqb r 0) entries (cond (ltb r 32) (set entries r e) entries)
+entriesWith entries r e = cond (eqb r 0) entries (cond (ltb r entryCount) (set entries r e) entries)
 
 abbrev pub rowWith : Row → ℕ → Entry → Note → Row
 rowWith row r e n = record { entries = entriesWith (row .entries) r e; note = n }
 
--- the entry at a place of the bytes
+-- the entry that begins at a byte
 unfoldable pub entryOf : List ℕ → ℕ → Entry
 entryOf bytes at =
     record {
@@ -34,62 +36,55 @@ entryOf bytes at =
       set = numbers (byteAt bytes (at + 2)) (excess (wordAt bytes (at + 4))) (excess (wordAt bytes (at + 8)));
     }
 
--- the entry at a place is well formed, its zero byte too
+-- it is well formed, its zero byte too
 abbrev pub entryFormed : ℕ → List ℕ → List ℕ → ℕ → Bool
 entryFormed regions sizes bytes at = eqb (byteAt bytes (at + 3)) 0 && entryOk regions sizes (entryOf bytes at)
 
--- the note at a place
+-- the note that begins at a byte; it is well formed, its zero bytes too
 unfoldable pub noteOf : List ℕ → ℕ → Note
 noteOf bytes at = record { kind = byteAt bytes at; register = byteAt bytes (at + 1); number = excess (wordAt bytes (at + 4)) }
 
 abbrev pub noteFormed : List ℕ → ℕ → Bool
 noteFormed bytes at = eqb (byteAt bytes (at + 2)) 0 && eqb (byteAt bytes (at + 3)) 0 && noteOk (noteOf bytes at)
 
--- where register r's entry stands in a row, and where the note does
-abbrev pub entryPlace : ℕ → ℕ → ℕ
-entryPlace at r = at + 12 * r
-
-abbrev pub notePlace : ℕ → ℕ
-notePlace at = at + 384
-
--- n entries from a place on
+-- n entries, from a byte on
 abbrev pub entriesFrom : List ℕ → ℕ → ℕ → List Entry
 entriesFrom bytes at zero = []
-entriesFrom bytes at (suc n) = entryOf bytes at ∷ entriesFrom bytes (at + 12) n
+entriesFrom bytes at (suc n) = entryOf bytes at ∷ entriesFrom bytes (at + entryBytes) n
 
--- the row at a place
+-- the row that begins at a byte
 unfoldable pub rowOf : List ℕ → ℕ → Row
-rowOf bytes at = record { entries = entriesFrom bytes at 32; note = noteOf bytes (notePlace at) }
+rowOf bytes at = record { entries = entriesFrom bytes at entryCount; note = noteOf bytes (noteStart at) }
 
 -- "r0 is the single number 0"
 abbrev pub r0Ok : ℕ → Entry → Bool
-r0Ok r e = not (eqb r 0) || isZero e
+r0Ok i e = not (eqb i 0) || isZero e
 
--- register r of the row at a place is well formed; the note counts as register 32
+-- entry i of the row that begins at a byte is well formed, r0's as that of a row
+abbrev pub entryFormedAt : ℕ → List ℕ → List ℕ → ℕ → ℕ → Bool
+entryFormedAt regions sizes bytes at i =
+    entryFormed regions sizes bytes (entryStart at i) && r0Ok i (entryOf bytes (entryStart at i))
+
+-- the place so named of the row that begins at a byte is well formed
 unfoldable pub formedAt : ℕ → List ℕ → List ℕ → ℕ → ℕ → Bool
-formedAt regions sizes bytes at r =
-    cond (ltb r 32)
-    (entryFormed regions sizes bytes (entryPlace at r) && r0Ok r (entryOf bytes (entryPlace at r)))
-    (noteFormed bytes (notePlace at))
+formedAt regions sizes bytes at place =
+    cond (eqb place noteName) (noteFormed bytes (noteStart at)) (entryFormedAt regions sizes bytes at (entryNamed place))
 
 abbrev pub brokenAt : ℕ → List ℕ → List ℕ → ℕ → ℕ → Bool
-brokenAt regions sizes bytes at r = not (formedAt regions sizes bytes at r)
+brokenAt regions sizes bytes at place = not (formedAt regions sizes bytes at place)
 
--- how many places of a row are named: the registers and the note
-abbrev pub places : ℕ
-places = 33
+-- the lowest badly formed place of the row that begins at a byte
+unfoldable pub formFault : ℕ → List ℕ → List ℕ → ℕ → Flaw
+formFault regions sizes bytes at = flawFrom (brokenAt regions sizes bytes at) 0
 
--- the lowest badly formed register of the row at a place, "32 for the note"; 33 if the row is well formed
-unfoldable pub formFault : ℕ → List ℕ → List ℕ → ℕ → ℕ
-formFault regions sizes bytes at = first (brokenAt regions sizes bytes at) 0 places
-
--- register r of row a fits row b; the note counts as register 32
+-- the place so named of row a fits that of row b
 unfoldable pub fitsAt : Row → Row → ℕ → Bool
-fitsAt a b r = cond (ltb r 32) (fits (entryAt a r) (entryAt b r)) (fitsNote (a .note) (b .note))
+fitsAt a b place =
+    cond (eqb place noteName) (fitsNote (a .note) (b .note)) (fits (entryAt a (entryNamed place)) (entryAt b (entryNamed place)))
 
 abbrev pub misfitsAt : Row → Row → ℕ → Bool
-misfitsAt a b r = not (fitsAt a b r)
+misfitsAt a b place = not (fitsAt a b place)
 
--- the lowest register of row a that does not fit row b, or 32; 33 if the row fits
-unfoldable pub misfit : Row → Row → ℕ
-misfit a b = first (misfitsAt a b) 0 places
+-- the lowest place of row a that does not fit row b
+unfoldable pub misfit : Row → Row → Flaw
+misfit a b = flawFrom (misfitsAt a b) 0

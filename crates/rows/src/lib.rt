@@ -1,7 +1,10 @@
 // Rows: what each register holds at a word, read from bytes; their form, and what fits. (Document 01,
 // "Rows".)
+use crate::geometry::ENTRIES;
 use sets::NumberSet;
 
+// How a row lies in bytes, and how its places are named.
+pub mod geometry;
 // What one register holds.
 pub mod entries;
 // What is known of the condition codes.
@@ -10,11 +13,14 @@ pub mod notes;
 mod reading;
 // The entry of a register in a row.
 mod registers;
+// The lowest place of a row that has a flaw.
+mod flaws;
 // The form of a row in bytes, and whether one row fits another.
 mod passes;
 
 pub use entries::field_entry;
 pub use entries::fits;
+pub use flaws::flawless;
 pub use passes::form_fault;
 pub use passes::formed_at;
 pub use passes::misfit;
@@ -43,6 +49,13 @@ pub struct Note {
 
 // The entries of r0 to r31, and the note.
 pub struct Row {
-    pub entries: [Entry; 32],
+    pub entries: [Entry; ENTRIES],
     pub note: Note,
+}
+
+// The lowest place of a row that has a flaw, by the number that names it in an answer: the register's,
+// or the note's; or that no place has one.
+pub enum Flaw {
+    None,
+    At(u8),
 }

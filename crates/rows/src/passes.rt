@@ -1,66 +1,75 @@
-// The passes over a row: its form, and whether one row fits another (specs/Row.antt). Places 0 to 31
-// of a row are its registers, place 32 its note.
+// The passes over a row: its form, and whether one row fits another (specs/Row.antt). Each goes through
+// the places in the order of the numbers that name them.
 ghost use mathlib.Core.Path.{_≡_};
-ghost use Prim.Native.Nat.{_+_, _≤_};
+ghost use Prim.Native.Nat.{_<_};
 ghost use lib.ListN.{length};
+ghost use Rattle.rows.specs.Geometry.{places, RowLies};
 ghost use Rattle.rows.specs.Row.{rowOf, formedAt, formFault, misfit};
+use crate::Flaw;
 use crate::Row;
 use crate::entries::entry_ok;
 use crate::entries::fits;
 use crate::entries::is_zero;
+use crate::geometry::ENTRY_BYTES;
+use crate::geometry::NOTE_NAME;
+use crate::geometry::NOTE_OFFSET;
+use crate::geometry::PLACES;
+use crate::geometry::entry_named;
 use crate::notes::fits_note;
 use crate::reading::note_formed;
 use crate::reading::read_entry;
 use crate::reading::read_note;
 
-// Whether place r of the row in the bytes is well formed.
-pub fn formed_at(regions: u8, sizes: &[u16; 8], bytes: &[u8], at: usize, r: u8) -> bool
-    requires { ⌜ (at + 392 ≤ length (now bytes)) × (r ≤ 32) ⌝ }
-    ensures { λ res. ⌜ res ≡ formedAt regions (now (sizes .entry)) (now (bytes .entry)) at r ⌝ }
+// Whether the place so named of the row that begins at a byte is well formed.
+pub fn formed_at(regions: u8, sizes: &[u16; 8], bytes: &[u8], at: usize, place: u8) -> bool
+    requires { ⌜ RowLies at (length (now bytes)) × (place < places) ⌝ }
+    ensures { λ r. ⌜ r ≡ formedAt regions (now (sizes .entry)) (now (bytes .entry)) at place ⌝ }
 {
-    if r < 32 {
-        let place = at + 12 * r as usize;
-        let zero = bytes[place + 3];
-        let e = read_entry(bytes, place);
-        let formed = entry_ok(regions, sizes, e);
-        return (zero == 0) & formed & (!(r == 0) | is_zero(e));
+    if place == NOTE_NAME {
+        return note_formed(bytes, at + NOTE_OFFSET);
     }
-    note_formed(bytes, at + 384)
+    let i = entry_named(place);
+    let start = at + ENTRY_BYTES * i;
+    let zero = bytes[start + 3];
+    let e = read_entry(bytes, start);
+    let formed = entry_ok(regions, sizes, e);
+    (zero == 0) & formed & (!(i == 0) | is_zero(e))
 }
 
-// The lowest badly formed place of the row in the bytes; 33 if it is well formed.
-pub fn form_fault(regions: u8, sizes: &[u16; 8], bytes: &[u8], at: usize) -> u8
-    requires { ⌜ at + 392 ≤ length (now bytes) ⌝ }
+// The lowest badly formed place of the row that begins at a byte.
+pub fn form_fault(regions: u8, sizes: &[u16; 8], bytes: &[u8], at: usize) -> Flaw
+    requires { ⌜ RowLies at (length (now bytes)) ⌝ }
     ensures { λ r. ⌜ r ≡ formFault regions (now (sizes .entry)) (now (bytes .entry)) at ⌝ }
 {
-    let mut k: u8 = 0;
-    while k < 33 {
-        if !formed_at(regions, sizes, bytes, at, k) {
-            return k;
+    let mut place: u8 = 0;
+    while place < PLACES {
+        if !formed_at(regions, sizes, bytes, at, place) {
+            return Flaw::At(place);
         }
-        k += 1;
+        place += 1;
     }
-    k
+    Flaw::None
 }
 
-// The lowest place of a row that does not fit the row in the bytes; 33 if the row fits.
-pub fn misfit(row: Row, bytes: &[u8], at: usize) -> u8
-    requires { ⌜ at + 392 ≤ length (now bytes) ⌝ }
+// The lowest place of a row that does not fit the row that begins at a byte. The places below the
+// note's name the entries by their index.
+pub fn misfit(row: Row, bytes: &[u8], at: usize) -> Flaw
+    requires { ⌜ RowLies at (length (now bytes)) ⌝ }
     ensures { λ r. ⌜ r ≡ misfit row (rowOf (now (bytes .entry)) at) ⌝ }
 {
-    let mut r: u8 = 0;
-    while r < 32 {
-        let i = r as usize;
+    let mut place: u8 = 0;
+    while place < NOTE_NAME {
+        let i = place as usize;
         let held = row.entries[i];
-        let asked = read_entry(bytes, at + 12 * i);
+        let asked = read_entry(bytes, at + ENTRY_BYTES * i);
         if !fits(held, asked) {
-            return r;
+            return Flaw::At(place);
         }
-        r += 1;
+        place += 1;
     }
-    let asked = read_note(bytes, at + 384);
+    let asked = read_note(bytes, at + NOTE_OFFSET);
     if fits_note(row.note, asked) {
-        return 33;
+        return Flaw::None;
     }
-    32
+    Flaw::At(NOTE_NAME)
 }

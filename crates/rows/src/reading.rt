@@ -4,16 +4,19 @@ ghost use Prim.Native.Nat.{_+_, _≤_};
 ghost use lib.ListN.{length};
 ghost use Rattle.v8.specs.Signed.{excess};
 ghost use Rattle.memory.specs.Memory.{wordAt};
+ghost use Rattle.rows.specs.Geometry.{EntryLies, NoteLies, RowLies};
 ghost use Rattle.rows.specs.Row.{entryOf, entryFormed, noteOf, noteFormed, rowOf};
 use crate::Entry;
 use crate::Note;
 use crate::Row;
 use crate::entries::entry_ok;
 use crate::entries::no_entry;
+use crate::geometry::ENTRIES;
+use crate::geometry::ENTRY_BYTES;
+use crate::geometry::NOTE_OFFSET;
 use crate::notes::note_ok;
-use memory::load;
+use memory::word_within;
 use sets::NumberSet;
-use v8::LoadOp;
 use v8::signed::excess;
 
 // The signed number at a place, in excess form.
@@ -21,12 +24,12 @@ fn number_at(bytes: &[u8], at: usize) -> u32
     requires { ⌜ at + 4 ≤ length (now bytes) ⌝ }
     ensures { λ r. ⌜ r ≡ excess (wordAt (now (bytes .entry)) at) ⌝ }
 {
-    excess(load(LoadOp::Ld, bytes, at))
+    excess(word_within(bytes, at))
 }
 
-// The entry at a place.
+// The entry that begins at a byte.
 pub fn read_entry(bytes: &[u8], at: usize) -> Entry
-    requires { ⌜ at + 12 ≤ length (now bytes) ⌝ }
+    requires { ⌜ EntryLies at (length (now bytes)) ⌝ }
     ensures { λ r. ⌜ r ≡ entryOf (now (bytes .entry)) at ⌝ }
 {
     let kind = bytes[at];
@@ -38,9 +41,9 @@ pub fn read_entry(bytes: &[u8], at: usize) -> Entry
     Entry { kind, region, set }
 }
 
-// Whether the entry at a place is well formed, its zero byte too.
+// Whether the entry that begins at a byte is well formed, its zero byte too.
 pub fn entry_formed(regions: u8, sizes: &[u16; 8], bytes: &[u8], at: usize) -> bool
-    requires { ⌜ at + 12 ≤ length (now bytes) ⌝ }
+    requires { ⌜ EntryLies at (length (now bytes)) ⌝ }
     ensures { λ r. ⌜ r ≡ entryFormed regions (now (sizes .entry)) (now (bytes .entry)) at ⌝ }
 {
     let zero = bytes[at + 3];
@@ -48,9 +51,9 @@ pub fn entry_formed(regions: u8, sizes: &[u16; 8], bytes: &[u8], at: usize) -> b
     (zero == 0) & entry_ok(regions, sizes, e)
 }
 
-// The note at a place.
+// The note that begins at a byte.
 pub fn read_note(bytes: &[u8], at: usize) -> Note
-    requires { ⌜ at + 8 ≤ length (now bytes) ⌝ }
+    requires { ⌜ NoteLies at (length (now bytes)) ⌝ }
     ensures { λ r. ⌜ r ≡ noteOf (now (bytes .entry)) at ⌝ }
 {
     let kind = bytes[at];
@@ -63,9 +66,9 @@ pub fn read_note(bytes: &[u8], at: usize) -> Note
     }
 }
 
-// Whether the note at a place is well formed, its zero bytes too.
+// Whether the note that begins at a byte is well formed, its zero bytes too.
 pub fn note_formed(bytes: &[u8], at: usize) -> bool
-    requires { ⌜ at + 8 ≤ length (now bytes) ⌝ }
+    requires { ⌜ NoteLies at (length (now bytes)) ⌝ }
     ensures { λ r. ⌜ r ≡ noteFormed (now (bytes .entry)) at ⌝ }
 {
     let third = bytes[at + 2];
@@ -74,19 +77,19 @@ pub fn note_formed(bytes: &[u8], at: usize) -> bool
     (third == 0) & (fourth == 0) & note_ok(n)
 }
 
-// The row at a place.
+// The row that begins at a byte.
 pub fn read_row(bytes: &[u8], at: usize) -> Row
-    requires { ⌜ at + 392 ≤ length (now bytes) ⌝ }
+    requires { ⌜ RowLies at (length (now bytes)) ⌝ }
     ensures { λ r. ⌜ r ≡ rowOf (now (bytes .entry)) at ⌝ }
 {
     let none = no_entry();
-    let mut entries = [none; 32];
-    let mut r = 0;
-    while r < 32 {
-        let e = read_entry(bytes, at + 12 * r);
-        entries[r] = e;
-        r += 1;
+    let mut entries = [none; ENTRIES];
+    let mut i = 0;
+    while i < ENTRIES {
+        let e = read_entry(bytes, at + ENTRY_BYTES * i);
+        entries[i] = e;
+        i += 1;
     }
-    let note = read_note(bytes, at + 384);
+    let note = read_note(bytes, at + NOTE_OFFSET);
     Row { entries, note }
 }

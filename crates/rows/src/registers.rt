@@ -5,13 +5,15 @@ use crate::Entry;
 use crate::Note;
 use crate::Row;
 use crate::entries::no_entry;
+use crate::geometry::ENTRIES;
 
-// The entry of register r; there is none above 31.
+// The entry of register r; there is none after the last.
 pub fn entry_at(row: Row, r: u8) -> Entry
     ensures { λ res. ⌜ res ≡ entryAt row r ⌝ }
 {
-    if r < 32 {
-        return row.entries[r as usize];
+    let i = r as usize;
+    if i < ENTRIES {
+        return row.entries[i];
     }
     no_entry()
 }
@@ -24,9 +26,10 @@ pub fn row_with(mut row: Row, r: u8, e: Entry, n: Note) -> Row
     if r == 0 {
         return row;
     }
-    if 32 <= r {
+    let i = r as usize;
+    if ENTRIES <= i {
         return row;
     }
-    row.entries[r as usize] = e;
+    row.entries[i] = e;
     row
 }

@@ -5,16 +5,17 @@ use native.Mathlib.Nat.{not-suc-le-zero}
 use native.Mathlib.Omega.{arith}
 use borrow.Author.Needs.{needs}
 use lib.ListN.{length, length-set}
+use Rattle.rows.specs.Geometry.{entryCount}
 use Rattle.rows.specs.Row.{rowOf}
 use Rattle.rows.proofs.ReadRows.{ReadTo, read-more, read-all}
 use Rattle.rows.proofs.reading.read_row.Statement.{statement}
 use Rattle.rows.proofs.reading.read_row.Tie as tie
 
 abbrev Inv-loop : tie.InvT-loop
-Inv-loop bytes at entries₀ r₀ entries r = (r ≤ 32) × (length entries ≡ 32) × ReadTo bytes at r entries
+Inv-loop bytes at entries₀ i₀ entries i = (i ≤ entryCount) × (length entries ≡ entryCount) × ReadTo bytes at i entries
 
 abbrev μ-loop : tie.MeasureT-loop
-μ-loop bytes at entries₀ r₀ entries r = 32 - r
+μ-loop bytes at entries₀ i₀ entries i = entryCount - i
 
 no-entry-requires : tie.Need-no-entry-requires Inv-loop μ-loop
 no-entry-requires c κs = search needs
@@ -37,21 +38,20 @@ mul-entries c = search needs
 array-set-from-entries : tie.Need-array-set-from-entries Inv-loop μ-loop
 array-set-from-entries c = search needs
 
-add-r : tie.Need-add-r Inv-loop μ-loop
-add-r c = search needs
+add-i : tie.Need-add-i Inv-loop μ-loop
+add-i c = search needs
 
 loop-less : tie.Need-loop-less Inv-loop μ-loop
 loop-less c = search needs
 
 loop-again : tie.Need-loop-again Inv-loop μ-loop
-loop-again c = let a = c .before .before .before .before .before .args in
-    let es = c .before .before .loop .entries in
-    let r = c .before .before .loop .r in
-    let e = c .read-entry .result in
-    let inv = c .before .before .loop .inv in (
+loop-again c = let at-loop = c .before .before in
+    let a = at-loop .before .before .before .args in
+    let now-in = at-loop .loop in
+    let e = c .read-entry .result in (
       omega arith,
-      length-set es r e ∙ inv .1,
-      read-more (a .bytes .now) (a .at) r es e (c .before .loop-test .taken) (inv .1) (c .read-entry .ensures) (inv .2),
+      length-set (now-in .entries) (now-in .i) e ∙ now-in .inv .1,
+      read-more (a .bytes .now) (a .at) (now-in .i) (now-in .entries) e (c .before .loop-test .taken) (now-in .inv .1) (c .read-entry .ensures) (now-in .inv .2),
     )
 
 add-read-note : tie.Need-add-read-note Inv-loop μ-loop
@@ -62,9 +62,10 @@ read-note-requires c κs = search needs
 
 returns : tie.Need-returns Inv-loop μ-loop
 unfolding rowOf
-returns c = let a = c .before .before .before .before .before .args in
-    let inv = c .before .before .loop .inv in
-    let whole = read-all (a .bytes .now) (a .at) (c .before .before .loop .entries) (inv .1) (λ i l. inv .2 i (omega (arith, c .before .loop-test .left))) in
+returns c = let at-loop = c .before .before in
+    let a = at-loop .before .before .before .args in
+    let inv = at-loop .loop .inv in
+    let whole = read-all (a .bytes .now) (a .at) (at-loop .loop .entries) (inv .1) (λ i l. inv .2 i (omega (arith, c .before .loop-test .left))) in
     rw (whole, c .read-note .ensures)
 
 pub read-row-spec : {M : Type 1} → statement M
@@ -80,7 +81,7 @@ read-row-spec =
     read-entry-requires
     mul-entries
     array-set-from-entries
-    add-r
+    add-i
     loop-less
     loop-again
     add-read-note
