@@ -1,3 +1,4 @@
 pub mod Serve
 pub mod Layout
 pub mod Locate
+pub mod Laws
