@@ -16,6 +16,10 @@ use Rattle.rows.specs.Geometry.{rowBytes, entryBytes}
 abbrev pub most : ℕ
 most = 53180
 
+-- so many bytes give no more words, each with its row, after the head, the entry row and the result entry
+abbrev pub mostGiven : ℕ
+mostGiven = 133
+
 -- how many bytes the parts take: the head, a region, a field, a word (a row and an entry: rows' Geometry)
 abbrev pub headBytes : ℕ
 headBytes = 8
