@@ -4,8 +4,9 @@ use mathlib.Core.List.{List}
 use mathlib.Core.Path.{_≡_}
 use native.Mathlib.Omega.{arith}
 use Rattle.policy.specs.declared.Policy.{Policy}
+use Rattle.rows.specs.Geometry.{rowBytes, entryBytes}
 use Rattle.checker.specs.Passes.{checkOf}
-use Rattle.bundle.specs.Layout.{wordCount, entryPlace, rowBytes, entryBytes, wordBytes}
+use Rattle.bundle.specs.Layout.{wordCount, entryPlace, wordBytes}
 use Rattle.bundle.specs.Bundle.{wordsFrom, part, checkedWith}
 
 -- how many bytes stand between two places

@@ -10,10 +10,11 @@ use Rattle.policy.specs.declared.Policy.{Policy}
 use Rattle.policy.specs.declared.Field.{Field}
 use Rattle.policy.specs.declared.Built.{Built}
 use Rattle.policy.specs.Build.{emptyPolicy, addRegionOf, addFieldOf}
+use Rattle.rows.specs.Geometry.{rowBytes, entryBytes}
 use Rattle.checker.specs.declared.Answer.{Answer}
 use Rattle.checker.specs.Answer.{refuse}
 use Rattle.checker.specs.Passes.{checkOf}
-use Rattle.bundle.specs.Layout.{regionCount, wordCount, regionSize, fieldCount, fieldsBefore, fieldRead, entryPlace, resultPlace, wordsPlace, rowsPlace, bundleOk, rowBytes, entryBytes, wordBytes}
+use Rattle.bundle.specs.Layout.{regionCount, wordCount, regionSize, fieldCount, fieldsBefore, fieldRead, entryPlace, resultPlace, wordsPlace, rowsPlace, bundleOk, wordBytes}
 
 -- an add, unless an earlier one was refused
 unfoldable pub regionTo : Built → ℕ → Built

@@ -10,12 +10,17 @@ use Rattle.v8.specs.Search.{all}
 use Rattle.v8.specs.Signed.{excess}
 use Rattle.memory.specs.Memory.{byteAt, halfAt, wordAt}
 use Rattle.policy.specs.declared.Field.{Field}
+use Rattle.rows.specs.Geometry.{rowBytes, entryBytes}
 
 -- "At most 53,180 bytes"
 abbrev pub most : ℕ
 most = 53180
 
--- how many bytes the parts take: the head, a region, a field, a row, an entry, a word
+-- so many bytes give no more words, each with its row, after the head, the entry row and the result entry
+abbrev pub mostGiven : ℕ
+mostGiven = 133
+
+-- how many bytes the parts take: the head, a region, a field, a word (a row and an entry: rows' Geometry)
 abbrev pub headBytes : ℕ
 headBytes = 8
 
@@ -24,12 +29,6 @@ regionBytes = 4
 
 abbrev pub fieldBytes : ℕ
 fieldBytes = 16
-
-abbrev pub rowBytes : ℕ
-rowBytes = 392
-
-abbrev pub entryBytes : ℕ
-entryBytes = 12
 
 abbrev pub wordBytes : ℕ
 wordBytes = 4

@@ -3,25 +3,25 @@ ghost use mathlib.Core.Path.{_≡_};
 ghost use Prim.Native.Nat.{_≤_};
 ghost use lib.ListN.{length, take};
 ghost use Rattle.checker.specs.Answer.{refuse};
-ghost use Rattle.bundle.specs.Layout.{lengthGiven};
+ghost use Rattle.bundle.specs.Layout.{most, mostGiven, lengthGiven};
 ghost use Rattle.bundle.specs.Bundle.{wordsFrom, checkedWith, bundleAnswer};
 use crate::building::built_of;
-use crate::layout::ENTRY_BYTES;
-use crate::layout::ROW_BYTES;
 use crate::layout::WORD_BYTES;
 use crate::layout::bundle_ok;
 use crate::layout::entry_place;
 use crate::layout::word_count;
-use crate::reading::word_at;
 use checker::Answer;
 use checker::check;
+use memory::word_at;
 use policy::Policy;
+use rows::geometry::ENTRY_BYTES;
+use rows::geometry::ROW_BYTES;
 use v8::WordIndex;
 use v8::numbers::ACCEPTED;
 use v8::numbers::BAD_BUNDLE;
 
-// No bundle has more words.
-const MOST_WORDS: usize = 133;
+// No bundle gives more words.
+const MOST_GIVEN: usize = 133;
 
 // A refusal that names no word and no register.
 fn refused(number: u8) -> Answer
@@ -36,11 +36,11 @@ fn refused(number: u8) -> Answer
 }
 
 // The words that stand from a place on, `count` of them.
-fn words_from(bytes: &[u8], at: usize, count: usize) -> [u32; MOST_WORDS]
-    requires { ⌜ (at ≤ 53180) × (count ≤ 133) ⌝ }
-    ensures { λ r. ⌜ (133 ≡ length r) × (take count r ≡ wordsFrom (now (bytes .entry)) at count) ⌝ }
+fn words_from(bytes: &[u8], at: usize, count: usize) -> [u32; MOST_GIVEN]
+    requires { ⌜ (at ≤ most) × (count ≤ mostGiven) ⌝ }
+    ensures { λ r. ⌜ (mostGiven ≡ length r) × (take count r ≡ wordsFrom (now (bytes .entry)) at count) ⌝ }
 {
-    let mut words = [0u32; MOST_WORDS];
+    let mut words = [0u32; MOST_GIVEN];
     let mut i = 0;
     while i < count {
         words[i] = word_at(bytes, at + WORD_BYTES * i);
@@ -51,7 +51,7 @@ fn words_from(bytes: &[u8], at: usize, count: usize) -> [u32; MOST_WORDS]
 
 // The check of what stands in a bundle, with its policy.
 fn checked_with(bytes: &[u8], policy: Policy) -> Answer
-    requires { ⌜ (length (now bytes) ≡ lengthGiven (now bytes)) × (length (now bytes) ≤ 53180) ⌝ }
+    requires { ⌜ (length (now bytes) ≡ lengthGiven (now bytes)) × (length (now bytes) ≤ most) ⌝ }
     ensures { λ r. ⌜ r ≡ checkedWith (now (bytes .entry)) policy ⌝ }
 {
     let count = word_count(bytes);

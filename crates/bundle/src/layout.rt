@@ -3,23 +3,21 @@ ghost use mathlib.Core.Path.{_≡_};
 ghost use Prim.Native.Nat.{_*_, _≤_, _<_};
 ghost use Rattle.v8.specs.Search.{all};
 ghost use Rattle.bundle.specs.Layout.{regionCount, wordCount, fieldCount, regionZero, fieldsBefore, fieldTotal, fieldPlace, fieldZero, entryPlace, lengthGiven, headOk, bundleOk};
-use crate::reading::byte_at;
-use crate::reading::half_at;
+use memory::byte_at;
+use memory::half_at;
+use rows::geometry::ENTRY_BYTES;
+use rows::geometry::ROW_BYTES;
 
 // The most bytes that a bundle has.
 const MOST: usize = 53180;
 // The version of bundles that are read.
 const VERSION: u16 = 1;
-// How many bytes the parts take: the head, a region, a field, a row, an entry, a word.
+// How many bytes the parts take: the head, a region, a field, a word.
 pub const HEAD_BYTES: usize = 8;
 
 pub const REGION_BYTES: usize = 4;
 
 pub const FIELD_BYTES: usize = 16;
-
-pub const ROW_BYTES: usize = 392;
-
-pub const ENTRY_BYTES: usize = 12;
 
 pub const WORD_BYTES: usize = 4;
 

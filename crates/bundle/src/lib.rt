@@ -1,8 +1,6 @@
 // The bundle: a policy, an entry row, a result entry, words and rows in one run of bytes, and the
 // answer to one. (Document 01, "Bundle".)
 
-// Numbers in the bytes.
-mod reading;
 // Where the parts stand, and whether the bytes are a bundle.
 mod layout;
 // The bundle's policy.

@@ -6,14 +6,19 @@ use native.Mathlib.Omega.{arith}
 use lib.Dec.{ltb, eqb}
 use borrow.Author.Tests.{ltb-true, ltb-false, not-false}
 use Rattle.v8.specs.Numbers.{badPolicy, badShape, badRow, badFlow, entryMisfit, mostWords}
-use Rattle.v8.specs.Search.{first, first-passes, first-least, needed, needed-le, needed-eq}
+use Rattle.v8.specs.Search.{first, first-passes, first-least, needed, needed-le}
 use Rattle.flow.specs.Readings.{readingAt, examined}
 use Rattle.policy.specs.Policy.{policyOk}
-use Rattle.rows.specs.Row.{entryFormed, formFault, misfit, places}
+use Rattle.rows.specs.declared.Flaw.{Flaw}
+use Rattle.rows.specs.declared.Flaw.the-variants.{None, At}
+use Rattle.rows.specs.Geometry.{rowBytes}
+use Rattle.rows.specs.Flaw.{flawless}
+use Rattle.rows.specs.Row.{entryFormed, formFault, misfit}
 use Rattle.rows.proofs.Tests.{false-true}
+use Rattle.rows.proofs.LowestFlaw.{flawless-none}
 use Rattle.checker.specs.declared.Answer.{Answer}
-use Rattle.checker.specs.Answer.{accepted, refuse, passes, andThen, need, refuses, passOf}
-use Rattle.checker.specs.Routine.{Routine, routineOf, count, rowAt, entryRow, rowBytes}
+use Rattle.checker.specs.Answer.{accepted, passes, andThen, need, refuses, passOf}
+use Rattle.checker.specs.Routine.{Routine, routineOf, count, rowAt, entryRow}
 use Rattle.checker.specs.Passes.{unlessFault, policyPass, shapeOk, shapePass, rowPass, readPass, flowOf, flowPass, entryPass, look, wordPass, answerOf, checkOf}
 use Rattle.checker.specs.Laws.{Checked, Accepts}
 
@@ -30,13 +35,10 @@ pub need-holds : (t : Bool) (number w r : ℕ) → eqb number 0 ≡ false → pa
 need-holds true number w r z e = refl
 need-holds false number w r z e = false-true (sym z ∙ e)
 
--- a search that passed found no fault
-pub no-fault : (number w r : ℕ) → eqb number 0 ≡ false → passes (unlessFault number w r) ≡ true → places ≤ r
-no-fault number w r z e = at (ltb r places) refl e
-  where
-    at : (t : Bool) → ltb r places ≡ t → passes (cond t (refuse number w r) accepted) ≡ true → places ≤ r
-    at true t e = false-true (sym z ∙ e)
-    at false t e = ltb-false r places t
+-- a search that passed found no flaw
+pub no-fault : (number w : ℕ) (flaw : Flaw) → eqb number 0 ≡ false → passes (unlessFault number w flaw) ≡ true → flaw ≡ None
+no-fault number w None z e = refl
+no-fault number w (At place) z e = false-true (sym z ∙ e)
 
 -- a pass over the words that accepts accepts each
 pub each-passes : (f : ℕ → Answer) (n : ℕ) → passes (passOf f n) ≡ true → (w : ℕ) → w < n → passes (f w) ≡ true
@@ -53,7 +55,7 @@ each-passes f n e w l = at (ltb (first (refuses f) 0 n) n) refl e
 
 module _ (t : Routine) where
   row-formed : (w : ℕ) → passes (rowPass (t .policy) (t .rows) w) ≡ true
-      → places ≤ formFault (t .policy .regions .count) (t .policy .regions .sizes) (t .rows) (rowBytes * w)
+      → formFault (t .policy .regions .count) (t .policy .regions .sizes) (t .rows) (rowBytes * w) ≡ None
   unfolding rowPass
   row-formed w e = no-fault badRow w (formFault (t .policy .regions .count) (t .policy .regions .sizes) (t .rows) (rowBytes * w)) refl e
 
@@ -61,7 +63,7 @@ module _ (t : Routine) where
   unfolding flowPass
   word-flows w e = need-holds (flowOf (t .readings) w (readingAt (t .readings) w)) badFlow w 0 refl e
 
-  entry-fits : passes (entryPass (t .rows) (t .entry)) ≡ true → places ≤ misfit (entryRow (t .entry)) (rowAt (t .rows) 0)
+  entry-fits : passes (entryPass (t .rows) (t .entry)) ≡ true → misfit (entryRow (t .entry)) (rowAt (t .rows) 0) ≡ None
   unfolding entryPass
   entry-fits e = no-fault entryMisfit 0 (misfit (entryRow (t .entry)) (rowAt (t .rows) 0)) refl e
 
@@ -76,7 +78,7 @@ module _ (t : Routine) where
   record Shape : Type 0 where
     some : 1 ≤ count t
     most : count t ≤ mostWords
-    entry : formFault (t .policy .regions .count) (t .policy .regions .sizes) (t .entry) 0 ≡ places
+    entry : flawless (formFault (t .policy .regions .count) (t .policy .regions .sizes) (t .entry) 0) ≡ true
     result : entryFormed (t .policy .regions .count) (t .policy .regions .sizes) (t .result) 0 ≡ true
 
   shape : shapes ≡ true → Shape
@@ -85,7 +87,7 @@ module _ (t : Routine) where
       record {
         some = needed-le shapes 1 (count t) e (λ f. simp f);
         most = needed-le shapes (count t) mostWords e (λ f. simp (f, and-false));
-        entry = needed-eq shapes (formFault (t .policy .regions .count) (t .policy .regions .sizes) (t .entry) 0) places e (λ f. simp (f, and-false));
+        entry = needed shapes (flawless (formFault (t .policy .regions .count) (t .policy .regions .sizes) (t .entry) 0)) e (λ f. rw (f, and-false));
         result = needed shapes (entryFormed (t .policy .regions .count) (t .policy .regions .sizes) (t .result) 0) e (λ f. rw (f, and-false));
       }
 
@@ -104,7 +106,7 @@ module _ (t : Routine) where
         policy = need-holds (policyOk (t .policy)) badPolicy 0 0 refl (a .0);
         some = s .some;
         most = s .most;
-        entry-formed = omega (arith, s .entry);
+        entry-formed = flawless-none (formFault (t .policy .regions .count) (t .policy .regions .sizes) (t .entry) 0) (s .entry);
         result-formed = s .result;
         rows-formed = λ w l. row-formed w (each-passes (rowPass (t .policy) (t .rows)) (count t) (c .0) w l);
         reads = each-passes (readPass (t .readings)) (count t) (d .0);

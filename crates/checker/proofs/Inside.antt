@@ -13,8 +13,8 @@ use Rattle.flow.specs.declared.Destination.the-variants.{To, Caller}
 use Rattle.flow.specs.Edge.{edgeOf}
 use Rattle.flow.specs.Readings.{readingsOf, readingAt, examined}
 use Rattle.flow.proofs.Fetched.{read-count}
+use Rattle.rows.specs.Geometry.{rowBytes}
 use Rattle.checker.specs.Answer.{passes}
-use Rattle.checker.specs.Routine.{rowBytes}
 use Rattle.checker.specs.Passes.{flowOf, flowPass}
 use Rattle.checker.specs.Laws.{InCode}
 use Rattle.checker.specs.Lent.{EndIn, ReadingIn}

@@ -16,10 +16,11 @@ use Rattle.flow.specs.Readings.{readingsOf, readingAt, Reads, Examines}
 use Rattle.flow.proofs.Fetched.{array-has}
 use Rattle.v8.specs.Search.{first, first-here, first-next, first-end}
 use Rattle.policy.specs.declared.Policy.{Policy}
-use Rattle.rows.specs.Row.{formFault, places}
+use Rattle.rows.specs.declared.Flaw.the-variants.{None, At}
+use Rattle.rows.specs.Geometry.{rowBytes}
+use Rattle.rows.specs.Row.{formFault}
 use Rattle.checker.specs.declared.Answer.{Answer}
 use Rattle.checker.specs.Answer.{accepted, refuse, need, passes, refuses, passOf}
-use Rattle.checker.specs.Routine.{rowBytes}
 use Rattle.checker.specs.Passes.{rowPass, ifRead, readPass, flowOf, flowPass, look, wordPass}
 use Rattle.checker.specs.Lent.{ReadingIn}
 use Rattle.checker.proofs.Accepted.{each-passes}
@@ -54,14 +55,14 @@ module _ (f : ℕ → Answer) where
 
 module _ (p : Policy) (rows : List ℕ) (w : ℕ) where
   -- the lowest badly formed place of a row is named
-  pub row-broken : (place : ℕ) → formFault (p .regions .count) (p .regions .sizes) rows (rowBytes * w) ≡ place → place < places → refuse badRow w place ≡ rowPass p rows w
+  pub row-broken : (place : ℕ) → formFault (p .regions .count) (p .regions .sizes) rows (rowBytes * w) ≡ At place → refuse badRow w place ≡ rowPass p rows w
   unfolding rowPass
-  row-broken place e l = rw (e, lt-ltb place places l)
+  row-broken place e = rw e
 
   -- a well-formed row passes
-  pub row-formed : (place : ℕ) → formFault (p .regions .count) (p .regions .sizes) rows (rowBytes * w) ≡ place → places ≤ place → accepted ≡ rowPass p rows w
+  pub row-formed : formFault (p .regions .count) (p .regions .sizes) rows (rowBytes * w) ≡ None → accepted ≡ rowPass p rows w
   unfolding rowPass
-  row-formed place e l = rw (e, le-ltb place places l)
+  row-formed e = rw e
 
 -- What a loop finds at a word, with what the array has there, is what the pass answers.
 module _ (words : List ℕ) (readings : List Reading) (i : ℕ) (reads : Reads readings words) (l : i < length words) (most : length words ≤ mostWords) where

@@ -8,9 +8,10 @@ use Rattle.v8.specs.Numbers.{badPolicy, badShape, mostWords}
 use Rattle.flow.proofs.Fetched.{read-count}
 use Rattle.v8.specs.Search.{needed-le, needed-eq}
 use Rattle.policy.specs.Policy.{policyOk}
+use Rattle.rows.specs.Geometry.{rowBytes, entryBytes}
 use Rattle.checker.specs.declared.Answer.{Answer}
 use Rattle.checker.specs.Answer.{refuse, andThen, passOf}
-use Rattle.checker.specs.Routine.{count, rowBytes, entryBytes}
+use Rattle.checker.specs.Routine.{count}
 use Rattle.checker.specs.Passes.{shapeOk, rowPass, readPass, flowPass, entryPass, wordPass, answerOf, checkOf}
 use Rattle.checker.proofs.Parts.{Given, whole}
 

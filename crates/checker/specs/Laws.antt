@@ -18,15 +18,17 @@ use Rattle.flow.specs.Edge.{edgeOf}
 use Rattle.flow.specs.Readings.{readingAt, examined}
 use Rattle.policy.specs.declared.Policy.{Policy}
 use Rattle.policy.specs.Policy.{policyOk}
+use Rattle.rows.specs.declared.Flaw.the-variants.{None}
 use Rattle.rows.specs.declared.Row.{Row}
 use Rattle.rows.specs.Entry.{fits}
-use Rattle.rows.specs.Row.{entryAt, rowWith, entryFormed, formFault, misfit, places}
+use Rattle.rows.specs.Geometry.{rowBytes}
+use Rattle.rows.specs.Row.{entryAt, rowWith, entryFormed, formFault, misfit}
 use Rattle.rules.specs.declared.Change.{Change}
 use Rattle.rules.specs.declared.Change.the-variants.{Writes, Keeps, Breaks}
 use Rattle.rules.specs.Narrow.{left, narrowRow}
 use Rattle.checker.specs.declared.Answer.{Answer}
 use Rattle.checker.specs.Answer.{accepted, passes}
-use Rattle.checker.specs.Routine.{Routine, routineOf, count, rowAt, entryRow, resultEntry, rowBytes}
+use Rattle.checker.specs.Routine.{Routine, routineOf, count, rowAt, entryRow, resultEntry}
 use Rattle.checker.specs.Passes.{readPass, offSlots, flowOf, arrive, changeBy, applied, cross, edges, look, resultRegister, checkOf}
 
 pub record Checked (t : Routine) : Type 0 where
@@ -35,16 +37,16 @@ pub record Checked (t : Routine) : Type 0 where
   -- 21
   pub some : 1 ≤ count t
   pub most : count t ≤ mostWords
-  pub entry-formed : places ≤ formFault (t .policy .regions .count) (t .policy .regions .sizes) (t .entry) 0
+  pub entry-formed : formFault (t .policy .regions .count) (t .policy .regions .sizes) (t .entry) 0 ≡ None
   pub result-formed : entryFormed (t .policy .regions .count) (t .policy .regions .sizes) (t .result) 0 ≡ true
   -- 1
-  pub rows-formed : (w : ℕ) → w < count t → places ≤ formFault (t .policy .regions .count) (t .policy .regions .sizes) (t .rows) (rowBytes * w)
+  pub rows-formed : (w : ℕ) → w < count t → formFault (t .policy .regions .count) (t .policy .regions .sizes) (t .rows) (rowBytes * w) ≡ None
   -- 2
   pub reads : (w : ℕ) → w < count t → passes (readPass (t .readings) w) ≡ true
   -- 3
   pub flows : (w : ℕ) → w < count t → flowOf (t .readings) w (readingAt (t .readings) w) ≡ true
   -- 15
-  pub entry : places ≤ misfit (entryRow (t .entry)) (rowAt (t .rows) 0)
+  pub entry : misfit (entryRow (t .entry)) (rowAt (t .rows) 0) ≡ None
   -- each word outside slots
   pub words : (w : ℕ) → w < count t → examined (t .readings) w ≡ true
       → passes (look (t .policy) (t .rows) (t .result) w (readingAt (t .readings) w) (readingAt (t .readings) (w + 1))) ≡ true
@@ -107,7 +109,7 @@ SlotSkipped =
 
 -- A row that arrived at a word fits that word's row; at the caller its r8 fits the result entry.
 abbrev pub FitsThere : List ℕ → List ℕ → Destination → Row → Type 0
-FitsThere rows result (To i) row = places ≤ misfit row (rowAt rows (i .0))
+FitsThere rows result (To i) row = misfit row (rowAt rows (i .0)) ≡ None
 FitsThere rows result Caller row = fits (entryAt row resultRegister) (resultEntry result) ≡ true
 
 abbrev pub Arrives : Type 0

@@ -1,5 +1,5 @@
 -- What the code needs of the rows that are lent: those that it reads lie in them.
-use Prim.Native.Nat.{ℕ, _+_, _*_, _≤_}
+use Prim.Native.Nat.{ℕ}
 use mathlib.Core.Path.{_≡_}
 use mathlib.Core.Bool.{Bool, true}
 use Rattle.flow.specs.declared.Destination.{Destination}
@@ -9,11 +9,7 @@ use Rattle.flow.specs.Edge.{edgeOf}
 use Rattle.v8.specs.declared.Instruction.{Instruction}
 use Rattle.v8.specs.declared.Reading.{Reading}
 use Rattle.v8.specs.declared.Reading.the-variants.{Read, Unread}
-use Rattle.checker.specs.Routine.{rowBytes}
-
--- row w lies in n bytes
-abbrev pub RowIn : ℕ → ℕ → Type 0
-RowIn w n = rowBytes * w + rowBytes ≤ n
+use Rattle.rows.specs.Geometry.{RowIn}
 
 -- the row where an edge ends, if it ends at a word, lies in n bytes
 abbrev pub EndIn : Destination → ℕ → Type 0

@@ -16,24 +16,29 @@ use Rattle.flow.specs.Edge.{edgeOf}
 use Rattle.flow.specs.Readings.{readingAt, examined}
 use Rattle.policy.specs.declared.Policy.{Policy}
 use Rattle.policy.specs.Policy.{policyOk}
+use Rattle.rows.specs.declared.Flaw.{Flaw}
+use Rattle.rows.specs.declared.Flaw.the-variants.{None, At}
 use Rattle.rows.specs.declared.Row.{Row}
 use Rattle.rows.specs.Entry.{fits}
-use Rattle.rows.specs.Row.{entryAt, rowWith, entryFormed, formFault, misfit, places}
+use Rattle.rows.specs.Geometry.{rowBytes, entryBytes}
+use Rattle.rows.specs.Flaw.{flawless}
+use Rattle.rows.specs.Row.{entryAt, rowWith, entryFormed, formFault, misfit}
 use Rattle.rules.specs.declared.Change.{Change}
 use Rattle.rules.specs.declared.Change.the-variants.{Writes, Keeps, Breaks}
 use Rattle.rules.specs.Change.{changeOf}
 use Rattle.rules.specs.Narrow.{RowLeft, left, nothing, narrowRow}
 use Rattle.checker.specs.declared.Answer.{Answer}
 use Rattle.checker.specs.Answer.{accepted, refuse, andThen, need, passOf}
-use Rattle.checker.specs.Routine.{Routine, routineOf, count, rowAt, entryRow, resultEntry, rowBytes, entryBytes}
+use Rattle.checker.specs.Routine.{Routine, routineOf, count, rowAt, entryRow, resultEntry}
 
 -- r8, which has the result
 abbrev pub resultRegister : ℕ
 resultRegister = 8
 
--- a search for the lowest register at fault found one, which is named
-abbrev pub unlessFault : ℕ → ℕ → ℕ → Answer
-unlessFault number w r = cond (ltb r places) (refuse number w r) accepted
+-- a row's lowest place that has a flaw is named
+abbrev pub unlessFault : ℕ → ℕ → Flaw → Answer
+unlessFault number w None = accepted
+unlessFault number w (At place) = refuse number w place
 
 -- "20 policy breaks a rule above"
 abbrev pub policyPass : Policy → Answer
@@ -43,7 +48,7 @@ policyPass p = need (policyOk p) badPolicy 0 0
 unfoldable pub shapeOk : Policy → ℕ → List ℕ → List ℕ → List ℕ → Bool
 shapeOk p n rows entry result =
     leb 1 n && leb n mostWords && eqb (length rows) (rowBytes * n) && eqb (length entry) rowBytes && eqb (length result) entryBytes
-    && eqb (formFault (p .regions .count) (p .regions .sizes) entry 0) places
+    && flawless (formFault (p .regions .count) (p .regions .sizes) entry 0)
     && entryFormed (p .regions .count) (p .regions .sizes) result 0
 
 abbrev pub shapePass : Policy → ℕ → List ℕ → List ℕ → List ℕ → Answer

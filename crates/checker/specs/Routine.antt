@@ -7,6 +7,7 @@ use Rattle.policy.specs.declared.Policy.{Policy}
 use Rattle.flow.specs.Readings.{readingsOf}
 use Rattle.rows.specs.declared.Entry.{Entry}
 use Rattle.rows.specs.declared.Row.{Row}
+use Rattle.rows.specs.Geometry.{rowBytes}
 use Rattle.rows.specs.Row.{entryOf, rowOf}
 
 -- what is handed in, the words as they are read
@@ -23,13 +24,6 @@ routineOf p words rows entry result = record { policy = p; readings = readingsOf
 -- how many words there are
 abbrev pub count : Routine → ℕ
 count t = length (t .readings)
-
--- how many bytes a row has, and an entry
-abbrev pub rowBytes : ℕ
-rowBytes = 392
-
-abbrev pub entryBytes : ℕ
-entryBytes = 12
 
 -- word w's row
 abbrev pub rowAt : List ℕ → ℕ → Row

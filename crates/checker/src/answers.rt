@@ -3,11 +3,9 @@ ghost use mathlib.Core.Path.{_≡_};
 ghost use Rattle.checker.specs.Answer.{accepted, refuse, need};
 ghost use Rattle.checker.specs.Passes.{unlessFault};
 use crate::Answer;
+use rows::Flaw;
 use v8::WordIndex;
 use v8::numbers::ACCEPTED;
-
-// How many places of a row are named: its registers and its note.
-pub const PLACES: u8 = 33;
 
 // The answer that nothing is broken.
 pub fn accept() -> Answer
@@ -41,12 +39,12 @@ pub fn need(holds: bool, number: u8, at: WordIndex) -> Answer
     refuse(number, at, 0)
 }
 
-// The place of a row that is at fault is named; 33 stands for none.
-pub fn unless_fault(number: u8, at: WordIndex, place: u8) -> Answer
-    ensures { λ r. ⌜ r ≡ unlessFault number (at .0) place ⌝ }
+// A row's lowest place that has a flaw is named.
+pub fn unless_fault(number: u8, at: WordIndex, flaw: Flaw) -> Answer
+    ensures { λ r. ⌜ r ≡ unlessFault number (at .0) flaw ⌝ }
 {
-    if place < PLACES {
-        return refuse(number, at, place);
+    match flaw {
+        Flaw::None => accept(),
+        Flaw::At(place) => refuse(number, at, place),
     }
-    accept()
 }

@@ -2,9 +2,10 @@
 ghost use mathlib.Core.Path.{_≡_};
 ghost use Prim.Native.Nat.{_≤_};
 ghost use lib.ListN.{length};
-ghost use Rattle.checker.specs.Routine.{entryBytes, rowAt};
+ghost use Rattle.rows.specs.Geometry.{entryBytes, RowIn};
+ghost use Rattle.checker.specs.Routine.{rowAt};
 ghost use Rattle.checker.specs.Passes.{arrive};
-ghost use Rattle.checker.specs.Lent.{RowIn, EndIn};
+ghost use Rattle.checker.specs.Lent.{EndIn};
 use crate::Answer;
 use crate::answers::accept;
 use crate::answers::refuse;
@@ -13,6 +14,7 @@ use flow::Destination;
 use rows::Row;
 use rows::entry_at;
 use rows::fits;
+use rows::geometry::ROW_BYTES;
 use rows::misfit;
 use rows::read_entry;
 use rows::read_row;
@@ -20,8 +22,6 @@ use v8::WordIndex;
 use v8::numbers::EDGE_MISFIT;
 use v8::numbers::RESULT_MISFIT;
 
-// How many bytes a row has.
-pub const ROW_BYTES: usize = 392;
 // r8, which has the result.
 const RESULT: u8 = 8;
 
@@ -41,8 +41,8 @@ pub fn arrive(rows: &[u8], result: &[u8], at: WordIndex, to: Destination, row: R
 {
     match to {
         Destination::To(next) => {
-            let place = misfit(row, rows, ROW_BYTES * next.0 as usize);
-            unless_fault(EDGE_MISFIT, at, place)
+            let flaw = misfit(row, rows, ROW_BYTES * next.0 as usize);
+            unless_fault(EDGE_MISFIT, at, flaw)
         }
         Destination::Caller => {
             let asked = read_entry(result, 0);

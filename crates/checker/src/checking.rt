@@ -3,9 +3,7 @@ ghost use mathlib.Core.Path.{_≡_};
 ghost use lib.ListN.{length};
 ghost use Rattle.checker.specs.Passes.{shapeOk, checkOf};
 use crate::Answer;
-use crate::answers::PLACES;
 use crate::answers::refuse;
-use crate::arrival::ROW_BYTES;
 use crate::looking::word_pass;
 use crate::passes::entry_pass;
 use crate::passes::flow_pass;
@@ -15,15 +13,15 @@ use flow::readings::examine_all;
 use flow::readings::read_all;
 use policy::Policy;
 use rows::entry_formed;
+use rows::flawless;
 use rows::form_fault;
+use rows::geometry::ENTRY_BYTES;
+use rows::geometry::ROW_BYTES;
 use v8::WordIndex;
 use v8::numbers::ACCEPTED;
 use v8::numbers::BAD_POLICY;
 use v8::numbers::BAD_SHAPE;
 use v8::numbers::MOST_WORDS;
-
-// How many bytes an entry has.
-const ENTRY_BYTES: usize = 12;
 
 // Whether words, rows, entry row and result entry are as many as they must be, and the last two
 // well formed.
@@ -46,9 +44,9 @@ fn shape_ok(policy: Policy, words: &[u32], rows: &[u8], entry: &[u8], result: &[
     if result.len() != ENTRY_BYTES {
         return false;
     }
-    let fault = form_fault(policy.regions.count, &policy.regions.sizes, entry, 0);
+    let flaw = form_fault(policy.regions.count, &policy.regions.sizes, entry, 0);
     let formed = entry_formed(policy.regions.count, &policy.regions.sizes, result, 0);
-    (fault == PLACES) & formed
+    flawless(flaw) & formed
 }
 
 // Checks a routine: the first condition that is broken, with the word and the register named, or 0 0 0

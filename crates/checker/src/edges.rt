@@ -4,7 +4,7 @@ ghost use Prim.Native.Nat.{_<_, _≤_};
 ghost use lib.ListN.{length};
 ghost use Rattle.v8.specs.Numbers.{mostWords};
 ghost use Rattle.v8.specs.declared.Reading.the-variants.{Read};
-ghost use Rattle.checker.specs.Routine.{entryBytes};
+ghost use Rattle.rows.specs.Geometry.{entryBytes};
 ghost use Rattle.checker.specs.Passes.{changeBy, cross, narrowedEdge, edges};
 ghost use Rattle.checker.specs.Lent.{EndIn, EdgesIn};
 use crate::Answer;

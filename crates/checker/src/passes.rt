@@ -5,19 +5,18 @@ ghost use Prim.Native.Nat.{_*_, _≤_};
 ghost use lib.ListN.{length};
 ghost use Rattle.v8.specs.Numbers.{mostWords};
 ghost use Rattle.flow.specs.Readings.{readingsOf, Reads, Examines};
+ghost use Rattle.rows.specs.Geometry.{rowBytes, RowIn};
 ghost use Rattle.checker.specs.Answer.{passOf};
-ghost use Rattle.checker.specs.Routine.{rowBytes};
 ghost use Rattle.checker.specs.Passes.{rowPass, ifRead, readPass, flowPass, entryPass};
-ghost use Rattle.checker.specs.Lent.{RowIn};
 use crate::Answer;
-use crate::answers::PLACES;
 use crate::answers::accept;
 use crate::answers::refuse;
 use crate::answers::unless_fault;
-use crate::arrival::ROW_BYTES;
 use crate::landing::flow_at;
 use policy::Policy;
 use rows::formed_at;
+use rows::geometry::PLACES;
+use rows::geometry::ROW_BYTES;
 use rows::misfit;
 use rows::read_row;
 use v8::Reading;
@@ -109,6 +108,6 @@ pub fn entry_pass(rows: &[u8], entry: &[u8]) -> Answer
     requires { ⌜ RowIn 0 (length (now rows)) × RowIn 0 (length (now entry)) ⌝ }
     ensures { λ r. ⌜ r ≡ entryPass (now (rows .entry)) (now (entry .entry)) ⌝ }
 {
-    let place = misfit(read_row(entry, 0), rows, 0);
-    unless_fault(ENTRY_MISFIT, WordIndex(0), place)
+    let flaw = misfit(read_row(entry, 0), rows, 0);
+    unless_fault(ENTRY_MISFIT, WordIndex(0), flaw)
 }

@@ -5,13 +5,14 @@ use native.Mathlib.Nat.{le-antisymm}
 use native.Mathlib.Omega.{arith}
 use lib.ListN.{length, take, length-set}
 use borrow.Author.Needs.{needs}
+use Rattle.bundle.specs.Layout.{mostGiven}
 use Rattle.bundle.specs.Bundle.{wordsFrom}
 use Rattle.bundle.proofs.Words.{words-more}
 use Rattle.bundle.proofs.answering.words_from.Statement.{statement}
 use Rattle.bundle.proofs.answering.words_from.Tie as tie
 
 abbrev Inv-loop : tie.InvT-loop
-Inv-loop bytes at count words₀ i₀ words i = (i ≤ count) × (133 ≡ length words) × (take i words ≡ wordsFrom bytes at i)
+Inv-loop bytes at count words₀ i₀ words i = (i ≤ count) × (mostGiven ≡ length words) × (take i words ≡ wordsFrom bytes at i)
 
 abbrev μ-loop : tie.MeasureT-loop
 μ-loop bytes at count words₀ i₀ words i = count - i

@@ -2,7 +2,7 @@
 use mathlib.Core.Bool.{and-false}
 use borrow.Author.Tests.{le-leb, lt-leb, eq-eqb, ne-eqb}
 use Rattle.v8.specs.Numbers.{mostWords}
-use Rattle.checker.specs.Routine.{rowBytes, entryBytes}
+use Rattle.rows.specs.Geometry.{rowBytes, entryBytes}
 use Rattle.checker.specs.Passes.{shapeOk}
 use borrow.Author.Needs.{needs}
 use Rattle.checker.proofs.checking.shape_ok.Statement.{statement}
@@ -37,18 +37,23 @@ form-fault-requires c κs = search needs
 entry-formed-requires : tie.Need-entry-formed-requires
 entry-formed-requires c κs = search needs
 
+flawless-requires : tie.Need-flawless-requires
+flawless-requires c κs = search needs
+
 returns-6 : tie.Need-returns-6
 unfolding shapeOk
 returns-6 c =
-    let i = c .before .before .before .before .before .before in
+    let fault = c .before .before .before .before in
+    let i = fault .before .before .before in
     rw (
       le-leb 1 _ (i .before .before .before .before .if1 .left),
       le-leb _ mostWords (i .before .before .before .if2 .left),
       eq-eqb _ _ (i .before .before .if3 .left),
       eq-eqb _ rowBytes (i .before .if4 .left),
       eq-eqb _ entryBytes (i .if5 .left),
-      ← c .before .before .before .form-fault .ensures,
-      ← c .entry-formed .ensures,
+      ← fault .form-fault .ensures,
+      ← c .flawless .ensures,
+      ← c .before .entry-formed .ensures,
     )
 
 pub shape-ok-spec : {M : Type 1} → statement M
@@ -63,4 +68,5 @@ shape-ok-spec =
     returns-5
     form-fault-requires
     entry-formed-requires
+    flawless-requires
     returns-6)

@@ -8,10 +8,11 @@ use native.Mathlib.Omega.{arith}
 use denote.Ref.{now}
 use borrow.Author.Needs.{needs}
 use Rattle.v8.specs.Numbers.{badRow}
-use Rattle.v8.specs.Search.{first, first-here, first-next, first-end}
-use Rattle.rows.specs.Row.{brokenAt, places, formFault}
+use Rattle.rows.specs.Geometry.{rowBytes, places}
+use Rattle.rows.specs.Flaw.{flawFrom}
+use Rattle.rows.specs.Row.{brokenAt, formFault}
+use Rattle.rows.proofs.LowestFlaw.{flaw-here, flaw-next, flaw-end}
 use Rattle.checker.specs.Answer.{accepted, refuse, passOf}
-use Rattle.checker.specs.Routine.{rowBytes}
 use Rattle.checker.specs.Passes.{rowPass}
 use Rattle.checker.proofs.Passing.{passFrom, pass-start, pass-here, pass-next, pass-end, row-broken, row-formed}
 use Rattle.checker.proofs.passes.row_pass.Statement.{statement}
@@ -20,8 +21,8 @@ use Rattle.checker.proofs.passes.row_pass.Tie as tie
 abbrev Inv-loop : tie.InvT-loop
 Inv-loop rows count policy at place₀ place =
     (place ≤ places)
-    × (formFault (policy .regions) (policy .sizes) rows (rowBytes * at .0)
-    ≡ first (brokenAt (policy .regions) (policy .sizes) rows (rowBytes * at .0)) place places)
+    × (formFault (policy .regions .count) (policy .regions .sizes) rows (rowBytes * at .0)
+    ≡ flawFrom (brokenAt (policy .regions .count) (policy .regions .sizes) rows (rowBytes * at .0)) place)
 
 abbrev μ-loop : tie.MeasureT-loop
 μ-loop rows count policy at place₀ place = places - place
@@ -58,9 +59,9 @@ loop-less c = search needs
 
 loop-again : tie.Need-loop-again Inv-loop μ-loop Inv-rows μ-rows
 loop-again c =
-    let s = c .before .before .before .before .before in
-    let sound = ap not (sym (c .before .formed-at .ensures)) ∙ c .if2 .left in
-    (omega arith, s .before .loop .inv .1 ∙ first-next _ _ _ (s .loop-test .taken) sound)
+    let at-test = c .before .before .before .before .before in
+    let formed = ap not (sym (c .before .formed-at .ensures)) ∙ c .if2 .left in
+    (omega arith, at-test .before .loop .inv .1 ∙ flaw-next _ _ (at-test .loop-test .taken) formed)
 
 add-t14 : tie.Need-add-t14 Inv-loop μ-loop Inv-rows μ-rows
 add-t14 c = search needs
@@ -70,38 +71,38 @@ rows-less c = search needs
 
 rows-again : tie.Need-rows-again Inv-loop μ-loop Inv-rows μ-rows
 rows-again c =
-    let l = c .before in
-    let o = l .before .before in
-    let r = o .before .before .before in
-    let a = r .before .before .args in
-    let none = l .before .loop .inv .1 ∙ first-end _ _ _ (l .loop-test .left) in
-    let formed = row-formed (a .t1) (now (a .rows)) _ _ none (l .loop-test .left) in
-    (omega arith, r .rows .inv .1 ∙ pass-next _ _ _ accepted formed (o .if1 .taken) refl)
+    let at-end = c .before in
+    let at-test = at-end .before .before in
+    let at-rows = at-test .before .before .before in
+    let a = at-rows .before .before .args in
+    let none = at-end .before .loop .inv .1 ∙ flaw-end _ _ (at-end .loop-test .left) in
+    let formed = row-formed (a .t1) (now (a .rows)) _ none in
+    (omega arith, at-rows .rows .inv .1 ∙ pass-next _ _ _ accepted formed (at-test .if1 .taken) refl)
 
 refuse-requires : tie.Need-refuse-requires Inv-loop μ-loop Inv-rows μ-rows
 refuse-requires c κs = search needs
 
 returns : tie.Need-returns Inv-loop μ-loop Inv-rows μ-rows
 returns c =
-    let m = c .before .before .before .before in
-    let r = m .before .before .before in
-    let a = r .before .before .args in
+    let at-end = c .before .before .before .before in
+    let at-rows = at-end .before .before .before in
+    let a = at-rows .before .before .args in
     c .refuse .ensures
     ∙ ⊎-elim
     (λ l. absurd (omega (arith, l .0 .left, c .before .if3 .taken)))
     (λ b.
-    let lowest = b .1 .inv .1 ∙ first-here _ _ _ (b .2 .taken) (ap not (sym (b .6 .ensures)) ∙ b .7 .taken) in
-    let broken = row-broken (a .t1) (now (a .rows)) _ _ lowest (b .2 .taken) in
-    ap (refuse badRow (r .rows .at .0)) (b .8) ∙ sym (r .rows .inv .1 ∙ pass-here _ _ _ _ broken (b .0 .taken) (λ z. absurd (omega (arith, z)))))
-    (m .if1 .came)
+    let lowest = b .1 .inv .1 ∙ flaw-here _ _ (b .2 .taken) (ap not (sym (b .6 .ensures)) ∙ b .7 .taken) in
+    let broken = row-broken (a .t1) (now (a .rows)) _ _ lowest in
+    ap (refuse badRow (at-rows .rows .at .0)) (b .8) ∙ sym (at-rows .rows .inv .1 ∙ pass-here _ _ _ _ broken (b .0 .taken) (λ z. absurd (omega (arith, z)))))
+    (at-end .if1 .came)
 
 accept-requires : tie.Need-accept-requires Inv-loop μ-loop Inv-rows μ-rows
 accept-requires c κs = search needs
 
 returns-2 : tie.Need-returns-2 Inv-loop μ-loop Inv-rows μ-rows
 returns-2 c =
-    let m = c .before .before .before .before in
-    c .accept .ensures ∙ sym (m .before .before .before .rows .inv .1 ∙ pass-end _ _ _ (c .before .if3 .left))
+    let at-rows = c .before .before .before .before .before .before .before in
+    c .accept .ensures ∙ sym (at-rows .rows .inv .1 ∙ pass-end _ _ _ (c .before .if3 .left))
 
 pub row-pass-spec : {M : Type 1} → statement M
 row-pass-spec =
