@@ -3,8 +3,9 @@
 ghost use mathlib.Core.Path.{_≡_};
 ghost use mathlib.Core.Bool.{true};
 ghost use Prim.Native.Nat.{_<_};
+ghost use lib.ListN.{set};
 ghost use Rattle.policy.specs.Policy.{policyOk};
-ghost use Rattle.policy.specs.Build.{emptyPolicy, fieldsWith, valuesWith, addRegionOf, addFieldOf};
+ghost use Rattle.policy.specs.Build.{emptyPolicy, addRegionOf, addFieldOf};
 use crate::Built;
 use crate::Field;
 use crate::Fields;
@@ -19,27 +20,26 @@ use v8::numbers::BAD_POLICY;
 use v8::numbers::BAD_SIZE;
 use v8::numbers::FULL;
 
-// The fields with f at a place.
-fn fields_with(mut fields: Fields, place: usize, f: Field) -> Fields
+// Puts a number at a place of an array of fields.
+fn put_byte(numbers: &mut [u8; 128], place: usize, n: u8)
     requires { ⌜ place < 128 ⌝ }
-    ensures { λ r. ⌜ r ≡ fieldsWith fields place f ⌝ }
+    ensures { λ _. ⌜ now (numbers .exit) ≡ set (now (numbers .entry)) place n ⌝ }
 {
-    fields.elements[place] = f.element;
-    fields.permissions[place] = f.permission;
-    fields.offsets[place] = f.offset.0;
-    fields.counts[place] = f.count;
-    fields
+    numbers[place] = n;
 }
 
-// The values with those of f at a place.
-fn values_with(mut values: Values, place: usize, f: Field) -> Values
+fn put_half(numbers: &mut [u16; 128], place: usize, n: u16)
     requires { ⌜ place < 128 ⌝ }
-    ensures { λ r. ⌜ r ≡ valuesWith values place f ⌝ }
+    ensures { λ _. ⌜ now (numbers .exit) ≡ set (now (numbers .entry)) place n ⌝ }
 {
-    values.targets[place] = f.target;
-    values.lows[place] = f.lo;
-    values.highs[place] = f.hi;
-    values
+    numbers[place] = n;
+}
+
+fn put_word(numbers: &mut [u32; 128], place: usize, n: u32)
+    requires { ⌜ place < 128 ⌝ }
+    ensures { λ _. ⌜ now (numbers .exit) ≡ set (now (numbers .entry)) place n ⌝ }
+{
+    numbers[place] = n;
 }
 
 impl Policy {
@@ -132,8 +132,13 @@ impl Policy {
             };
         }
         let place = 16 * r + count as usize;
-        self.fields = fields_with(self.fields, place, f);
-        self.values = values_with(self.values, place, f);
+        put_byte(&mut self.fields.elements, place, f.element);
+        put_byte(&mut self.fields.permissions, place, f.permission);
+        put_word(&mut self.fields.offsets, place, f.offset.0);
+        put_half(&mut self.fields.counts, place, f.count);
+        put_byte(&mut self.values.targets, place, f.target);
+        put_word(&mut self.values.lows, place, f.lo);
+        put_word(&mut self.values.highs, place, f.hi);
         regions.fields[r] = count + 1;
         self.regions = regions;
         Built {

@@ -1,8 +1,5 @@
 // Loads and stores (specs/Change.antt).
 ghost use mathlib.Core.Path.{_≡_};
-ghost use Prim.Native.Nat.{_<_};
-ghost use Rattle.policy.specs.Policy.{fieldAt};
-ghost use Rattle.rows.specs.Entry.{fieldEntry};
 ghost use Rattle.rules.specs.Change.{stores, accessed, accessChange};
 use crate::Change;
 use crate::Operands;
@@ -46,23 +43,6 @@ fn stores(a: Access) -> bool
     }
 }
 
-// What a load of the field at a place gives.
-fn held_at(policy: Policy, place: usize) -> Entry
-    requires { ⌜ place < 128 ⌝ }
-    ensures { λ r. ⌜ r ≡ fieldEntry (fieldAt policy place) ⌝ }
-{
-    field_entry(field_in(
-        &policy.fields.elements,
-        &policy.fields.permissions,
-        &policy.fields.offsets,
-        &policy.fields.counts,
-        &policy.values.targets,
-        &policy.values.lows,
-        &policy.values.highs,
-        place,
-    ))
-}
-
 // A load to rd or a store of it, whose entry is `e`, at the sum of a word's operands.
 pub fn access_change(policy: Policy, n: Note, a: Access, rd: u8, e: Entry, o: Operands) -> Change
     ensures { λ r. ⌜ r ≡ accessChange policy n a rd e o ⌝ }
@@ -85,7 +65,19 @@ pub fn access_change(policy: Policy, n: Note, a: Access, rd: u8, e: Entry, o: Op
         a,
         o,
     ) {
-        Reach::Inside(place) => accessed(n, a, rd, e, held_at(policy, place)),
+        Reach::Inside(place) => {
+            let f = field_in(
+                &policy.fields.elements,
+                &policy.fields.permissions,
+                &policy.fields.offsets,
+                &policy.fields.counts,
+                &policy.values.targets,
+                &policy.values.lows,
+                &policy.values.highs,
+                place,
+            );
+            accessed(n, a, rd, e, field_entry(f))
+        }
         Reach::Outside(number, named) => Change::Breaks(number, named),
     }
 }

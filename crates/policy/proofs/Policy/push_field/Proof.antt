@@ -1,11 +1,16 @@
 -- The tests of the add, one by one. The region exists, so it is one of the eight, and it has room, so the field has a place in the
 -- arrays; the next policy is the one defined.
-use Prim.Native.Nat.{_<_}
-use mathlib.Core.Path.{sym, _∙_}
+use Prim.Native.Nat.{ℕ, _<_}
+use mathlib.Core.Path.{_≡_, sym, _∙_}
+use mathlib.Core.Bool.{true, false}
+use lib.Dec.{leb}
 use native.Mathlib.Omega.{arith}
 use borrow.Author.Tests.{not-true, not-false, lt-leb, le-leb}
-use Rattle.policy.specs.Policy.{countOf, placeOf, endBefore, fieldFits}
-use Rattle.policy.specs.Build.{fieldNumber, built}
+use Rattle.v8.specs.Numbers.{acceptance}
+use Rattle.policy.specs.declared.Field.{Field}
+use Rattle.policy.specs.declared.Policy.{Policy}
+use Rattle.policy.specs.Policy.{sizeOf, countOf, placeOf, endBefore, fieldFollows, fieldFits, policyOk}
+use Rattle.policy.specs.Build.{withField, fieldNumber, built, addFieldOf}
 use Rattle.policy.proofs.WellFormed.{regions-at-most}
 use borrow.Author.Needs.{needs}
 use Rattle.policy.proofs.Policy.push_field.Statement.{statement}
@@ -18,6 +23,12 @@ below-8 c = omega (arith, regions-at-most _ (c .before .pre), c .if1 .left)
 -- with room in the region, the next field has a place
 place-below : (c : tie.Else3) → placeOf (c .before .before .before .before .before .before .before .before .before .before .before .before .args .region) (countOf (c .before .before .before .before .before .before .before .before .before .before .before .before .args .t1) (c .before .before .before .before .before .before .before .before .before .before .before .before .args .region)) < 128
 place-below c = omega (arith, below-8 (c .before .before .before .before .before .before .before .before .before .before .before), c .before .before .before .before .before .before .before .before .if2 .left)
+
+-- what the add gives where every test passes
+accepts : (p : Policy) (r : ℕ) (f : Field) → policyOk p ≡ true → leb (p .regions .count) r ≡ false → leb 16 (countOf p r) ≡ false
+    → fieldFollows (p .regions .count) (sizeOf p r) (endBefore p r (countOf p r)) f ≡ true → addFieldOf p r f ≡ record { policy = withField p r f; number = acceptance }
+unfolding built fieldNumber fieldFits
+accepts p r f a b c d = simp (a, b, c, d)
 
 returns : tie.Need-returns
 unfolding built fieldNumber
@@ -64,29 +75,50 @@ cast-place c = search needs
 add-place : tie.Need-add-place
 add-place c = search needs
 
-fields-with-requires : tie.Need-fields-with-requires
-fields-with-requires c κs = place-below (c .before)
+put-byte-requires : tie.Need-put-byte-requires
+put-byte-requires c κs = place-below (c .before)
 
-values-with-requires : tie.Need-values-with-requires
-values-with-requires c κs = place-below (c .before .before .before)
+put-byte-requires-2 : tie.Need-put-byte-requires-2
+put-byte-requires-2 c κs = place-below (c .before .before .before)
+
+put-word-requires : tie.Need-put-word-requires
+put-word-requires c κs = place-below (c .before .before .before .before .before)
+
+put-half-requires : tie.Need-put-half-requires
+put-half-requires c κs = place-below (c .before .before .before .before .before .before .before)
+
+put-byte-requires-3 : tie.Need-put-byte-requires-3
+put-byte-requires-3 c κs = place-below (c .before .before .before .before .before .before .before .before .before)
+
+put-word-requires-2 : tie.Need-put-word-requires-2
+put-word-requires-2 c κs = place-below (c .before .before .before .before .before .before .before .before .before .before .before)
+
+put-word-requires-3 : tie.Need-put-word-requires-3
+put-word-requires-3 c κs = place-below (c .before .before .before .before .before .before .before .before .before .before .before .before .before)
 
 add-regions : tie.Need-add-regions
-add-regions c = search needs
+add-regions c = record { fits = omega (arith, c .before .before .before .before .before .before .before .before .before .before .before .before .before .before .before .before .before .before .before .before .before .before .if2 .left) }
 
 element-write-regions : tie.Need-element-write-regions
-element-write-regions c = below-8 (c .before .before .before .before .before .before .before .before .before .before .before .before .before .before .before)
+element-write-regions c = below-8 (c .before .before .before .before .before .before .before .before .before .before .before .before .before .before .before .before .before .before .before .before .before .before .before .before .before)
 
 returns-4 : tie.Need-returns-4
-unfolding built fieldNumber fieldFits endBefore
-returns-4 c = simp (
-  c .values-with .ensures,
-  c .before .before .fields-with .ensures,
-  c .before .before .before .before .before .before .before .before .before .before .before .before .before .before .before .before .pre,
-  lt-leb _ _ (c .before .before .before .before .before .before .before .before .before .before .before .before .before .before .before .if1 .left),
-  lt-leb _ _ (c .before .before .before .before .before .before .before .before .before .before .before .before .if2 .left),
-  ← c .before .before .before .before .before .before .before .end-before .ensures,
-  sym (c .before .before .before .before .before .field-follows .ensures) ∙ not-false _ (c .before .before .before .before .if3 .left),
-)
+unfolding endBefore
+returns-4 c =
+    let accepted = c .before .before .before .before .before .before .before .before .before .before .before .before .before .before in
+    let room = accepted .before .before .before .before .before .before .before .before in
+    let there = room .before .before .before in
+    rw (
+      c .put-word3 .ensures,
+      c .before .before .put-word2 .ensures,
+      c .before .before .before .before .put-byte3 .ensures,
+      c .before .before .before .before .before .before .put-half .ensures,
+      c .before .before .before .before .before .before .before .before .put-word .ensures,
+      c .before .before .before .before .before .before .before .before .before .before .put-byte2 .ensures,
+      c .before .before .before .before .before .before .before .before .before .before .before .before .put-byte .ensures,
+    )
+    (sym (accepts _ _ _ (there .before .pre) (lt-leb _ _ (there .if1 .left)) (lt-leb _ _ (room .if2 .left))
+    (rw (← accepted .before .before .before .end-before .ensures) (sym (accepted .before .field-follows .ensures) ∙ not-false _ (accepted .if3 .left)))))
 
 pub push-field-spec : {M : Type 1} → statement M
 push-field-spec =
@@ -104,8 +136,13 @@ push-field-spec =
     mul-place
     cast-place
     add-place
-    fields-with-requires
-    values-with-requires
+    put-byte-requires
+    put-byte-requires-2
+    put-word-requires
+    put-half-requires
+    put-byte-requires-3
+    put-word-requires-2
+    put-word-requires-3
     add-regions
     element-write-regions
     returns-4)

@@ -1,7 +1,6 @@
 -- The operands and a stored register are set, and the access lies in a field, at one of the 128 places.
 use mathlib.Core.Path.{sym, _∙_}
 use Rattle.policy.specs.Policy.{fieldAt}
-use Rattle.rows.specs.Entry.{fieldEntry}
 use Rattle.rules.specs.Change.{accessChange}
 use Rattle.rules.proofs.Placed.{placed}
 use borrow.Author.Tests.{ne-eqb}
@@ -32,8 +31,13 @@ reach-of-requires c κs = search needs
 enum-known-place : tie.Need-enum-known-place
 enum-known-place c = search needs
 
-held-at-requires : tie.Need-held-at-requires
-held-at-requires c κs = placed _ _ _ _ _ _ _ _ (sym (c .before .before .before .reach-of .ensures) ∙ c .before .place .given .1)
+field-in-requires : tie.Need-field-in-requires
+field-in-requires c κs =
+    let reach = c .before .before .before .before .before .before .before .before .before .before .before in
+    placed _ _ _ _ _ _ _ _ (sym (reach .reach-of .ensures) ∙ c .before .before .before .before .before .before .before .before .before .place .given .1)
+
+field-entry-requires : tie.Need-field-entry-requires
+field-entry-requires c κs = search needs
 
 accessed-requires : tie.Need-accessed-requires
 accessed-requires c κs = search needs
@@ -42,13 +46,14 @@ enum-known-number : tie.Need-enum-known-number
 enum-known-number c = search needs
 
 returns-4 : tie.Need-returns-4
-unfolding accessChange fieldAt fieldEntry
+unfolding accessChange fieldAt
 returns-4 c =
-    let reach = c .before .before .before .before .before in
+    let held = c .before .before .before .before .before .before .before .before .before .before .before .before in
+    let reach = held .before .before in
     let stored = reach .before .before .before .before .before .before .before in
     let second = stored .before .before .before in
     rw
-    (ne-eqb _ 0 (second .before .before .if1 .left), ne-eqb _ 0 (second .if2 .left), ← stored .before .before .stores .ensures, stored .if3 .left, ← reach .reach-of .ensures, c .before .before .before .place .given .1, ← c .before .held-at .ensures)
+    (ne-eqb _ 0 (second .before .before .if1 .left), ne-eqb _ 0 (second .if2 .left), ← stored .before .before .stores .ensures, stored .if3 .left, ← reach .reach-of .ensures, held .place .given .1, ← c .before .before .field-in .ensures, ← c .before .field-entry .ensures)
     (c .accessed .ensures)
 
 returns-5 : tie.Need-returns-5
@@ -70,7 +75,8 @@ access-change-spec =
     returns-3
     reach-of-requires
     enum-known-place
-    held-at-requires
+    field-in-requires
+    field-entry-requires
     accessed-requires
     enum-known-number
     returns-4
