@@ -248,6 +248,13 @@ def text_shows_what_is_printed():
 
 @cases()
 def layout_is_one():
+    for what, made, expected in [
+            ("an entry", layout.entry_bytes((2, 7, 4, -2, 5)), "02070400 fffffffe 00000005"),
+            ("a field", layout.field_bytes((6, 3, 7, 0x102, 0x304, -2, 5)), "06030700 0102 0304 fffffffe 00000005"),
+            ("a note", layout.row_bytes(layout.row({}, (2, 31, -2)))[-8:], "021f0000 fffffffe"),
+            ("a row", layout.row_bytes(layout.row({1: (1, 0, 1, 2, 3)}))[:36], "01000800" + "0" * 16 + "010001000000000200000003" + "0" * 24),
+            ("a head", layout.bundle_bytes([(0x102, [])], layout.row({}), layout.NOTHING, [], [])[:12], "575452 0001 01 0000 0102 00 00")]:
+        yield f"the bytes of {what}", made == bytes.fromhex(expected), made.hex()
     yield "parts.py makes crates/answer/stdin", parts.return_then_nop() == read(ROOT, "crates", "answer", "stdin"), ""
     for name in NAMES:
         data = read(EXAMPLES, name, "bundle.bin")
