@@ -291,6 +291,9 @@ def accepted():
         yield f"{name} with a byte-order mark", made({name: mark + text}) == right, ""
         yield f"{name} with CR LF", made({name: text.replace(b"\n", b"\r\n")}) == right, ""
         yield f"{name} with UTF-8 in a comment", made({name: text + ("!" if name == ROUTINE else "#").encode() + " für\n".encode()}) == right, ""
+    rows = b"entry: r15 = return\nresult: unset\n0: as entry\n+1: slot\n"
+    none = made({POLICY: b"# nothing\n", ROWS: rows}, object_file([parts.RETURN, parts.NOP]))
+    yield "a policy without regions", layout.open_bundle(none)[0] == [], ""
     inserted = object_file([parts.NOP] + WORDS, [("next", 2)])
     rows = LABELLED.replace(b"0: as entry\n", b"0: as entry\n+1: as entry\n", 1)
     _, _, _, words, made_rows = layout.open_bundle(made({ROWS: rows}, inserted))
