@@ -58,6 +58,7 @@ SET = re.compile(rf"({NUM})(?:\.\.({NUM}))?(?: step ([0-9]+))?")
 FIELD = re.compile(rf"field ([\w-]+) at ({NUM}): ({NUM}) ([^,]+), ([^,]+?)(?:, ({NUM}) to ({NUM}))?")
 WORD = re.compile(r"([0-9]+)|\+([0-9]+)|([^\W\d][\w.$]*|[.$][\w.$]*)(?: ?\+ ?([0-9]+))?")
 SLOT = layout.row({})
+MOST_LISTED = 128  # words of a routine that lacks rows; more are not accepted
 
 
 # Lines
@@ -114,10 +115,17 @@ def read_policy(path):
 def add_policy_line(regions, names, text):
     if text.startswith("region "):
         regions.append(region_of(text, [name for name, _, _ in regions]))
+        expect_room(len(regions), layout.ROOM_REGIONS, "regions")
     elif not regions:
         raise Problem("expected `region NAME SIZE` first")
     else:
         regions[-1][2].append(field_of(text, names))
+        expect_room(len(regions[-1][2]), layout.ROOM_FIELDS, "fields of a region")
+
+
+def expect_room(count, most, what):
+    if count > most:
+        raise Problem(f"a bundle has room for {most} {what}, and this is number {count}")
 
 
 def region_of(text, taken):
@@ -322,7 +330,7 @@ def read_rows(path, names, labels, words):
     lacking = [word for word in range(len(words)) if word not in rows.rows]
     if lacking:
         raise Problem(f"{name} has no row for {len(lacking)} of the {len(words)} words, from {rows.called(lacking[0])} on\n"
-                      + "\n".join(word_lines(words, labels, lacking)))
+                      + "\n".join(word_lines(words, labels, lacking)[:MOST_LISTED]))
     return rows.named["entry"], rows.named["result"], list(rows.rows.values())
 
 
@@ -340,6 +348,8 @@ def bundle_of(folder):
     """The bundle of a folder's three files."""
     regions = read_policy(os.path.join(folder, "policy.txt"))
     words, labels = assembly.assemble(folder)
+    if len(words) > layout.ROOM_WORDS:
+        raise Problem(f"routine.s has {len(words)} words: a bundle has room for {layout.ROOM_WORDS}")
     names = [name for name, _, _ in regions]
     entry, result, rows = read_rows(os.path.join(folder, "rows.txt"), names, labels, words)
     return layout.bundle_bytes(unnamed(regions), entry, result, words, rows)

@@ -17,6 +17,8 @@ ENTRY = struct.Struct(">BBBBii")        # kind, region, step, zero, lo, hi
 NOTE = struct.Struct(">BBHi")           # kind, register, zeros, number
 WORD = struct.Struct(">I")
 REGISTERS = 32
+# What the counts of a bundle have room for: regions, fields of a region, words.
+ROOM_REGIONS, ROOM_FIELDS, ROOM_WORDS = 255, 255, 65535
 ROW_SIZE = REGISTERS * ENTRY.size + NOTE.size
 
 UNSET, NUMBER, ADDRESS, OR_NULL, RETURN = range(5)
@@ -69,10 +71,6 @@ def field_bytes(field):
 
 def bundle_bytes(policy, entry, result, words, rows):
     """The bundle of its parts; entry is the entry row, result the result entry."""
-    for count, most, what in [(len(policy), 255, "regions"), (len(words), 65535, "words")] + [
-            (len(fields), 255, f"fields in region {k}") for k, (_, fields) in enumerate(policy)]:
-        if count > most:
-            raise Problem(f"{count} {what}: a bundle has room for {most}")
     parts = [HEAD.pack(MARK, VERSION, len(policy), len(words))]
     parts += [REGION.pack(size, len(fields), 0) for size, fields in policy]
     parts += [field_bytes(field) for _, fields in policy for field in fields]

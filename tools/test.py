@@ -252,8 +252,10 @@ def layout_is_one():
             ("an entry", layout.entry_bytes((2, 7, 4, -2, 5)), "02070400 fffffffe 00000005"),
             ("a field", layout.field_bytes((6, 3, 7, 0x102, 0x304, -2, 5)), "06030700 0102 0304 fffffffe 00000005"),
             ("a note", layout.row_bytes(layout.row({}, (2, 31, -2)))[-8:], "021f0000 fffffffe"),
-            ("a row", layout.row_bytes(layout.row({1: (1, 0, 1, 2, 3)}))[:36], "01000800" + "0" * 16 + "010001000000000200000003" + "0" * 24),
-            ("a head", layout.bundle_bytes([(0x102, [])], layout.row({}), layout.NOTHING, [], [])[:12], "575452 0001 01 0000 0102 00 00")]:
+            ("a row", layout.row_bytes(layout.row({1: (1, 0, 1, 2, 3)}))[:36],
+             "01000800" + "0" * 16 + "010001000000000200000003" + "0" * 24),
+            ("a head", layout.bundle_bytes([(0x102, [])], layout.row({}), layout.NOTHING, [], [])[:12],
+             "575452 0001 01 0000 0102 00 00")]:
         yield f"the bytes of {what}", made == bytes.fromhex(expected), made.hex()
     yield "parts.py makes crates/answer/stdin", parts.return_then_nop() == read(ROOT, "crates", "answer", "stdin"), ""
     for name in NAMES:
@@ -325,8 +327,10 @@ MISTAKES = [
     (POLICY, b"at 32", b"at -1", r"policy.txt, line 3: an offset must be a number from 0 to 65535"),
     (POLICY, b"999999", b"2147483648", r"policy.txt, line 3: the highest value must be a number from -2147483648 to 2147483647"),
     (POLICY, b"0 to 999999", b"0 to", r"policy.txt, line 3: expected `field NAME at OFFSET"),
-    (POLICY, b"region line", b"".join(b"region r_%d 8\n" % k for k in range(254)) + b"region line", r"256 regions: a bundle has room for 255"),
-    (POLICY, b"region line", b"  field x at 36: 1 signed byte, read\n" * 255 + b"region line", r"257 fields in region 0: a bundle has room for 255"),
+    (POLICY, b"region line", b"".join(b"region r_%d 8\n" % k for k in range(254)) + b"region line",
+     r"policy.txt, line 258: a bundle has room for 255 regions"),
+    (POLICY, b"region line", b"  field x at 36: 1 signed byte, read\n" * 255 + b"region line",
+     r"policy.txt, line 257: a bundle has room for 255 fields of a region"),
     (ROWS, b"6: slot", b"6: slot # \x80", r"rows.txt, line 9: byte 80 "),
     (ROWS, None, b"", r"rows.txt is empty"),
     (ROWS, None, b"# nothing\n", r"rows.txt has no line `entry:`"),
@@ -362,7 +366,8 @@ MISTAKES = [
     (ROWS, b"8: slot", b"nxt: slot", r"rows.txt, line \d+: routine.s has no label `nxt`; it has next"),
     (ROWS, b"6: slot\n", b"", r"rows.txt has no row for 1 of the 9 words, from word 6 on\n"),
     (ROWS, b"5: as before", b"4: as before", r"rows.txt, line \d+: a second row of word 4"),
-    (ROWS, b"0: as entry\n1: as", b"1: as entry\n0: as", r"rows.txt, line \d+: the row of word 0 stands below that of word 1 \(next\)"),
+    (ROWS, b"0: as entry\n1: as", b"1: as entry\n0: as",
+     r"rows.txt, line \d+: the row of word 0 stands below that of word 1 \(next\)"),
     (ROWS, b"8: slot", DIGITS + b": slot", r"rows.txt, line \d+: a word must be a number from 0 to 65535"),
     (ROWS, b"result: 30", b"result:\n  30\n  31", r"rows.txt, lines 2 to 4: an entry is "),
     (ROWS, b"r8 = haulier", b"r8 = \x1b[2Jhaulier", r"rows.txt, line 1: an entry is .*\\x1b\[2J"),
@@ -386,7 +391,8 @@ def files_that_are_none():
         with routine() as folder, assembler_giving(OBJECT):
             os.remove(os.path.join(folder, file))
             said = problem_of(folder)
-            yield f"{file} is missing", said == f"{file}: No such file or directory" and "bundle.bin" not in os.listdir(folder), said
+            right = said == f"{file}: No such file or directory" and "bundle.bin" not in os.listdir(folder)
+            yield f"{file} is missing", right, said
             os.mkdir(os.path.join(folder, file))
             said = problem_of(folder)
             yield f"{file} is a folder", said == f"{file} is no file", said
@@ -419,6 +425,7 @@ OBJECTS = [
     ("an object file for another machine", OBJECT[:18] + b"\0\x3e" + OBJECT[20:], NONE),
     ("an object file that is linked", OBJECT[:16] + b"\0\2" + OBJECT[18:], NONE),
     ("no words", object_file([]), "routine.s has no words: its .text is empty"),
+    ("too many words", object_file([parts.NOP] * 65536), "routine.s has 65536 words: a bundle has room for 65535"),
     ("no whole words", object_file(WORDS, tail=b"\1\2\3"), "routine.s gives 39 bytes, which are no whole words"),
     (".data", object_file(WORDS, more=[DATA]), "routine.s: 4 bytes in .data: a bundle has room for the words of .text alone"),
     (".rodata", object_file(WORDS, more=[(".rodata", 1, 2, b"1")]), "routine.s: 1 bytes in .rodata: a bundle has room"),
@@ -482,7 +489,8 @@ def mistakes_that_the_assembler_finds():
 def labels_of_the_assembler():
     with routine() as folder:
         write(LABELLED, folder, ROWS)
-        yield "words by label, assembled", problem_of(folder) == "" and read(folder, "bundle.bin") == read(EXAMPLES, "name", "bundle.bin"), ""
+        right = problem_of(folder) == "" and read(folder, "bundle.bin") == read(EXAMPLES, "name", "bundle.bin")
+        yield "words by label, assembled", right, ""
 
 
 # How the tools are called, and where
@@ -518,7 +526,8 @@ def bundles_to_explain():
         yield "explain.py with another policy.txt", status == 0 and "(policy.txt is not the policy of bundle.bin" in out, out + said
         write(b"region \xff\n", folder, POLICY)
         status, out, said = called("explain.py", folder, "7", "6", "10")
-        yield "explain.py with a policy.txt that is no UTF-8", said.startswith("explain.py: policy.txt, line 1: byte FF ") and status == 1, said
+        right = one_line("explain.py", status, out, said) and said.startswith("explain.py: policy.txt, line 1: byte FF ")
+        yield "explain.py with a policy.txt that is no UTF-8", right, said
         status, out, said = called("explain.py", os.path.join(folder, "bundle.bin"), "7", "6", "10")
         yield "explain.py with a bundle alone", status == 0 and "wrong: byte 30 is not in field 0 of region0" in out, out + said
 
@@ -537,7 +546,8 @@ def bundles_to_list():
         os.remove(os.path.join(folder, POLICY))
         with only_tool("other", ""):
             status, out, said = called("bundle.py", "--list", folder)
-        yield "bundle.py --list without policy.txt and objdump", status == 0 and "r8 = region0+0" in out and "(no disassembly" in out, out + said
+        right = status == 0 and "r8 = region0+0" in out and "(no disassembly" in out
+        yield "bundle.py --list without policy.txt and objdump", right, out + said
 
 
 @cases()
