@@ -4,12 +4,16 @@
     tools/bundle.py FOLDER            reads FOLDER/routine.s, policy.txt and rows.txt, writes FOLDER/bundle.bin
     tools/bundle.py --list FOLDER     prints each word of FOLDER/bundle.bin with its disassembly and its row
 
-Needs GNU binutils for SPARC (Debian: binutils-sparc64-linux-gnu). It writes down what the files say and
-does not check it: to accept or refuse a bundle is the bundle program's task. On a file that cannot be
-written down it prints the file, the line and the reason, writes nothing and ends with status 1.
+To make a bundle needs GNU as for SPARC (Debian: binutils-sparc64-linux-gnu); to list one, its objdump for
+the disassembly, which is left out otherwise. It writes down what the files say and does not check it: to
+accept or refuse a bundle is the bundle program's task. On a file that cannot be written down it prints the
+file, the line and the reason, and ends with status 1; there is then no bundle.bin, also none of before.
 
-In policy.txt and rows.txt, `#` begins a comment and an indented line goes on with the line above, except
-that each `field` is a line of its own. Numbers are decimal, or hexadecimal after 0x.
+The files are UTF-8. In policy.txt and rows.txt, `#` begins a comment and an indented line goes on with the
+line above, except that each `field` is a line of its own. Numbers are decimal, or hexadecimal after 0x.
+
+routine.s
+    for `as -32 -Av8`: words in .text alone, with nothing left for a linker
 
 policy.txt
     region NAME SIZE
@@ -22,9 +26,12 @@ policy.txt
 rows.txt
     entry: ROW          what the terminal hands over
     result: ENTRY       what must be in r8 at the return
-    0: ROW              one line for each word, from 0 on
+    WORD: ROW           one line for each word, ascending
+  WORD         its number, from 0 on; a label of routine.s; LABEL+N, so many words after it; or +1, the word
+               after that of the row above
   ROW          parts with commas between; registers that are not named are unset, r0 is 0, the note is none
-    as entry, as before, as N     first part: begin with the entry row, the row above, row N (above)
+    as entry, as before, as WORD  first part: begin with the entry row, the row above, a word's row (above);
+                                  not with a `slot`
     REGISTER = ENTRY              r0 to r31, or %g0 to %i7
     note none, note set           condition codes not set; set
     note compared REGISTER N      set by comparing that register's present value with the number N
@@ -34,70 +41,57 @@ rows.txt
 """
 import os
 import re
-import struct
-import subprocess
 import sys
-import tempfile
 
-BINUTILS = "sparc64-linux-gnu-"
-MARK = b"WTR"
-VERSION = 1
-UNSET, NUMBER, ADDRESS, OR_NULL, RETURN = range(5)
-NOTE_NONE, NOTE_SET, NOTE_COMPARED = range(3)
-SINGLE_STEP = 8
-REGISTERS = ["%" + bank + str(k) for bank in "goli" for k in range(8)]
-PERMISSIONS = {"read": 1, "write": 2, "read and write": 3}
-# Elements 1 to 5: name, lowest and highest value.
-ELEMENTS = {
-    "unsigned byte": (1, 0, 255),
-    "signed byte": (2, -128, 127),
-    "unsigned half": (3, 0, 65535),
-    "signed half": (4, -32768, 32767),
-    "signed word": (5, -2**31, 2**31 - 1),
-}
-FULL = (NUMBER, 0, 1, -2**31, 2**31 - 1)
-NOTHING = (UNSET, 0, 0, 0, 0)
-ZERO = (NUMBER, 0, SINGLE_STEP, 0, 0)
-NO_NOTE = (NOTE_NONE, 0, 0)
+sys.dont_write_bytecode = True
+import assembly
+import layout
+import script
+from layout import (ADDRESS, ELEMENTS, FULL, NO_NOTE, NOTE_COMPARED, NOTE_NONE, NOTE_SET, NOTHING, NUMBER, OR_NULL,
+                    PERMISSIONS, RETURN, RETURN_ADDRESS, SINGLE_STEP, TO_START, TO_START_OR_NULL, UNSET)
+from script import Problem
+
+REGISTERS = ["%" + bank + str(k) for bank in "goli" for k in range(layout.REGISTERS // 4)]
 RESERVED = {"unset", "return", "any", "or", "null", "entry", "result"}
-NUM = r"-?(?:0x[0-9a-fA-F]+|\d+)"
-SET = re.compile(rf"({NUM})(?:\.\.({NUM}))?(?: step (\d+))?")
+NUM = r"-?(?:0x[0-9a-fA-F]+|[0-9]+)"
+SET = re.compile(rf"({NUM})(?:\.\.({NUM}))?(?: step ([0-9]+))?")
 FIELD = re.compile(rf"field ([\w-]+) at ({NUM}): ({NUM}) ([^,]+), ([^,]+?)(?:, ({NUM}) to ({NUM}))?")
-
-
-class Problem(Exception):
-    """What is wrong, for the user."""
+WORD = re.compile(r"([0-9]+)|\+([0-9]+)|([^\W\d][\w.$]*|[.$][\w.$]*)(?: ?\+ ?([0-9]+))?")
+SLOT = layout.row({})
+MOST_LISTED = 128  # words of a routine that lacks rows; more are not accepted
 
 
 # Lines
 
 def lines_of(path, own_line=None):
-    """(line number, text) of each line, without comments; indented lines are joined to the one above
+    """(first line, last line, text) of each text, without comments; indented lines are joined to the one above
     unless they begin with the word own_line."""
     joined = []
-    with open(path) as file:
-        for number, raw in enumerate(file, 1):
-            text = " ".join(raw.split("#")[0].split())
-            if not text:
-                continue
-            if raw[0].isspace() and joined and not (own_line and text.startswith(own_line)):
-                joined[-1] = (joined[-1][0], joined[-1][1] + " " + text)
-            else:
-                joined.append((number, text))
+    for number, raw in enumerate(script.read_lines(path), 1):
+        text = " ".join(raw.split("#")[0].split())
+        if not text:
+            continue
+        if raw[0].isspace() and joined and not (own_line and text.startswith(own_line)):
+            first, _, above = joined[-1]
+            joined[-1] = (first, number, above + " " + text)
+        else:
+            joined.append((number, number, text))
     return joined
 
 
-def at_line(path, number, parse, *arguments):
+def at_lines(path, first, last, parse, *arguments):
     """parse(*arguments); a problem gets the file's name and the line."""
     try:
         return parse(*arguments)
     except Problem as problem:
-        raise Problem(f"{os.path.basename(path)}, line {number}: {problem}") from None
+        lines = f"line {first}" if first == last else f"lines {first} to {last}"
+        raise Problem(f"{os.path.basename(path)}, {lines}: {problem}") from None
 
 
 def whole(text, lowest, highest, what):
     """The number that text spells, within what the bundle has room for."""
-    value = int(text, 0) if re.fullmatch(NUM, text) and not re.fullmatch(r"-?0\d+", text) else None
+    spelled = re.fullmatch(NUM, text) and not re.fullmatch(r"-?0[0-9]+", text) and len(text) < 20
+    value = int(text, 0) if spelled else None
     if value is None or not lowest <= value <= highest:
         raise Problem(f"{what} must be a number from {lowest} to {highest}, not `{text}`")
     return value
@@ -111,20 +105,27 @@ def word_sized(text, what):
 
 def read_policy(path):
     lines = lines_of(path, own_line="field ")
-    names = [text.split()[1] for _, text in lines if text.startswith("region ")]
+    names = [text.split()[1] for _, _, text in lines if text.startswith("region ")]
     regions = []
-    for number, text in lines:
-        at_line(path, number, add_policy_line, regions, names, text)
+    for first, last, text in lines:
+        at_lines(path, first, last, add_policy_line, regions, names, text)
     return regions
 
 
 def add_policy_line(regions, names, text):
     if text.startswith("region "):
         regions.append(region_of(text, [name for name, _, _ in regions]))
+        expect_room(len(regions), layout.ROOM_REGIONS, "regions")
     elif not regions:
         raise Problem("expected `region NAME SIZE` first")
     else:
         regions[-1][2].append(field_of(text, names))
+        expect_room(len(regions[-1][2]), layout.ROOM_FIELDS, "fields of a region")
+
+
+def expect_room(count, most, what):
+    if count > most:
+        raise Problem(f"a bundle has room for {most} {what}, and this is number {count}")
 
 
 def region_of(text, taken):
@@ -155,7 +156,7 @@ def element_of(text, names):
     """Number, target, lowest and highest value of an element."""
     match = re.fullmatch(r"address(?:es)? of ([\w-]+)( or null)?", text)
     if match:
-        return 7 if match[2] else 6, index_of(match[1], names), 0, 0
+        return TO_START_OR_NULL if match[2] else TO_START, index_of(match[1], names), 0, 0
     singular = re.sub(r"halves$", "half", re.sub(r"(byte|word)s$", r"\1", text))
     if singular not in ELEMENTS:
         raise Problem(f"an element is one of {', '.join(ELEMENTS)}, address of REGION, address of REGION or null; "
@@ -170,67 +171,115 @@ def index_of(name, names):
     return names.index(name)
 
 
+def unnamed(regions):
+    """The policy as a bundle has it."""
+    return [(size, [field[1:] for field in fields]) for _, size, fields in regions]
+
+
 # Rows: a row is (list of 32 entries, note); an entry is (kind, region, step, lo, hi); a note (kind, register, number)
 
-def read_rows(path, names):
-    """Entry row, result entry, rows."""
-    named, rows = {}, []
-    for number, text in lines_of(path):
-        at_line(path, number, add_row_line, named, rows, names, text)
-    for key in ("entry", "result"):
-        if key not in named:
-            raise Problem(f"{os.path.basename(path)} has no line `{key}:`")
-    return named["entry"], named["result"], rows
+class Rows:
+    """The entry row and result entry by their names, and the rows by their words, as far as they are read. It knows the
+    names of the regions, the word of each label and how many words there are."""
 
+    def __init__(self, names, labels, count):
+        self.names, self.labels, self.count = names, labels, count
+        self.named, self.rows = {}, {}
 
-def add_row_line(named, rows, names, text):
-    key, colon, rest = (part.strip() for part in text.partition(":"))
-    if not colon or not re.fullmatch(r"entry|result|\d+", key):
-        raise Problem(f"expected `entry:`, `result:` or a word's number and a colon, not `{text}`")
-    if key in named:
-        raise Problem(f"a second line `{key}:`")
-    if key == "result":
-        named[key] = entry_of(rest, names)
-    elif key == "entry":
-        named[key] = row_of(rest, named, rows, names)
-    elif int(key) != len(rows):
-        raise Problem(f"the next row is that of word {len(rows)}, not {key}")
-    else:
-        rows.append(row_of(rest, named, rows, names))
-
-
-def row_of(text, named, rows, names):
-    entries, note = [ZERO] + [NOTHING] * 31, NO_NOTE
-    parts = [] if text == "slot" else [part.strip() for part in text.split(",") if part.strip()]
-    for place, part in enumerate(parts):
-        if part.startswith("as ") and place == 0:
-            entries, note = copied(part[3:], named, rows)
-        elif part.startswith("note "):
-            note = note_of(part[5:])
+    def add(self, text):
+        """Adds a line."""
+        key, colon, rest = (part.strip() for part in text.partition(":"))
+        if not colon or not (key in ("entry", "result") or WORD.fullmatch(key)):
+            raise Problem(f"expected `entry:`, `result:` or a word and a colon, not `{text}`")
+        if key in self.named:
+            raise Problem(f"a second line `{key}:`")
+        if key == "result":
+            self.named[key] = entry_of(rest, self.names)
+        elif key == "entry":
+            self.named[key] = self.row_of(rest)
         else:
-            register, equals, entry = part.partition("=")
-            if not equals:
-                raise Problem(f"expected `REGISTER = ENTRY` or `note ..`, not `{part}`")
-            entries[register_of(register.strip())] = entry_of(entry.strip(), names)
-    return entries, note
+            word = self.next_word(key)
+            self.rows[word] = self.row_of(rest)
+
+    def next_word(self, key):
+        """The word that a line's key names, which comes after those above."""
+        word, above = self.word_of(key), self.last()
+        if word in self.rows:
+            raise Problem(f"a second row of {self.called(word)}")
+        if word < above:
+            raise Problem(f"the row of {self.called(word)} stands below that of {self.called(above)}: rows ascend")
+        if word >= self.count:
+            raise Problem(f"there is no word {word}: routine.s has words 0 to {self.count - 1}")
+        return word
+
+    def last(self):
+        """The word of the row above; -1 if there is none."""
+        return max(self.rows, default=-1)
+
+    def word_of(self, text):
+        """The word that a text names."""
+        match = WORD.fullmatch(text)
+        if not match:
+            raise Problem(f"a word is its number, a label, LABEL+N or +1; not `{text}`")
+        number, after, label, distance = match.groups()
+        if label and label not in self.labels:
+            raise Problem(f"routine.s has no label `{label}`" + (f"; it has {', '.join(self.labels)}" if self.labels else ""))
+        start = self.labels[label] if label else self.last() if after else 0
+        return start + whole((number or after or distance or "0").lstrip("0") or "0", 0, 65535, "a word")
+
+    def called(self, word):
+        """A word with its labels."""
+        labels = [label for label, at in self.labels.items() if at == word]
+        return f"word {word}" + (f" ({', '.join(labels)})" if labels else "")
+
+    def row_of(self, text):
+        if text == "slot":
+            return SLOT
+        entries, note, seen = list(SLOT[0]), NO_NOTE, set()
+        parts = [part.strip() for part in text.split(",") if part.strip()]
+        for place, part in enumerate(parts):
+            if part.startswith("as ") and place == 0:
+                entries, note = self.copied(part[3:])
+                continue
+            what, value = part_of(part, self.names)
+            if what in seen:
+                raise Problem(f"{what if what == 'note' else f'r{what}'} is given twice")
+            seen.add(what)
+            if what == "note":
+                note = value
+            else:
+                entries[what] = value
+        return entries, note
+
+    def copied(self, source):
+        """The row that a row begins with."""
+        if source == "entry":
+            row, name = self.named.get(source), "the entry row"
+        else:
+            word = self.last() if source == "before" else self.word_of(source)
+            row, name = self.rows.get(word), f"the row of {self.called(word)}"
+        if row is None:
+            raise Problem(f"`as {source}` names no row above this line")
+        if row is SLOT:
+            raise Problem(f"`as {source}` names {name}, a `slot`, which says nothing: name the row that is meant")
+        return list(row[0]), row[1]
 
 
-def copied(source, named, rows):
-    if source == "entry" and "entry" in named:
-        entries, note = named["entry"]
-    elif source == "before" and rows:
-        entries, note = rows[-1]
-    elif source.isdigit() and int(source) < len(rows):
-        entries, note = rows[int(source)]
-    else:
-        raise Problem(f"`as {source}` names no row above this line")
-    return list(entries), note
+def part_of(text, names):
+    """The register, or `note`, that a part of a row is about, and the entry or note."""
+    if text.startswith("note "):
+        return "note", note_of(text[5:])
+    register, equals, entry = (part.strip() for part in text.partition("="))
+    if not equals:
+        raise Problem("`slot` stands alone in its row" if text == "slot" else "`as ..` stands first in its row"
+                      if text.startswith("as ") else f"expected `REGISTER = ENTRY` or `note ..`, not `{text}`")
+    return register_of(register), entry_of(entry, names)
 
 
 def register_of(text):
     if text in REGISTERS:
         return REGISTERS.index(text)
-    match = re.fullmatch(r"r(\d|[12]\d|3[01])", text)
+    match = re.fullmatch(r"r([0-9]|[12][0-9]|3[01])", text)
     if not match:
         raise Problem(f"a register is r0 to r31, or %g0 to %i7; not `{text}`")
     return int(match[1])
@@ -246,7 +295,7 @@ def note_of(text):
 
 
 def entry_of(text, names):
-    plain = {"unset": NOTHING, "return": (RETURN, 0, 0, 0, 0), "any number": FULL}
+    plain = {"unset": NOTHING, "return": RETURN_ADDRESS, "any number": FULL}
     if text in plain:
         return plain[text]
     if SET.fullmatch(text):
@@ -270,139 +319,77 @@ def set_of(text):
     return step, lo, hi
 
 
-# Words
-
-def run(tool, *arguments):
-    try:
-        done = subprocess.run([BINUTILS + tool, *arguments], capture_output=True, text=True)
-    except FileNotFoundError:
-        raise Problem(f"{BINUTILS}{tool} is not here: install GNU binutils for SPARC "
-                      "(Debian: binutils-sparc64-linux-gnu)") from None
-    if done.returncode != 0 or (tool == "as" and done.stderr):
-        raise Problem(f"{tool}: {done.stderr.strip()}")
-    return done.stdout
-
-
-def assemble(source):
-    """The words of the source's .text, all of them resolved."""
-    with tempfile.TemporaryDirectory() as scratch:
-        built, raw = os.path.join(scratch, "routine.o"), os.path.join(scratch, "routine.bin")
-        run("as", "-32", "-Av8", "-o", built, source)
-        if "OFFSET" in run("objdump", "-r", "-j", ".text", built):
-            raise Problem("routine.s uses a name that it does not define: " + run("objdump", "-r", built).split()[-1])
-        run("objcopy", "-O", "binary", "-j", ".text", built, raw)
-        with open(raw, "rb") as file:
-            code = file.read()
-    if len(code) % 4:
-        raise Problem(f"routine.s gives {len(code)} bytes, which are no whole words")
-    return [word for word, in struct.iter_unpack(">I", code)]
+def read_rows(path, names, labels, words):
+    """Entry row, result entry, rows."""
+    rows, name = Rows(names, labels, len(words)), os.path.basename(path)
+    for first, last, text in lines_of(path):
+        at_lines(path, first, last, rows.add, text)
+    for key in ("entry", "result"):
+        if key not in rows.named:
+            raise Problem(f"{name} has no line `{key}:`")
+    lacking = [word for word in range(len(words)) if word not in rows.rows]
+    if lacking:
+        raise Problem(f"{name} has no row for {len(lacking)} of the {len(words)} words, from {rows.called(lacking[0])} on\n"
+                      + "\n".join(word_lines(words, labels, lacking)[:MOST_LISTED]))
+    return rows.named["entry"], rows.named["result"], list(rows.rows.values())
 
 
-def disassemble(words):
-    """The text of each word; branch targets as word numbers. Needs objdump."""
-    with tempfile.NamedTemporaryFile(suffix=".bin") as raw:
-        raw.write(b"".join(struct.pack(">I", word) for word in words))
-        raw.flush()
-        shown = run("objdump", "-b", "binary", "-m", "sparc", "-EB", "-D", "-z", raw.name)
-    shown = re.findall(r"^ *[0-9a-f]+:\t(?:[0-9a-f]{2} ){4}\t(.*)$", shown, re.M)
-    texts = [" ".join(text.split("!")[0].split()) for text in shown]
-    return [with_target(index, word, text) for index, (word, text) in enumerate(zip(words, texts))]
-
-
-def target_of(index, word):
-    """The word that a Bicc at index may go to; None for other words."""
-    if word >> 30 != 0 or word >> 22 & 7 != 2:
-        return None
-    distance = word & 0x3FFFFF
-    return index + distance - (distance >> 21 << 22)
-
-
-def with_target(index, word, text):
-    target = target_of(index, word)
-    return text if target is None else f"{text.split()[0]} to word {target}"
+def word_lines(words, labels, lacking):
+    """Each word with its labels and its text; those without a row are marked."""
+    names = ["".join(f"{label}: " for label, at in labels.items() if at == k) for k in range(len(words))]
+    texts, wide = assembly.disassemble(words) or [""] * len(words), max(map(len, names))
+    return [f"  {k:3}  {names[k]:<{wide}}{word:08X}  {texts[k]:<32}  {'<- no row' if k in lacking else ''}".rstrip()
+            for k, word in enumerate(words)]
 
 
 # Bundle
 
-def entry_bytes(entry):
-    kind, region, step, lo, hi = entry
-    return struct.pack(">BBBBii", kind, region, step, 0, lo, hi)
-
-
-def row_bytes(row):
-    entries, (kind, register, number) = row
-    return b"".join(map(entry_bytes, entries)) + struct.pack(">BBHi", kind, register, 0, number)
-
-
-def field_bytes(field):
-    _, element, permission, target, offset, count, lo, hi = field
-    return struct.pack(">BBBBHHii", element, permission, target, 0, offset, count, lo, hi)
-
-
-def bundle_bytes(regions, entry, result, words, rows):
-    for count, most, what in [(len(regions), 255, "regions"), (len(words), 65535, "words")] + [
-            (len(fields), 255, f"fields in {name}") for name, _, fields in regions]:
-        if count > most:
-            raise Problem(f"{count} {what}: a bundle has room for {most}")
-    head = MARK + struct.pack(">HBH", VERSION, len(regions), len(words))
-    sizes = b"".join(struct.pack(">HBB", size, len(fields), 0) for _, size, fields in regions)
-    parts = [field_bytes(field) for _, _, fields in regions for field in fields]
-    code = b"".join(struct.pack(">I", word) for word in words)
-    return head + sizes + b"".join(parts) + row_bytes(entry) + entry_bytes(result) + code + b"".join(map(row_bytes, rows))
+def bundle_of(folder):
+    """The bundle of a folder's three files."""
+    regions = read_policy(os.path.join(folder, "policy.txt"))
+    words, labels = assembly.assemble(folder)
+    if len(words) > layout.ROOM_WORDS:
+        raise Problem(f"routine.s has {len(words)} words: a bundle has room for {layout.ROOM_WORDS}")
+    names = [name for name, _, _ in regions]
+    entry, result, rows = read_rows(os.path.join(folder, "rows.txt"), names, labels, words)
+    return layout.bundle_bytes(unnamed(regions), entry, result, words, rows)
 
 
 def make(folder):
-    """The bundle of a folder's three files."""
-    regions = read_policy(os.path.join(folder, "policy.txt"))
-    entry, result, rows = read_rows(os.path.join(folder, "rows.txt"), [name for name, _, _ in regions])
-    words = assemble(os.path.join(folder, "routine.s"))
-    if len(words) != len(rows):
-        raise Problem(f"routine.s has {len(words)} words and rows.txt {len(rows)} rows: there is one row for each word")
-    return bundle_bytes(regions, entry, result, words, rows)
-
-
-def open_bundle(data):
-    """Policy, entry row, result entry, words and rows of a bundle. The policy is a list of (size, fields), a field
-    (element, permission, target, offset, count, lo, hi)."""
+    """Writes a folder's bundle. The one of before is gone first, so that it is never taken for the new one."""
+    path = os.path.join(folder, "bundle.bin")
+    if os.path.lexists(path):
+        os.remove(path)
+    data = bundle_of(folder)
     try:
-        return unpacked(data)
-    except struct.error:
-        raise Problem("not a bundle: it is shorter than its counts say") from None
+        with open(path + ".new", "wb") as file:
+            file.write(data)
+        os.replace(path + ".new", path)
+    except OSError:
+        if os.path.exists(path + ".new"):
+            os.remove(path + ".new")
+        raise
 
 
-def unpacked(data):
-    mark, _, regions, count = struct.unpack_from(">3sHBH", data)
-    if mark != MARK:
-        raise Problem("not a bundle: it does not begin with WTR")
-    policy, start = policy_in(data, regions)
-    entry, result = row_in(data, start), entry_in(data, start + 392)
-    code = start + 392 + 12
-    words = list(struct.unpack_from(f">{count}I", data, code))
-    return policy, entry, result, words, [row_in(data, code + 4 * count + 392 * k) for k in range(count)]
+def read_bundle(path):
+    """A bundle's policy, entry row, result entry, words and rows."""
+    data = script.read_bytes(path)
+    try:
+        return layout.open_bundle(data)
+    except Problem as problem:
+        raise Problem(f"{os.path.basename(path)} is {problem}") from None
 
 
-def policy_in(data, regions):
-    """The policy, and where the entry row begins."""
-    policy, at = [], 8 + 4 * regions
-    for size, count, _ in (struct.unpack_from(">HBB", data, 8 + 4 * k) for k in range(regions)):
-        policy.append((size, [field_in(data, at + 16 * k) for k in range(count)]))
-        at += 16 * count
-    return policy, at
-
-
-def field_in(data, at):
-    element, permission, target, _, offset, count, lo, hi = struct.unpack_from(">BBBBHHii", data, at)
-    return element, permission, target, offset, count, lo, hi
-
-
-def entry_in(data, at):
-    kind, region, step, _, lo, hi = struct.unpack_from(">BBBBii", data, at)
-    return kind, region, step, lo, hi
-
-
-def row_in(data, at):
-    kind, register, _, number = struct.unpack_from(">BBHi", data, at + 384)
-    return [entry_in(data, at + 12 * k) for k in range(32)], (kind, register, number)
+def names_of(folder, policy):
+    """(name, names of the fields) of each region, by the folder's policy.txt, and a remark. There are none if that is not
+    there or is another policy."""
+    path = os.path.join(folder, "policy.txt")
+    if not os.path.exists(path):
+        return [], []
+    regions = read_policy(path)
+    if unnamed(regions) != policy:
+        return [], ["(policy.txt is not the policy of bundle.bin: regions and fields are named by number)"]
+    return [(name, [field[0] for field in fields]) for name, _, fields in regions], []
 
 
 # Text of entries and rows, as in rows.txt
@@ -434,28 +421,31 @@ def row_text(row, names):
 
 
 def listing(folder):
-    with open(os.path.join(folder, "bundle.bin"), "rb") as file:
-        _, entry, result, words, rows = open_bundle(file.read())
-    names = [name for name, _, _ in read_policy(os.path.join(folder, "policy.txt"))]
-    lines = [f"entry: {row_text(entry, names)}", f"result: {entry_text(result, names)}"]
-    for index, text in enumerate(disassemble(words)):
-        lines.append(f"{index:3}  {words[index]:08X}  {text:<28}  {row_text(rows[index], names)}")
+    policy, entry, result, words, rows = read_bundle(os.path.join(folder, "bundle.bin"))
+    named, lines = names_of(folder, policy)
+    names = [name for name, _ in named]
+    lines += [f"entry: {row_text(entry, names)}", f"result: {entry_text(result, names)}"]
+    texts = assembly.disassemble(words)
+    if texts is None:
+        lines.insert(0, "(no disassembly: objdump of GNU binutils for SPARC is not here)")
+    for index, word in enumerate(words):
+        text = f"  {texts[index]:<28}" if texts else ""
+        lines.append(f"{index:3}  {word:08X}{text}  {row_text(rows[index], names)}")
     return "\n".join(lines)
 
 
 def main(arguments):
-    if len(arguments) == 2 and arguments[0] == "--list":
-        print(listing(arguments[1]))
-    elif len(arguments) == 1 and not arguments[0].startswith("-"):
-        data = make(arguments[0])
-        with open(os.path.join(arguments[0], "bundle.bin"), "wb") as file:
-            file.write(data)
+    listed = arguments[:1] == ["--list"]
+    folders = arguments[1:] if listed else arguments
+    if len(folders) != 1 or folders[0].startswith("-"):
+        raise Problem("call it as `bundle.py FOLDER` or `bundle.py --list FOLDER`; `bundle.py --help` says more")
+    if not os.path.isdir(folders[0]):
+        raise Problem(f"{folders[0]} is no folder")
+    if listed:
+        print(listing(folders[0]))
     else:
-        raise Problem("call it as `bundle.py FOLDER` or `bundle.py --list FOLDER`")
+        make(folders[0])
 
 
 if __name__ == "__main__":
-    try:
-        main(sys.argv[1:])
-    except (Problem, OSError) as problem:
-        sys.exit(f"bundle.py: {problem}")
+    script.run(main, __doc__)

@@ -19,15 +19,19 @@ import sys
 from collections import namedtuple
 
 sys.dont_write_bytecode = True
+import assembly
 import bundle
 import form
+import layout
 import rules
+import script
 from rules import NOTE, STORES, WIDTHS
+from script import Problem
 
 CARD = os.path.join(os.path.dirname(os.path.abspath(__file__)), "..", "docs", "CARD.md")
 KINDS = ["an unset entry", "a number", "an address", "an address that may be null", "the return address"]
-ELEMENTS = {number: name for name, (number, _, _) in bundle.ELEMENTS.items()}
-PERMISSIONS = {number: name for name, number in bundle.PERMISSIONS.items()}
+ELEMENTS = {number: name for name, (number, _, _) in layout.ELEMENTS.items()}
+PERMISSIONS = {number: name for name, number in layout.PERMISSIONS.items()}
 ACCEPTED, UNREAD, FLOW, NEXT_ROW, RESULT, START = 0, 2, 3, 12, 14, 15
 LAST_NAMING = 16  # numbers up to this one name a word
 
@@ -37,12 +41,11 @@ Parts = namedtuple("Parts", "policy entry result words rows names")
 
 def card_entry(number):
     """The card's entry for an answer to a bundle."""
-    with open(CARD) as file:
-        answers = file.read().split("\n## Answers to a bundle\n")[1].split("\n## ")[0]
-    for part in answers.split("\n### ")[1:]:
+    _, _, rest = "\n".join(script.read_lines(CARD)).partition("\n## Answers to a bundle\n")
+    for part in rest.split("\n## ")[0].split("\n### ")[1:]:
         if part.startswith(f"{number}:"):
             return part.strip()
-    raise bundle.Problem(f"{number} is no answer to a bundle")
+    raise Problem(f"{number} is no answer to a bundle: docs/CARD.md has all of them")
 
 
 # The bundle and its names
@@ -50,19 +53,16 @@ def card_entry(number):
 def load(path):
     """The bundle's bytes, its names if policy.txt is there, and a remark if that is another policy."""
     folder = os.path.isdir(path)
-    with open(os.path.join(path, "bundle.bin") if folder else path, "rb") as file:
-        data = file.read()
-    text = os.path.join(path, "policy.txt")
-    if not folder or not os.path.exists(text):
-        return data, [], []
+    data = script.read_bytes(os.path.join(path, "bundle.bin") if folder else path)
+    return data, *(bundle.names_of(path, policy_of(data)) if folder else ([], []))
+
+
+def policy_of(data):
+    """The policy of a bundle, also of one that is wrong further on; None if there is none."""
     try:
-        regions = bundle.read_policy(text)
-        same = bundle.policy_in(data, data[5])[0] == [(size, [f[1:] for f in fields]) for _, size, fields in regions]
-    except (bundle.Problem, struct.error, IndexError):
-        same = False
-    if not same:
-        return data, [], ["(policy.txt is not the policy of bundle.bin: regions and fields are named by number)"]
-    return data, [(name, [f[0] for f in fields]) for name, _, fields in regions], []
+        return layout.policy_in(data, data[5])[0]
+    except (struct.error, IndexError):
+        return None
 
 
 def entry_text(parts, entry):
@@ -74,7 +74,7 @@ def held_text(parts, row, register):
 
 
 def numbers_text(step, lo, hi):
-    return bundle.entry_text((bundle.NUMBER, 0, step, lo, hi), [])
+    return bundle.entry_text((layout.NUMBER, 0, step, lo, hi), [])
 
 
 # Words
@@ -96,10 +96,8 @@ def instruction_text(index, word):
 
 
 def word_text(words, index):
-    try:
-        text = bundle.disassemble(words)[index]
-    except bundle.Problem:
-        text = instruction_text(index, words[index])
+    texts = assembly.disassemble(words)
+    text = texts[index] if texts else instruction_text(index, words[index])
     slot = f"  (slot of word {index - 1})" if rules.is_slot(words, index) else ""
     return f"word {index}: {words[index]:08X}  {text}".rstrip() + slot
 
@@ -237,8 +235,8 @@ def word_lines(parts, finding):
 
 def unfit_text(parts, a, b):
     """Why entry a does not fit entry b."""
-    if a[:2] == b[:2] and a[0] in (bundle.NUMBER, bundle.ADDRESS):
-        what = "offset " if a[0] == bundle.ADDRESS else ""
+    if a[:2] == b[:2] and a[0] in (layout.NUMBER, layout.ADDRESS):
+        what = "offset " if a[0] == layout.ADDRESS else ""
         return f"{what}{rules.stray_member(a, b)} is not {'' if b[3] == b[4] else 'in '}{bundle.set_text(*b[2:])}"
     return f"{entry_text(parts, a)} does not fit {entry_text(parts, b)}"
 
@@ -308,9 +306,9 @@ def detail_lines(data, names, answer):
     fault = form.first_fault(data, names)
     if fault:
         return fault.lines if fault[:3] == answer else not_found_lines(fault)
-    parts = Parts(*bundle.open_bundle(data), names)
+    parts = Parts(*layout.open_bundle(data), names)
     if word >= len(parts.words):
-        raise bundle.Problem(f"the bundle has words 0 to {len(parts.words) - 1}")
+        raise Problem(f"the bundle has words 0 to {len(parts.words) - 1}")
     finding = found(parts, word)
     lines = [word_text(parts.words, word)] if number <= LAST_NAMING else []
     if finding is None or finding[:3] != answer:
@@ -321,21 +319,20 @@ def detail_lines(data, names, answer):
 
 
 def explain(path, *answer):
-    lines = [card_entry(answer[0])]
+    lines, (data, names, remarks) = [card_entry(answer[0])], load(path)
     if answer[0] != ACCEPTED:
-        data, names, remarks = load(path)
         lines += [""] + remarks + detail_lines(data, names, answer)
+    elif any(answer):
+        raise Problem("acceptance is 0 0 0")
     return "\n".join(lines)
 
 
 def main(arguments):
-    if len(arguments) != 4 or not all(re.fullmatch(r"\d+", part) for part in arguments[1:]):
-        raise bundle.Problem("call it as `explain.py FOLDER NUMBER WORD REGISTER`, or with a bundle for FOLDER")
-    print(explain(arguments[0], *map(int, arguments[1:])))
+    if len(arguments) != 4:
+        raise Problem("call it as `explain.py FOLDER NUMBER WORD REGISTER`, or with a bundle for FOLDER; "
+                      "`explain.py --help` says more")
+    print(explain(arguments[0], *(bundle.whole(part, 0, 65535, "a number of an answer") for part in arguments[1:])))
 
 
 if __name__ == "__main__":
-    try:
-        main(sys.argv[1:])
-    except (bundle.Problem, OSError) as problem:
-        sys.exit(f"explain.py: {problem}")
+    script.run(main, __doc__)

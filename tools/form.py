@@ -6,11 +6,12 @@ quotes. They look in the order of the check and give what they find as texts.
 import struct
 from collections import namedtuple
 
-from bundle import ADDRESS, ELEMENTS, MARK, NUMBER, OR_NULL, RETURN, UNSET, VERSION, ZERO, entry_bytes, policy_in
+import layout
+from layout import ADDRESS, ELEMENTS, MARK, NUMBER, OR_NULL, RETURN, UNSET, VERSION, ZERO, entry_bytes, policy_in
 
 # A fault: the answer's number, word and register, and lines that say what is wrong.
 Fault = namedtuple("Fault", "number word register lines")
-ROW, ENTRY, NOTE = 392, 12, 32
+ROW, ENTRY, NOTE = layout.ROW_SIZE, layout.ENTRY.size, 32
 MOST_BYTES, MOST_WORDS, MOST_REGIONS, MOST_FIELDS, MOST_SIZE = 53180, 128, 8, 16, 4096
 WIDTHS = {1: 1, 2: 1, 3: 2, 4: 2, 5: 4, 6: 4, 7: 4}
 RANGES = {number: (lo, hi) for number, lo, hi in ELEMENTS.values()}
@@ -29,7 +30,7 @@ def bundle_faults(data):
     texts = [f"it has {len(data)} bytes, and at most {MOST_BYTES} are allowed"] if len(data) > MOST_BYTES else []
     if len(data) < 8:
         return texts + [f"it has {len(data)} bytes, and the head alone has 8"]
-    mark, version, regions, words = struct.unpack_from(">3sHBH", data)
+    mark, version, regions, words = layout.HEAD.unpack_from(data)
     if mark != MARK:
         texts.append(f"bytes 0 to 2 are {mark.hex(' ')} and not {MARK.hex(' ')}")
     if version != VERSION:
@@ -129,7 +130,7 @@ def value_faults(field, regions):
 
 def entry_faults(raw, sizes):
     """Which rules of form an entry of 12 bytes breaks; sizes are those of the regions."""
-    kind, region, step, zero, lo, hi = struct.unpack(">BBBBii", raw)
+    kind, region, step, zero, lo, hi = layout.ENTRY.unpack(raw)
     texts = [f"the fourth byte is {zero} and not 0"] if zero else []
     if kind > RETURN:
         return texts + [f"kind {kind}, and a kind is 0 to 4"]
@@ -164,7 +165,7 @@ def set_faults(step, lo, hi):
 def note_faults(raw):
     """"Note: kind, register, two zero bytes, a signed number. 0 codes unset; 1 set; 2 .. (r1 to r31) .. Kinds 0 and 1 have
     all else zero." """
-    kind, register, zeros, number = struct.unpack(">BBHi", raw)
+    kind, register, zeros, number = layout.NOTE.unpack(raw)
     texts = [f"bytes 2 and 3 are {raw[2:4].hex(' ')} and not 00 00"] if zeros else []
     if kind > 2:
         texts.append(f"kind {kind}, and a note is 0, 1 or 2")

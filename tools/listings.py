@@ -1,6 +1,8 @@
 #!/usr/bin/env python3
 """listings.py: makes the data of the program crates/listings, from an outside assembler.
 
+    tools/listings.py
+
 Needs GNU binutils for SPARC (Debian: binutils-sparc64-linux-gnu). Writes crates/listings/stdin, a
 word to a line with the assembler text it came from, and crates/listings/stdout, what the program
 must print. The data is the same at each run (fixed seed).
@@ -23,6 +25,9 @@ import subprocess
 import sys
 import tempfile
 
+sys.dont_write_bytecode = True
+import script
+
 AS = ["sparc64-linux-gnu-as", "-32", "-Av8"]
 OBJDUMP = ["sparc64-linux-gnu-objdump", "-d", "-z", "-m", "sparc"]
 CRATE = os.path.join(os.path.dirname(os.path.abspath(__file__)), "..", "crates", "listings")
@@ -43,7 +48,7 @@ DISTANCES = [0, 1, -1, 2, -2, 3, 127, -128, 65535, -65536, 1048575, 1048576, -10
 
 
 def fail(message):
-    sys.exit("listings.py: " + message)
+    raise script.Problem(message)
 
 
 # The texts of the subset, in the canonical form that the program prints.
@@ -181,7 +186,7 @@ def raw_outside():
 # The assembler and the disassembler.
 
 def run(command):
-    done = subprocess.run(command, capture_output=True, text=True)
+    done = subprocess.run(command, capture_output=True, encoding="utf-8", errors="replace")
     if done.returncode or done.stderr:
         fail(" ".join(command) + ": " + done.stderr)
     return done.stdout
@@ -198,7 +203,7 @@ def assembled(texts):
     source = "".join(f"\t{text}\n\tnop\n" for text in texts)
     with tempfile.TemporaryDirectory() as folder:
         path = os.path.join(folder, "words")
-        with open(path + ".s", "w") as out:
+        with open(path + ".s", "w", encoding="utf-8") as out:
             out.write(source)
         listing = run(AS + ["-aln", "-o", path + ".o", path + ".s"])
         objects = disassembled(path + ".o")
@@ -245,7 +250,9 @@ def cross_check(texts, made):
         fail("as and objdump disagree:\n" + "\n".join(wrong))
 
 
-def main():
+def main(arguments):
+    if arguments:
+        fail("call it as `listings.py`, with no arguments")
     rng = random.Random(8)
     inside = [*operations(), *registers(), *sethi_and_branches(), *at_random(lambda n: int(rng.random() * n), 320)]
     named = list(named_outside())
@@ -263,11 +270,11 @@ def main():
             fail(f"{text} is {lines[word]}, which is of the subset")
         lines.setdefault(word, "! " + text)
     refused = len(lines) - len(inside)
-    with open(os.path.join(CRATE, "stdin"), "w") as out:
+    with open(os.path.join(CRATE, "stdin"), "w", encoding="utf-8") as out:
         out.writelines(f"{word:08x} {text}\n" for word, text in lines.items())
-    with open(os.path.join(CRATE, "stdout"), "w") as out:
+    with open(os.path.join(CRATE, "stdout"), "w", encoding="utf-8") as out:
         out.write(f"{len(lines)} words: {len(inside)} read and written back, {refused} refused, 0 wrong\n")
 
 
 if __name__ == "__main__":
-    main()
+    script.run(main, __doc__)

@@ -3,12 +3,11 @@
 A help for dealers and no verdict: what counts is the answer of the bundle program. The functions are written from
 document 01, whose sentences stand in quotes; `docs/DECISIONS.md` has the readings where it leaves a choice.
 
-As in bundle.py, an entry is (kind, region, step, lo, hi), a note (kind, register, number), a row (32 entries, note)
-and a policy a list of regions (size, fields), a field being (element, permission, target, offset, count, lo, hi).
+Entries, notes, rows and policies are those of layout.py.
 """
 from collections import namedtuple
 
-from bundle import (ADDRESS, FULL, NOTE_COMPARED, NOTE_NONE, NOTE_SET, NUMBER, OR_NULL, RETURN, SINGLE_STEP, UNSET,
+from layout import (ADDRESS, FULL, NOTE_COMPARED, NOTE_NONE, NOTE_SET, NUMBER, OR_NULL, RETURN, SINGLE_STEP, UNSET,
                     ZERO)
 
 NOTE = 32

@@ -1,5 +1,7 @@
 #!/usr/bin/env python3
-"""runs.py RUNS: writes the data of the program crates/runs to standard output.
+"""runs.py: writes the data of the program crates/runs to standard output.
+
+    tools/runs.py RUNS
 
 RUNS has runs of the machine as text, a blank line between two. A line is a name and what stands for it:
   policy N             the number of regions; for each of them
@@ -38,6 +40,9 @@ import collections
 import copy
 import struct
 import sys
+
+sys.dont_write_bytecode = True
+import script
 
 # The program's room: bytes of memory, words.
 MEMORY, WORDS = 2048, 132
@@ -149,16 +154,28 @@ def refused(run):
         yield broken
 
 
-def main():
-    if len(sys.argv) != 2:
-        sys.exit(__doc__)
-    with open(sys.argv[1]) as text:
-        runs = list(sample(Run(each) for each in text.read().split("\n\n") if each.strip()))
-    runs += refused(next(run for run in runs if run.end == 0 and run.regions < REGIONS and all(kinds(run))))
+def run_of(text):
+    """The run that a text has; a problem names its first line."""
+    try:
+        return Run(text)
+    except (ValueError, IndexError, TypeError):
+        raise script.Problem(f"no run: `{text.strip().splitlines()[0]} ..`") from None
+
+
+def main(arguments):
+    if len(arguments) != 1:
+        raise script.Problem("call it as `runs.py RUNS`; `runs.py --help` says more")
+    with open(arguments[0], encoding="utf-8", errors="replace") as text:
+        runs = list(sample(run_of(each) for each in text.read().split("\n\n") if each.strip()))
+    whole = [run for run in runs if run.end == 0 and run.regions < REGIONS and all(kinds(run))]
+    if not whole:
+        raise script.Problem("no run that returned can be made into refused ones: it needs an address and two signed halves")
+    runs += refused(whole[0])
     for run in runs:
         sys.stdout.buffer.write(run.record())
     for end, count in sorted(collections.Counter(run.end for run in runs).items()):
         print(f"end {end}: {count} runs", file=sys.stderr)
 
 
-main()
+if __name__ == "__main__":
+    script.run(main, __doc__)

@@ -1,6 +1,8 @@
 #!/usr/bin/env python3
 """speed.py: measures the proved programs beside the plain ones, in one run, and prints the ratios.
 
+    tools/speed.py
+
 Needs target/bin/answer, corpus and speed (rt check answer corpus speed), gcc, which builds tools/plain with -O2,
 and valgrind and size for the memory. Each time is the best of five runs of the whole program, start and reading
 included. The memory of a program is the most that its stack and heap take (valgrind's massif) and its static data.
@@ -9,10 +11,14 @@ import os
 import re
 import struct
 import subprocess
+import sys
 import tempfile
 import time
 
+sys.dont_write_bytecode = True
+import layout
 import parts
+import script
 
 ROOT = os.path.join(os.path.dirname(os.path.abspath(__file__)), "..")
 RUNS = 5
@@ -20,15 +26,15 @@ RUNS = 5
 
 def full_bundle():
     """Accepted, and as long as a bundle can be: 8 regions of 16 fields, 128 words, every register known."""
-    fields = [parts.field(parts.UNSIGNED_BYTE, parts.BOTH, 8 * k, 8, 32, 126) for k in range(16)]
-    known = {r: parts.number(0, 36, 4) for r in range(1, 32)}
-    known[1] = parts.number(32, 126)
-    known[8] = parts.entry(parts.ADDRESS, 3, 8, 0, 0)
-    known[15] = parts.entry(parts.RETURN_ADDRESS)
-    every = parts.row(known, struct.pack(">BBBBi", 0, 0, 0, 0, 0))
+    fields = [(parts.UNSIGNED_BYTE, layout.BOTH, 0, 8 * k, 8, 32, 126) for k in range(16)]
+    known = {r: layout.number(0, 36, 4) for r in range(1, 32)}
+    known[1] = layout.number(32, 126)
+    known[8] = (layout.ADDRESS, 3, layout.SINGLE_STEP, 0, 0)
+    known[15] = layout.RETURN_ADDRESS
+    every = layout.row(known)
     store = 0xC22A2000  # stb %g1, [%o0]
     words = [store] * 126 + [parts.RETURN, parts.NOP]
-    return parts.bundle([(128, fields)] * 8, every, parts.entry(parts.UNSET), words, [every] * 128)
+    return layout.bundle_bytes([(128, fields)] * 8, every, layout.NOTHING, words, [every] * 128)
 
 
 def best(command, data):
@@ -41,11 +47,16 @@ def best(command, data):
     return min(times), wrote.decode().split("\n")
 
 
+def expect(right, program):
+    if not right:
+        raise script.Problem(f"{program} does not answer 0 0 0 to an accepted bundle")
+
+
 def answers(name, bundle, count, plain):
     ours, wrote = best([f"{ROOT}/target/bin/corpus"], (struct.pack(">BBHI", 0, 0, 0, len(bundle)) + bundle) * count)
-    assert wrote[-2] == f"{count} bundles, 0 wrong", wrote[-2]
+    expect(wrote[-2:-1] == [f"{count} bundles, 0 wrong"], "corpus")
     theirs, lines = best([plain, "-s"], (struct.pack(">I", len(bundle)) + bundle) * count)
-    assert lines[:-1] == ["0 0 0"] * count
+    expect(lines[:-1] == ["0 0 0"] * count, "the plain answer")
     print(f"{name}: {count / ours:,.0f} bundles a second, plain {count / theirs:,.0f}, time ratio {ours / theirs:.2f}")
 
 
@@ -74,7 +85,9 @@ def memory(name, bundle, plain, folder):
     print(f"{name}: {ours:,} bytes of memory, plain {theirs:,}, ratio {ours / theirs:.2f}")
 
 
-def main():
+def main(arguments):
+    if arguments:
+        raise script.Problem("call it as `speed.py`, with no arguments")
     with tempfile.TemporaryDirectory() as folder:
         for job in ("answer", "machine"):
             subprocess.run(["gcc", "-O2", "-o", f"{folder}/{job}", f"{ROOT}/tools/plain/{job}.c"], check=True)
@@ -87,4 +100,5 @@ def main():
         steps("loop with a load and a store", 1, f"{folder}/machine")
 
 
-main()
+if __name__ == "__main__":
+    script.run(main, __doc__)

@@ -1,5 +1,7 @@
 #!/usr/bin/env python3
-"""vectors.py SEED: test vectors of the program crates/vectors, made with an outside emulator.
+"""vectors.py: test vectors of the program crates/vectors, made with an outside emulator.
+
+    tools/vectors.py SEED
 
 Needs qemu's user-mode SPARC and GNU binutils for SPARC (Debian: qemu-user and
 binutils-sparc64-linux-gnu). Writes the vectors to standard output, in the form that
@@ -21,6 +23,9 @@ import struct
 import subprocess
 import sys
 import tempfile
+
+sys.dont_write_bytecode = True
+import script
 
 AS = ["sparc64-linux-gnu-as", "-32", "-Av8"]
 LD = ["sparc64-linux-gnu-ld", "-m", "elf32_sparc", "-static"]
@@ -62,7 +67,7 @@ Case = collections.namedtuple("Case", "kind texts start codes")
 
 
 def fail(message):
-    sys.exit("vectors.py: " + message)
+    raise script.Problem(message)
 
 
 class Maker:
@@ -285,7 +290,7 @@ def unnamed(r):
 def run(command, **more):
     done = subprocess.run(command, capture_output=True, **more)
     if done.returncode or done.stderr:
-        fail(f"{command[0]}: status {done.returncode}: {done.stderr.decode()[:2000]}")
+        fail(f"{command[0]}: status {done.returncode}: {done.stderr.decode(errors='replace')[:2000]}")
     return done.stdout
 
 
@@ -293,7 +298,7 @@ def emulated(cases):
     """The words of all routines, and the blocks that qemu left."""
     with tempfile.TemporaryDirectory() as folder:
         path = os.path.join(folder, "cases")
-        with open(path + ".s", "w") as out:
+        with open(path + ".s", "w", encoding="utf-8") as out:
             out.writelines(harness(cases))
         run(AS + ["-o", path + ".o", path + ".s"])
         run(LD + ["-o", path, path + ".o"])
@@ -314,10 +319,10 @@ def vector(case, words, block):
     return " ".join(f"{w:08x}" for w in (*words, *packed, *values)) + "\n"
 
 
-def main():
-    if len(sys.argv) != 2:
-        sys.exit(__doc__)
-    make = Maker(int(sys.argv[1]))
+def main(arguments):
+    if len(arguments) != 1 or not arguments[0].isdecimal():
+        fail("call it as `vectors.py SEED`, the seed a number; `vectors.py --help` says more")
+    make = Maker(int(arguments[0]))
     operations(make)
     shifts(make)
     sethis(make)
@@ -339,4 +344,4 @@ def main():
 
 
 if __name__ == "__main__":
-    main()
+    script.run(main, __doc__)

@@ -1,0 +1,624 @@
+#!/usr/bin/env python3
+"""test.py: tests the tools.
+
+    tools/test.py
+
+Holds bundle.py and explain.py against the examples, and tries on them what can be wrong with a file, a folder, the
+assembler, an answer or the place where they run: each must be said in a line with the file and the line, with status 1.
+Sees that each script says what it does when asked for help, and does nothing else.
+
+What needs GNU binutils for SPARC or the bundle program (target/bin/answer) is left out where that is not here, and this
+is said. The last line is `N passed, 0 failed`, with the number of those left out if there are any; the status is 0 if
+none failed.
+"""
+import contextlib
+import io
+import os
+import re
+import shutil
+import struct
+import subprocess
+import sys
+import tempfile
+
+sys.dont_write_bytecode = True
+import assembly
+import bundle
+import layout
+import parts
+import script
+
+TOOLS = os.path.dirname(os.path.abspath(__file__))
+ROOT = os.path.dirname(TOOLS)
+EXAMPLES = os.path.join(ROOT, "examples")
+NAMES = sorted(name for name in os.listdir(EXAMPLES) if os.path.isdir(os.path.join(EXAMPLES, name)))
+ANSWER = os.path.join(ROOT, "target", "bin", "answer")
+PATH = os.environ.get("PATH", "")
+AS, OBJDUMP = (assembly.BINUTILS + tool for tool in ("as", "objdump"))
+CASES = []
+
+
+def cases(needs=None):
+    """Notes a function that yields (name, whether it passed, what is shown if not); needs is a program's path."""
+    def noted(function):
+        CASES.append((function, needs))
+        return function
+    return noted
+
+
+# Files and tools
+
+def read(*path):
+    with open(os.path.join(*path), "rb") as file:
+        return file.read()
+
+
+def write(data, *path):
+    with open(os.path.join(*path), "wb") as file:
+        file.write(data)
+
+
+@contextlib.contextmanager
+def example(name="name"):
+    """A copy of an example's folder."""
+    with tempfile.TemporaryDirectory() as scratch:
+        yield shutil.copytree(os.path.join(EXAMPLES, name), os.path.join(scratch, "routine"))
+
+
+@contextlib.contextmanager
+def routine():
+    """A folder with the texts below and a bundle.bin of before."""
+    with example() as folder:
+        for name, text in TEXTS.items():
+            write(text, folder, name)
+        yield folder
+
+
+@contextlib.contextmanager
+def only_tool(tool, text):
+    """With no tool of binutils but this one, which is a shell script with this text."""
+    with tempfile.TemporaryDirectory() as scratch:
+        write(f"#!/bin/sh\n{text}\n".encode(), scratch, tool)
+        os.chmod(os.path.join(scratch, tool), 0o755)
+        os.environ["PATH"] = scratch
+        try:
+            yield
+        finally:
+            os.environ["PATH"] = PATH
+
+
+@contextlib.contextmanager
+def assembler_giving(data):
+    """With an assembler that gives this object file whatever it is given."""
+    with tempfile.TemporaryDirectory() as scratch:
+        write(data, scratch, "object")
+        with only_tool(AS, f'exec {shutil.which("cp")} "{scratch}/object" "$4"'):
+            yield
+
+
+def called(tool, *arguments, **more):
+    """A script's status, standard output and standard error."""
+    done = subprocess.run([sys.executable, os.path.join(TOOLS, tool), *arguments], capture_output=True, **more)
+    return done.returncode, done.stdout.decode("utf-8", "replace"), done.stderr.decode("utf-8", "replace")
+
+
+def problem_of(*arguments):
+    """What bundle.py says is wrong, called with these arguments; nothing if it does its work."""
+    try:
+        with contextlib.redirect_stdout(io.StringIO()):
+            bundle.main(list(arguments))
+    except (script.Problem, OSError) as problem:
+        return script.shown(script.reason(problem))
+    except Exception as problem:
+        return f"a traceback: {problem!r}"
+    return ""
+
+
+def one_line(tool, status, out, said):
+    """Whether a script said what is wrong in one line and ended with status 1."""
+    return status == 1 and out == "" and said.startswith(tool + ": ") and said.count("\n") == 1
+
+
+# Object files
+
+def object_file(words, labels=(), more=(), tail=b"", symbols=(), relocated=()):
+    """An object file with words in .text and labels (name, word), and with more sections (name, type, flags, data), bytes
+    after the words, symbols (name, section) and relocations (offset, symbol: the labels and symbols count from 1)."""
+    names, table = b"\0", struct.pack(">IIIBBH", 0, 0, 0, 0, 0, 0)
+    for name, value, section in [(name, 4 * word, 1) for name, word in labels] + [(name, 0, at) for name, at in symbols]:
+        table += struct.pack(">IIIBBH", len(names), value, 0, 0, 0, section)
+        names += name.encode() + b"\0"
+    text = b"".join(struct.pack(">I", word) for word in words) + tail
+    rela = b"".join(struct.pack(">IIi", offset, symbol << 8, 0) for offset, symbol in relocated)
+    sections = [("", 0, 0, b"", 0, 0), (".text", 1, 6, text, 0, 0), (".strtab", 3, 0, names, 0, 0), (".symtab", 2, 0, table, 2, 0),
+                (".rela.text", 4, 0, rela, 3, 1)] + [(*section, 0, 0) for section in more]
+    titles = "\0".join([""] + [section[0] for section in sections] + [".shstrtab", ""]).encode()
+    sections.append((".shstrtab", 3, 0, titles, 0, 0))
+    held, heads = b"", b""
+    for name, kind, flags, data, link, info in sections:
+        at = titles.index(b"\0" + name.encode() + b"\0") + 1 if name else 0
+        heads += struct.pack(">10I", at, kind, flags, 0, 52 + len(held), len(data), link, info, 4, 0)
+        held += b"" if kind == assembly.EMPTY else data
+    head = struct.pack(">16sHHIIIIIHHHHHH", b"\x7fELF\1\2\1", 1, 2, 1, 0, 0, 52 + len(held), 0, 52, 0, 0, 40, len(sections),
+                       len(sections) - 1)
+    return head + held + heads
+
+
+def words_of(name):
+    return layout.open_bundle(read(EXAMPLES, name, "bundle.bin"))[3]
+
+
+WORDS = words_of("name")
+OBJECT = object_file(WORDS, [("next", 1)])
+
+# The texts of example `name` without its comments, and its rows with words by label
+POLICY, ROWS, ROUTINE = "policy.txt", "rows.txt", "routine.s"
+TEXTS = {
+    POLICY: b"""region haulier 40
+  field name    at 0:  30 unsigned bytes, write, 32 to 126
+  field account at 32: 1 signed word, read, 0 to 999999
+region line 32
+  field text at 0: 32 unsigned bytes, read, 32 to 126
+""",
+    ROUTINE: b"""        clr     %g1
+next:   ldub    [%o1 + %g1], %g2
+        add     %o0, %g1, %o2
+        inc     %g1
+        cmp     %g1, 30
+        bl      next
+        stb     %g2, [%o2]
+        retl
+        mov     %g1, %o0
+""",
+    ROWS: b"""entry: r8 = haulier, r9 = line, r15 = return
+result: 30
+0: as entry
+1: as entry, r1 = 0..29
+2: as before, r2 = 32..126
+3: as before, r10 = haulier+0..29
+4: as before, r1 = 1..30
+5: as before, note compared r1 30
+6: slot
+7: r1 = 30, r15 = return
+8: slot
+""",
+}
+LABELLED = b"""entry: r8 = haulier, r9 = line, r15 = return
+result: 30
+0: as entry
+next: as entry, r1 = 0..29
++1: as before, r2 = 32..126
++1: as before, r10 = haulier+0..29
+next+3: as before, r1 = 1..30
++1: as before, note compared r1 30
++1: slot
++1: r1 = 30, r15 = return
+next + 7: slot
+"""
+
+
+# The examples
+
+@cases(AS)
+def examples_are_made():
+    for name in NAMES:
+        with example(name) as folder:
+            os.remove(os.path.join(folder, "bundle.bin"))
+            status, out, said = called("bundle.py", folder)
+            same = status == 0 and read(folder, "bundle.bin") == read(EXAMPLES, name, "bundle.bin")
+            yield f"bundle.py makes the bundle of {name}", same and out == "", said
+
+
+@cases()
+def examples_are_listed():
+    for name in NAMES:
+        status, out, said = called("bundle.py", "--list", os.path.join(EXAMPLES, name))
+        lines = [line for line in out.splitlines() if re.match(r" *\d+  [0-9A-F]{8}  ", line)]
+        yield f"bundle.py lists {name}", (status, said, len(lines)) == (0, "", len(words_of(name))), out + said
+
+
+@cases()
+def examples_are_explained():
+    for name in NAMES:
+        answer = read(EXAMPLES, name, "answer.txt").decode().split()
+        status, out, said = called("explain.py", os.path.join(EXAMPLES, name), *answer)
+        found = "\nwrong: " in out and "not found" not in out or answer[0] == "0"
+        yield f"explain.py explains {name}", status == 0 and found and out.startswith(answer[0] + ": ") and not said, out + said
+
+
+@cases(ANSWER)
+def examples_are_answered():
+    for name in NAMES:
+        out = subprocess.run([ANSWER], input=read(EXAMPLES, name, "bundle.bin"), capture_output=True).stdout
+        yield f"the bundle program answers {name}", out == read(EXAMPLES, name, "answer.txt"), out.decode()
+
+
+@cases(OBJDUMP)
+def text_shows_what_is_printed():
+    """What examples/README.md shows of the tools."""
+    text = read(EXAMPLES, "README.md").decode()
+    for command, shown in re.findall(r"^    \$ tools/(explain\.py .*)\n((?:    .+\n)+)", text, re.M):
+        tool, folder, *answer = command.split()
+        _, out, _ = called(tool, os.path.join(ROOT, folder), *answer)
+        lines = [line[4:] for line in shown.splitlines() if line != "    .."]
+        yield f"examples/README.md shows {command}", "\n".join(lines) in out, out
+
+
+# The layout
+
+@cases()
+def layout_is_one():
+    for what, made, expected in [
+            ("an entry", layout.entry_bytes((2, 7, 4, -2, 5)), "02070400 fffffffe 00000005"),
+            ("a field", layout.field_bytes((6, 3, 7, 0x102, 0x304, -2, 5)), "06030700 0102 0304 fffffffe 00000005"),
+            ("a note", layout.row_bytes(layout.row({}, (2, 31, -2)))[-8:], "021f0000 fffffffe"),
+            ("a row", layout.row_bytes(layout.row({1: (1, 0, 1, 2, 3)}))[:36],
+             "01000800" + "0" * 16 + "010001000000000200000003" + "0" * 24),
+            ("a head", layout.bundle_bytes([(0x102, [])], layout.row({}), layout.NOTHING, [], [])[:12],
+             "575452 0001 01 0000 0102 00 00")]:
+        yield f"the bytes of {what}", made == bytes.fromhex(expected), made.hex()
+    yield "parts.py makes crates/answer/stdin", parts.return_then_nop() == read(ROOT, "crates", "answer", "stdin"), ""
+    for name in NAMES:
+        data = read(EXAMPLES, name, "bundle.bin")
+        yield f"{name} opened and written again", layout.bundle_bytes(*layout.open_bundle(data)) == data, ""
+    short = [length for length in range(len(data)) if not refused(layout.open_bundle, data[:length])]
+    yield "no bundle cut short is opened", short == [], str(short)
+    yield "no bundle too long is opened", refused(layout.open_bundle, data + b"\0"), ""
+
+
+def refused(call, *arguments):
+    try:
+        call(*arguments)
+    except script.Problem:
+        return True
+    return False
+
+
+# What is accepted
+
+def made(files, data=OBJECT):
+    """The bundle that is made of the texts with other files among them."""
+    with routine() as folder, assembler_giving(data):
+        for name, text in files.items():
+            write(text, folder, name)
+        bundle.main([folder])
+        return read(folder, "bundle.bin")
+
+
+@cases()
+def accepted():
+    right, mark = read(EXAMPLES, "name", "bundle.bin"), b"\xef\xbb\xbf"
+    yield "words by label", made({ROWS: LABELLED}) == right, ""
+    for name, text in TEXTS.items():
+        yield f"{name} with a byte-order mark", made({name: mark + text}) == right, ""
+        yield f"{name} with CR LF", made({name: text.replace(b"\n", b"\r\n")}) == right, ""
+        yield f"{name} with UTF-8 in a comment", made({name: text + ("!" if name == ROUTINE else "#").encode() + " für\n".encode()}) == right, ""
+    rows = b"entry: r15 = return\nresult: unset\n0: as entry\n+1: slot\n"
+    none = made({POLICY: b"# nothing\n", ROWS: rows}, object_file([parts.RETURN, parts.NOP]))
+    yield "a policy without regions", layout.open_bundle(none)[0] == [], ""
+    inserted = object_file([parts.NOP] + WORDS, [("next", 2)])
+    rows = LABELLED.replace(b"0: as entry\n", b"0: as entry\n+1: as entry\n", 1)
+    _, _, _, words, made_rows = layout.open_bundle(made({ROWS: rows}, inserted))
+    yield "an inserted word renumbers nothing", len(words) == 10 and made_rows[2:] == layout.open_bundle(right)[4][1:], ""
+
+
+# What is wrong in the files: file, what stands there, what is put in its place (all of it if nothing stood there), and
+# what bundle.py says
+
+DIGITS = b"9" * 5000
+MISTAKES = [
+    (POLICY, b"region line", b"# f\xfcr\nregion line", r"policy.txt, line 4: byte FC \(hexadecimal\) is no UTF-8"),
+    (POLICY, b"region line", b"region l\xffne", r"policy.txt, line 4: byte FF "),
+    (POLICY, b"region haulier", b"\xef\xbb\xbfregion \xe4", r"policy.txt, line 1: byte E4 "),
+    (POLICY, None, b"", r"policy.txt is empty"),
+    (POLICY, None, b" \n\t\n", r"policy.txt is empty"),
+    (POLICY, None, bytes(2**20 + 1), r"policy.txt is longer than 1048576 bytes"),
+    (POLICY, b"write", b"wirte", r"policy.txt, line 2: a permission is one of "),
+    (POLICY, b"signed word", b"signed long", r"policy.txt, line 3: an element is one of "),
+    (POLICY, b"unsigned bytes", b"addresses of lines", r"policy.txt, line 2: policy.txt has no region named `lines`"),
+    (POLICY, b"region haulier 40", b"", r"policy.txt, line 2: expected `region NAME SIZE` first"),
+    (POLICY, b"region haulier 40", b"region haulier", r"policy.txt, line 1: expected `region NAME SIZE`"),
+    (POLICY, b"region line", b"region haulier", r"policy.txt, line 4: a region cannot be named `haulier`"),
+    (POLICY, b"region line", b"region r1", r"policy.txt, line 4: a region cannot be named `r1`"),
+    (POLICY, b"haulier 40", b"haulier 65536", r"policy.txt, line 1: a region's size must be a number from 0 to 65535"),
+    (POLICY, b"haulier 40", b"haulier " + DIGITS, r"policy.txt, line 1: a region's size must be"),
+    (POLICY, b"haulier 40", b"haulier 040", r"policy.txt, line 1: a region's size must be"),
+    (POLICY, b"haulier 40", "haulier ٤٠".encode(), r"policy.txt, line 1: a region's size must be"),
+    (POLICY, b"at 32", b"at -1", r"policy.txt, line 3: an offset must be a number from 0 to 65535"),
+    (POLICY, b"999999", b"2147483648", r"policy.txt, line 3: the highest value must be a number from -2147483648 to 2147483647"),
+    (POLICY, b"0 to 999999", b"0 to", r"policy.txt, line 3: expected `field NAME at OFFSET"),
+    (POLICY, b"region line", b"".join(b"region r_%d 8\n" % k for k in range(254)) + b"region line",
+     r"policy.txt, line 258: a bundle has room for 255 regions"),
+    (POLICY, b"region line", b"  field x at 36: 1 signed byte, read\n" * 255 + b"region line",
+     r"policy.txt, line 257: a bundle has room for 255 fields of a region"),
+    (ROWS, b"6: slot", b"6: slot # \x80", r"rows.txt, line 9: byte 80 "),
+    (ROWS, None, b"", r"rows.txt is empty"),
+    (ROWS, None, b"# nothing\n", r"rows.txt has no line `entry:`"),
+    (ROWS, b"result: 30", b"", r"rows.txt has no line `result:`"),
+    (ROWS, b"result: 30", b"entry: r8 = haulier", r"rows.txt, line 2: a second line `entry:`"),
+    (ROWS, b"result: 30", b"result 30", r"rows.txt, line 2: expected `entry:`, `result:` or a word and a colon"),
+    (ROWS, b"r8 = haulier", b"r8 = hauler", r"rows.txt, line 1: policy.txt has no region named `hauler`"),
+    (ROWS, b"r8 = haulier", b"r32 = haulier", r"rows.txt, line 1: a register is r0 to r31"),
+    (ROWS, b"r8 = haulier", b"r8 = haulier+x", r"rows.txt, line 1: a set is N, LO..HI"),
+    (ROWS, b"r8 = haulier", b"r8 = *", r"rows.txt, line 1: an entry is unset, return"),
+    (ROWS, b"r8 = haulier", b"r8 haulier", r"rows.txt, line 1: expected `REGISTER = ENTRY`"),
+    (ROWS, b"r8 = haulier", b"r8 = haulier, %o0 = 1", r"rows.txt, line 1: r8 is given twice"),
+    (ROWS, b"0..29", b"0..2147483648", r"rows.txt, line \d+: the highest member must be a number from"),
+    (ROWS, b"0..29", b"-2147483649..29", r"rows.txt, line \d+: the lowest member must be a number from"),
+    (ROWS, b"0..29", b"0.." + DIGITS, r"rows.txt, line \d+: the highest member must be a number from"),
+    (ROWS, b"0..29", b"0..29 step 256", r"rows.txt, line \d+: a step must be a number from 0 to 255"),
+    (ROWS, b"compared r1 30", b"compared r1", r"rows.txt, line \d+: a note is none, set, or compared"),
+    (ROWS, b"compared r1 30", b"compared r1 0x100000000", r"rows.txt, line \d+: the number compared with must be"),
+    (ROWS, b"compared r1 30", b"compared r1 30, note set", r"rows.txt, line \d+: note is given twice"),
+    (ROWS, b"0: as entry", b"0: as before", r"rows.txt, line \d+: `as before` names no row above"),
+    (ROWS, b"0: as entry", b"0: as next", r"rows.txt, line \d+: `as next` names no row above"),
+    (ROWS, b"0: as entry", b"0: as nowhere", r"rows.txt, line \d+: routine.s has no label `nowhere`; it has next"),
+    (ROWS, b"0: as entry", "0: as ²".encode(), r"rows.txt, line \d+: routine.s has no label `²`"),
+    (ROWS, b"0: as entry", b"0: as *", r"rows.txt, line \d+: a word is its number, a label, LABEL\+N or \+1; not `\*`"),
+    (ROWS, b"0: as entry", b"0: as " + DIGITS, r"rows.txt, line \d+: a word must be a number from 0 to 65535"),
+    (ROWS, b"7: r1 = 30", b"7: as before, r1 = 30", r"rows.txt, line \d+: `as before` names the row of word 6, a `slot`"),
+    (ROWS, b"7: r1 = 30", b"7: as 6, r1 = 30", r"rows.txt, line \d+: `as 6` names the row of word 6, a `slot`"),
+    (ROWS, b"7: r1 = 30", b"7: as next+5, r1 = 30", r"rows.txt, line \d+: `as next\+5` names the row of word 6, a `slot`"),
+    (ROWS, b"7: r1 = 30", b"7: r1 = 30, as next", r"rows.txt, line \d+: `as ..` stands first in its row"),
+    (ROWS, b"6: slot", b"6: slot, r1 = 30", r"rows.txt, line \d+: `slot` stands alone in its row"),
+    (ROWS, b"8: slot", b"9: slot", r"rows.txt, line \d+: there is no word 9: routine.s has words 0 to 8"),
+    (ROWS, b"8: slot", b"next: slot", r"rows.txt, line \d+: a second row of word 1 \(next\)"),
+    (ROWS, b"8: slot", b"nxt: slot", r"rows.txt, line \d+: routine.s has no label `nxt`; it has next"),
+    (ROWS, b"6: slot\n", b"", r"rows.txt has no row for 1 of the 9 words, from word 6 on\n"),
+    (ROWS, b"5: as before", b"4: as before", r"rows.txt, line \d+: a second row of word 4"),
+    (ROWS, b"0: as entry\n1: as", b"1: as entry\n0: as",
+     r"rows.txt, line \d+: the row of word 0 stands below that of word 1 \(next\)"),
+    (ROWS, b"8: slot", DIGITS + b": slot", r"rows.txt, line \d+: a word must be a number from 0 to 65535"),
+    (ROWS, b"result: 30", b"result:\n  30\n  31", r"rows.txt, lines 2 to 4: an entry is "),
+    (ROWS, b"r8 = haulier", b"r8 = \x1b[2Jhaulier", r"rows.txt, line 1: an entry is .*\\x1b\[2J"),
+    (ROUTINE, None, b"", r"routine.s is empty"),
+    (ROUTINE, b"clr ", b"! \xa7\n clr ", r"routine.s, line \d+: byte A7 "),
+]
+
+
+@cases()
+def mistakes_in_files():
+    for file, old, new, expected in MISTAKES:
+        with routine() as folder, assembler_giving(OBJECT):
+            write(TEXTS[file].replace(old, new, 1) if old else new, folder, file)
+            said = problem_of(folder)
+            yield f"{file}: {expected}", re.match(expected, said) and "bundle.bin" not in os.listdir(folder), said
+
+
+@cases()
+def files_that_are_none():
+    for file in (POLICY, ROWS, ROUTINE):
+        with routine() as folder, assembler_giving(OBJECT):
+            os.remove(os.path.join(folder, file))
+            said = problem_of(folder)
+            right = said == f"{file}: No such file or directory" and "bundle.bin" not in os.listdir(folder)
+            yield f"{file} is missing", right, said
+            os.mkdir(os.path.join(folder, file))
+            said = problem_of(folder)
+            yield f"{file} is a folder", said == f"{file} is no file", said
+    with routine() as folder, assembler_giving(OBJECT):
+        os.remove(os.path.join(folder, "bundle.bin"))
+        os.mkdir(os.path.join(folder, "bundle.bin"))
+        said = problem_of(folder)
+        yield "bundle.bin is a folder", "bundle.bin: " in said, said
+
+
+@cases()
+def rows_that_are_missing():
+    with routine() as folder, assembler_giving(OBJECT):
+        write(re.sub(rb"(?m)^[36]: .*\n", b"", TEXTS[ROWS]), folder, ROWS)
+        said = problem_of(folder)
+    first, *lines = said.split("\n")
+    yield "missing rows are counted", first == "rows.txt has no row for 2 of the 9 words, from word 3 on", said
+    lacking = [k for k, line in enumerate(lines) if line.endswith("<- no row")]
+    yield "words without a row are marked", len(lines) == 9 and lacking == [3, 6], said
+    yield "words are listed with their labels", [k for k, line in enumerate(lines) if "next: " in line] == [1], said
+
+
+# What is wrong with the assembler
+
+NONE = "what sparc64-linux-gnu-as gives is no object file for SPARC V8"
+DATA = (".data", 1, 3, b"1234")
+OBJECTS = [
+    ("an empty object file", b"", NONE),
+    ("words alone", read(EXAMPLES, "name", "bundle.bin"), NONE),
+    ("an object file for another machine", OBJECT[:18] + b"\0\x3e" + OBJECT[20:], NONE),
+    ("an object file that is linked", OBJECT[:16] + b"\0\2" + OBJECT[18:], NONE),
+    ("no words", object_file([]), "routine.s has no words: its .text is empty"),
+    ("too many words", object_file([parts.NOP] * 65536), "routine.s has 65536 words: a bundle has room for 65535"),
+    ("no whole words", object_file(WORDS, tail=b"\1\2\3"), "routine.s gives 39 bytes, which are no whole words"),
+    (".data", object_file(WORDS, more=[DATA]), "routine.s: 4 bytes in .data: a bundle has room for the words of .text alone"),
+    (".rodata", object_file(WORDS, more=[(".rodata", 1, 2, b"1")]), "routine.s: 1 bytes in .rodata: a bundle has room"),
+    (".bss", object_file(WORDS, more=[(".bss", assembly.EMPTY, 3, bytes(8))]), "routine.s: 8 bytes in .bss: a bundle has room"),
+    ("common storage", object_file(WORDS, symbols=[("pool", assembly.COMMON)]), "routine.s: common storage `pool`"),
+    ("a name not defined", object_file(WORDS, symbols=[("there", 0)], relocated=[(20, 1)]),
+     "routine.s: word 5 uses `there`, which is not defined"),
+    ("a global label", object_file(WORDS, [("next", 1)], relocated=[(20, 1)]),
+     "routine.s, line 6: word 5 needs the address of `next` that a linker would give"),
+]
+
+
+@cases()
+def mistakes_in_objects():
+    for name, data, expected in OBJECTS:
+        with routine() as folder, assembler_giving(data):
+            said = problem_of(folder)
+            yield name, said.startswith(expected) and "bundle.bin" not in os.listdir(folder), said
+    cut = [length for length in range(0, len(OBJECT)) if not refused(assembly.words_in, OBJECT[:length], [])]
+    yield "no object file cut short is read", cut == [], str(cut)
+
+
+@cases()
+def mistakes_of_assemblers():
+    for name, text, expected in [
+            ("an assembler that is not here", None, f"{AS} is not here or cannot be run: install GNU binutils for SPARC"),
+            ("an assembler that says nothing", "exit 3", f"{AS} ends with status 3 and says nothing"),
+            ("an assembler that writes nothing", "exit 0", f"{AS} gives no object file: routine.o: No such file"),
+            ("an error with its line", "echo '{standard input}:7: Error: bad word' >&2; exit 1", "routine.s, line 7: bad word"),
+            ("a warning", "echo '{standard input}:7: Warning: odd' >&2", "routine.s, line 7: Warning: odd"),
+            ("a message that is no UTF-8", r"printf '{standard input}:7: Error: \344\n' >&2; exit 1", "routine.s, line 7: \\xe4")]:
+        with routine() as folder, only_tool(AS if text else "other", text or ""):
+            said = problem_of(folder)
+            yield name, said.startswith(expected) and "bundle.bin" not in os.listdir(folder), said
+
+
+SOURCES = [
+    (b" .data\nx: .word 5\n", "routine.s, line 2: 4 bytes in .data"),
+    (b' .section ".rodata"\n .byte 5\n', "routine.s, line 2: 1 bytes in .rodata"),
+    (b" .section .bss\n .skip 8\n", "routine.s, line 2: 8 bytes in .bss"),
+    (b" .common x, 8, 4\n", "routine.s, line 2: common storage `x`"),
+    (b" b there\n nop\n", "routine.s, line 2: word 2 uses `there`, which is not defined"),
+    (b" .global here\nhere: nop\n b here\n nop\n", "routine.s, line 4: word 3 needs the address of `here` that a linker would give"),
+    (b"x: sethi %hi(x), %g1\n", "routine.s: word 2 needs the address of `.text` that a linker would give"),
+    (b" unknown %g1\n", "routine.s, line 2: Unknown opcode: `unknown"),
+    (b" .byte 1\n", "routine.s gives 9 bytes, which are no whole words"),
+    (b' .warning "odd"\n', "routine.s, line 2: Warning: odd"),
+]
+
+
+@cases(AS)
+def mistakes_that_the_assembler_finds():
+    for text, expected in SOURCES:
+        with routine() as folder:
+            write(b" retl; nop\n" + text, folder, ROUTINE)
+            said = problem_of(folder)
+            yield f"{ROUTINE}: {expected}", said.startswith(expected), said
+
+
+@cases(AS)
+def labels_of_the_assembler():
+    with routine() as folder:
+        write(LABELLED, folder, ROWS)
+        right = problem_of(folder) == "" and read(folder, "bundle.bin") == read(EXAMPLES, "name", "bundle.bin")
+        yield "words by label, assembled", right, ""
+
+
+# How the tools are called, and where
+
+@cases()
+def wrong_calls():
+    name = os.path.join(EXAMPLES, "name")
+    for tool, arguments in [
+            ("bundle.py", []), ("bundle.py", [name, name]), ("bundle.py", ["--lst", name]), ("bundle.py", [os.path.join(ROOT, "none")]),
+            ("bundle.py", [os.path.join(ROOT, "README.md")]), ("bundle.py", ["--list", EXAMPLES]),
+            ("explain.py", []), ("explain.py", [name, "7", "6"]), ("explain.py", [name, "7", "6", "x"]),
+            ("explain.py", [name, "7", "6", "9" * 5000]), ("explain.py", [name, "17", "0", "0"]), ("explain.py", [name, "0", "1", "0"]),
+            ("explain.py", [name, "7", "9", "10"]), ("explain.py", [os.path.join(ROOT, "none"), "7", "6", "10"]),
+            ("explain.py", [EXAMPLES, "7", "6", "10"]), ("parts.py", ["x"]), ("listings.py", ["x"]), ("vectors.py", ["x"]),
+            ("corpus.py", []), ("corpus.py", ["none", "none"]), ("runs.py", []), ("runs.py", ["none"]), ("speed.py", ["x"])]:
+        status, out, said = called(tool, *arguments)
+        yield f"{tool} {' '.join(arguments)[:60]}", one_line(tool, status, out, said), f"{status} {out} {said}"
+
+
+@cases()
+def bundles_to_explain():
+    with example("name-one-past") as folder:
+        whole = read(folder, "bundle.bin")
+        for what, data, answer, expected in [
+                ("an empty bundle", b"", "23 0 0", "wrong: it has 0 bytes, and the head alone has 8"),
+                ("a bundle cut off", whole[:-1], "23 0 0", f"wrong: it has {len(whole) - 1} bytes"),
+                ("an answer to another bundle", whole, "7 6 9", "This answer is not found in the bundle: explain.py finds 7 6 10.")]:
+            write(data, folder, "bundle.bin")
+            status, out, said = called("explain.py", folder, *answer.split())
+            yield f"explain.py with {what}", status == 0 and expected in out and not said, out + said
+        write(read(EXAMPLES, "sum", POLICY), folder, POLICY)
+        status, out, said = called("explain.py", folder, "7", "6", "10")
+        yield "explain.py with another policy.txt", status == 0 and "(policy.txt is not the policy of bundle.bin" in out, out + said
+        write(b"region \xff\n", folder, POLICY)
+        status, out, said = called("explain.py", folder, "7", "6", "10")
+        right = one_line("explain.py", status, out, said) and said.startswith("explain.py: policy.txt, line 1: byte FF ")
+        yield "explain.py with a policy.txt that is no UTF-8", right, said
+        status, out, said = called("explain.py", os.path.join(folder, "bundle.bin"), "7", "6", "10")
+        yield "explain.py with a bundle alone", status == 0 and "wrong: byte 30 is not in field 0 of region0" in out, out + said
+
+
+@cases()
+def bundles_to_list():
+    with example() as folder:
+        whole = read(folder, "bundle.bin")
+        for what, data, expected in [("no bytes", b"", "bundle.bin is not a bundle: it has 0 bytes"),
+                                     ("another mark", b"X" + whole[1:], "bundle.bin is not a bundle: it does not begin with WTR"),
+                                     ("a byte too much", whole + b"\0", f"bundle.bin is not a bundle: it has {len(whole) + 1} bytes")]:
+            write(data, folder, "bundle.bin")
+            said = problem_of("--list", folder)
+            yield f"bundle.py --list with {what}", said.startswith(expected), said
+        write(whole, folder, "bundle.bin")
+        os.remove(os.path.join(folder, POLICY))
+        with only_tool("other", ""):
+            status, out, said = called("bundle.py", "--list", folder)
+        right = status == 0 and "r8 = region0+0" in out and "(no disassembly" in out
+        yield "bundle.py --list without policy.txt and objdump", right, out + said
+
+
+@cases()
+def places_to_run():
+    plain = {"LC_ALL": "C", "PYTHONUTF8": "0", "PYTHONCOERCECLOCALE": "0", "PYTHONIOENCODING": "ascii"}
+    with example("name-one-past") as folder:
+        status, out, said = called("explain.py", folder, "1", "0", "0", env={**os.environ, **plain})
+        yield "explain.py in a locale without UTF-8", status == 0 and "\u2212" in out, out + said
+        write("region für\n".encode(), folder, POLICY)
+        status, out, said = called("bundle.py", folder, env={**os.environ, **plain})
+        yield "bundle.py in a locale without UTF-8", one_line("bundle.py", status, out, said) and "`region für`" in said, said
+    for path, what in (("/dev/full", "full"), (None, "closed")):
+        if path is None or os.path.exists(path):
+            with open(path, "wb") if path else closed_pipe() as out:
+                done = subprocess.run([sys.executable, os.path.join(TOOLS, "bundle.py"), "--list", os.path.join(EXAMPLES, "name")],
+                                      stdout=out, stderr=subprocess.PIPE)
+            yield f"standard output that is {what}", done.returncode == 1 and b"Traceback" not in done.stderr, done.stderr.decode()
+
+
+def closed_pipe():
+    """A pipe that nobody reads."""
+    ours, theirs = os.pipe()
+    os.close(ours)
+    return open(theirs, "wb", buffering=0)
+
+
+# Help
+
+def data_of_crates():
+    folder = os.path.join(ROOT, "crates")
+    paths = [os.path.join(folder, crate, name) for crate in sorted(os.listdir(folder)) for name in ("stdin", "stdout")]
+    return [(path, os.stat(path).st_mtime_ns, read(path)) for path in paths if os.path.exists(path)]
+
+
+@cases()
+def help_is_given():
+    before = data_of_crates()
+    for tool in sorted(name for name in os.listdir(TOOLS) if name.endswith(".py")):
+        is_script, runs = read(TOOLS, tool).startswith(b"#!"), os.access(os.path.join(TOOLS, tool), os.X_OK)
+        yield f"{tool} has its run bit or is no script", is_script == runs, ""
+        if is_script:
+            status, out, said = called(tool, "--help")
+            yield f"{tool} --help", status == 0 and out.startswith(f"{tool}: ") and f"    tools/{tool}" in out and not said, out + said
+    yield "no data is written when help is asked for", before == data_of_crates(), ""
+
+
+def tried(function):
+    """The cases of a function; that it breaks off is one that failed."""
+    try:
+        yield from function()
+    except Exception as problem:
+        yield function.__name__.replace("_", " "), False, repr(problem)
+
+
+def main(arguments):
+    if arguments:
+        raise script.Problem("call it as `test.py`, with no arguments")
+    passed, failed, left = 0, 0, 0
+    for function, needs in CASES:
+        if needs and not shutil.which(needs):
+            left += 1
+            print(f"left out: {function.__name__.replace('_', ' ')} ({os.path.basename(needs)} is not here)")
+            continue
+        for name, right, shown in tried(function):
+            passed, failed = passed + bool(right), failed + (not right)
+            if not right:
+                print(f"failed: {name}\n{script.shown(shown)}".rstrip())
+    print(f"{passed} passed, {failed} failed" + (f", {left} left out" if left else ""))
+    if failed:
+        script.end("", 1)
+
+
+if __name__ == "__main__":
+    script.run(main, __doc__)
