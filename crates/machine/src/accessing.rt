@@ -7,7 +7,7 @@ ghost use Rattle.memory.specs.Place.{partStart};
 ghost use Rattle.step.specs.Effect.{done, touching};
 ghost use Rattle.step.specs.declared.MarkedCodes.{MarkedCodes};
 ghost use Rattle.step.specs.Lent.{coreOf};
-ghost use Rattle.machine.specs.Covers.{Covered};
+ghost use Rattle.machine.specs.Fits.{Covered};
 use memory::extent;
 use memory::load_in;
 use memory::part_start;

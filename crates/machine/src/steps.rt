@@ -5,7 +5,7 @@ ghost use lib.ListN.{length};
 ghost use Rattle.v8.specs.Numbers.{mostWords};
 ghost use Rattle.step.specs.Control.{goTo};
 ghost use Rattle.step.specs.Lent.{coreOf};
-ghost use Rattle.machine.specs.Covers.{Fits};
+ghost use Rattle.machine.specs.Fits.{Fits};
 ghost use Rattle.machine.specs.Run.{runFrom, settingOf};
 ghost use Rattle.machine.specs.Ended.{ranOf};
 use crate::End;
@@ -24,11 +24,10 @@ use step::Pending;
 use step::Progress;
 use step::dispatch::one_step;
 use step::moving::due;
-use v8::Reading;
 use v8::WordIndex;
 use v8::numbers::MOST_WORDS;
 use v8::numbers::NO_FIELD;
-use v8::numbers::NOT_READ;
+use v8::numbers::NO_WORD;
 
 // Runs from word 0 until the run has returned, has spent the allowance, or stops at a fault.
 pub fn run_steps(
@@ -55,11 +54,14 @@ pub fn run_steps(
     while steps < allowance {
         let at = control.at;
         let i = at.0 as usize;
-        let mut x = Reading::Unread(NOT_READ);
-        if i < MOST_WORDS {
-            x = readings[i];
+        if MOST_WORDS <= i {
+            return Ended {
+                end: End::Fault(NO_WORD),
+                steps,
+                codes: flags,
+            };
         }
-        let r = one_step(control, flags, values, marks, x, returns);
+        let r = one_step(control, flags, values, marks, readings[i], returns);
         flags = r.codes;
         let progress = r.progress;
         match progress {

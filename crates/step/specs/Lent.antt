@@ -1,12 +1,9 @@
 -- What lent arrays, and what a step answers beside them, say of a state: the definitions speak of whole states, the code of values
 -- and marks that are lent to it. The code of a step knows neither memory nor layout: it answers with the access that it makes.
-use Prim.Native.Nat.{ℕ, _<_}
+use Prim.Native.Nat.{ℕ}
 use mathlib.Core.Path.{_≡_}
 use mathlib.Core.Bool.{Bool}
 use mathlib.Core.List.{List}
-use Rattle.v8.specs.Numbers.{mostWords}
-use Rattle.v8.specs.declared.Reading.{Reading}
-use Rattle.v8.specs.declared.Reading.the-variants.{Read, Unread}
 use Rattle.access.specs.Layout.{Layout}
 use Rattle.flow.specs.declared.Destination.{Destination}
 use Rattle.flow.specs.declared.Destination.the-variants.{To, Caller}
@@ -61,8 +58,3 @@ Does w values marks k g f =
 unfoldable pub arriving : Control → MarkedCodes → Destination → Went
 arriving k codes (To w) = record { progress = Goes; control = goTo (w .0); codes = codes }
 arriving k codes Caller = record { progress = Returned; control = k; codes = codes }
-
--- control stands at a word of the code, where that word is read
-abbrev pub Within : Control → Reading → Type 0
-Within k (Read x) = k .at .0 < mostWords
-Within k (Unread n) = Unit {0}

@@ -1,6 +1,8 @@
 // One step of the machine: the instruction that is read at a word is run.
+ghost use Prim.Native.Nat.{_<_};
+ghost use Rattle.v8.specs.Numbers.{mostWords};
 ghost use Rattle.step.specs.Step.{stepWith};
-ghost use Rattle.step.specs.Lent.{registersOf, Does, Within};
+ghost use Rattle.step.specs.Lent.{registersOf, Does};
 use crate::Control;
 use crate::MARKS;
 use crate::MarkedCodes;
@@ -28,7 +30,7 @@ pub fn one_step(
     x: Reading,
     returns: u32,
 ) -> Went
-    requires { ⌜ Within control x ⌝ }
+    requires { ⌜ control .at .0 < mostWords ⌝ }
     ensures { λ r. ⌜ Does r (now (values .exit)) (now (marks .exit)) control (registersOf (now (values .entry)) (now (marks .entry)) codes) (λ l st. stepWith l returns st x) ⌝ }
 {
     match x {

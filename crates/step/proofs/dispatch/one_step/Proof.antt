@@ -15,25 +15,25 @@ enum-known-operation : tie.Need-enum-known-operation
 enum-known-operation c = search needs
 
 step-sethi-requires : tie.Need-step-sethi-requires
-step-sethi-requires c κs = rw (c .before .before .before .before .before .before .before .before .before .x .given .1) at (c .before .before .before .before .before .before .before .before .before .before .before .pre)
+step-sethi-requires c κs = search needs
 
 enum-known-operation-2 : tie.Need-enum-known-operation-2
 enum-known-operation-2 c = search needs
 
 step-alu-requires : tie.Need-step-alu-requires
-step-alu-requires c κs = rw (c .before .before .before .before .before .before .before .before .before .x .given .1) at (c .before .before .before .before .before .before .before .before .before .before .before .pre)
+step-alu-requires c κs = search needs
 
 enum-known-operation-3 : tie.Need-enum-known-operation-3
 enum-known-operation-3 c = search needs
 
 step-shift-requires : tie.Need-step-shift-requires
-step-shift-requires c κs = rw (c .before .before .before .before .before .before .before .before .before .x .given .1) at (c .before .before .before .before .before .before .before .before .before .before .before .pre)
+step-shift-requires c κs = search needs
 
 enum-known-operation-4 : tie.Need-enum-known-operation-4
 enum-known-operation-4 c = search needs
 
 step-access-requires : tie.Need-step-access-requires
-step-access-requires c κs = rw (c .before .before .before .before .before .before .before .before .before .x .given .1) at (c .before .before .before .before .before .before .before .before .before .before .before .pre)
+step-access-requires c κs = search needs
 
 enum-known-instruction-2 : tie.Need-enum-known-instruction-2
 enum-known-instruction-2 c = search needs
@@ -48,7 +48,7 @@ returns : tie.Need-returns
 returns c = λ l memory. rw (c .before .before .before .before .before .before .before .x .given .1, c .before .before .before .before .instruction2 .given .1, ← c .before .before .in-slot .ensures, c .before .if1 .taken, c .stop .ensures)
 
 branch-requires : tie.Need-branch-requires
-branch-requires c κs = rw (c .before .before .before .before .before .before .x .given .1) at (c .before .before .before .before .before .before .before .before .pre)
+branch-requires c κs = search needs
 
 enum-told : tie.Need-enum-told
 enum-told c = search needs
@@ -63,7 +63,7 @@ returns-2 : tie.Need-returns-2
 returns-2 c = λ l memory. rw (c .before .before .before .before .before .before .x .given .1, c .before .before .before .enum-told .given .1, ← c .before .before .in-slot2 .ensures, c .before .if2 .taken, c .stop2 .ensures)
 
 leave-requires : tie.Need-leave-requires
-leave-requires c κs = rw (c .before .before .before .before .before .before .before .x .given .1) at (c .before .before .before .before .before .before .before .before .before .pre)
+leave-requires c κs = search needs
 
 enum-told-2 : tie.Need-enum-told-2
 enum-told-2 c = search needs
