@@ -1,5 +1,4 @@
 pub mod RunLaws
-pub mod Within
 pub mod Loop
 pub mod Covered
 pub mod Begun

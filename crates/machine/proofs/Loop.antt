@@ -5,15 +5,25 @@ use mathlib.Core.Path.{_≡_, refl, sym, ap, _∙_}
 use mathlib.Core.Bool.{Bool}
 use mathlib.Core.List.{List}
 use native.Mathlib.Omega.{arith}
+use Rattle.v8.specs.Numbers.{notRead, noWord, noField}
+use Rattle.v8.specs.declared.Access.{Access}
+use Rattle.v8.specs.declared.ByteOffset.{ByteOffset}
 use Rattle.v8.specs.declared.Reading.{Reading}
+use Rattle.v8.specs.declared.Reading.the-variants.{Unread}
+use Rattle.memory.specs.Place.{partStart}
+use Rattle.access.specs.declared.Located.{Located}
+use Rattle.access.specs.declared.Located.the-variants.{At, Nowhere}
+use Rattle.access.specs.Locate.{locate}
+use Rattle.flow.specs.declared.Destination.{Destination}
 use Rattle.step.specs.declared.Went.{Went}
 use Rattle.step.specs.declared.Progress.{Progress}
-use Rattle.step.specs.declared.Progress.the-variants.{Goes, Returned, Stopped}
+use Rattle.step.specs.declared.Progress.the-variants.{Goes, Returned, Stopped, Accesses}
 use Rattle.flow.specs.Readings.{readingAt}
 use Rattle.step.specs.Setting.{Setting}
-use Rattle.step.specs.Effect.{Core}
-use Rattle.step.specs.Step.{State, Step, stopped, next, returned, stepWith, stepOf}
-use Rattle.step.specs.Lent.{Stepped, coreOf, leaving, stepFrom, wentOf}
+use Rattle.step.specs.Control.{dueAt}
+use Rattle.step.specs.Effect.{Core, done, touching, accessAt}
+use Rattle.step.specs.Step.{State, Step, stopped, next, returned, advance, plainStep, stepWith, stepOf}
+use Rattle.step.specs.Lent.{Stepped, coreOf, leaving, stepFrom, completed}
 use Rattle.machine.specs.declared.End.the-variants as End·
 use Rattle.machine.specs.Run.{ended, afterStep, runFrom}
 use Rattle.machine.proofs.RunLaws.{runs-nothing, runs-one-more}
@@ -34,39 +44,66 @@ turn-spent s allowance steps st h = ap (λ (n : ℕ). runFrom s n steps st) (non
     none : (allowance steps : ℕ) → allowance ≤ steps → allowance - steps ≡ 0
     none allowance steps h = omega arith
 
+-- a word outside the code is not read
+pub turn-outside : (s : Setting) (allowance steps : ℕ) (st : State) → readingAt (s .readings) (st .control .at .0) ≡ Unread notRead → steps < allowance
+    → runFrom s (allowance - steps) steps st ≡ ended (End·.Fault noWord) steps (st .core)
+unfolding stepOf
+turn-outside s allowance steps st unread h =
+    ap (λ (n : ℕ). runFrom s n steps st) (rest allowance steps h) ∙ runs-one-more s (allowance - (steps + 1)) steps st
+    ∙ ap (λ (x : Reading). afterStep steps st (runFrom s (allowance - (steps + 1)) (steps + 1)) (stepWith (s .layout) (s .returns) st x)) unread
+
 module _ (s : Setting) (allowance steps : ℕ) (st : State) (x : Reading) (w : Went) (values : List ℕ) (marks : List Bool) (memory : List ℕ)
     (fetched : x ≡ readingAt (s .readings) (st .control .at .0))
-    (e : wentOf w values marks memory ≡ leaving (st .core) (stepWith (s .layout) (s .returns) st x)) (h : steps < allowance) where
+    (e : completed (s .layout) (st .control) w values marks memory ≡ leaving (st .core) (stepWith (s .layout) (s .returns) st x)) (h : steps < allowance) where
+  -- what the lent arrays hold after the step
+  abbrev left : Core
+  left = coreOf values marks (w .codes) memory
+
+  -- the step that the answer says
+  abbrev says : Progress → Step
+  says p = stepFrom (s .layout) (st .control) p (w .control) left
+
+  abbrev said : Step
+  said = says (w .progress)
+
   -- the step of what is fetched is the step of the state
   step-of : stepWith (s .layout) (s .returns) st x ≡ stepOf s st
   unfolding stepOf
   step-of = ap (stepWith (s .layout) (s .returns) st) fetched
 
-  -- what the lent arrays hold after the step
-  left : Core
-  left = coreOf values marks (w .codes) (w .coded) memory
+  step-is : stepOf s st ≡ said
+  step-is = sym step-of ∙ sym (leaving-step (st .core) _) ∙ sym (ap (λ (x : Stepped). x .step) e) ∙ leaving-step left said
 
-  step-is : (p : Progress) → w .progress ≡ p → stepOf s st ≡ stepFrom p (w .control) left
-  unfolding left
-  step-is p q = sym step-of ∙ sym (leaving-step (st .core) _) ∙ sym (ap (λ (x : Stepped). x .step) e) ∙ ap (λ (x : Progress). stepFrom x (w .control) left) q
-
-  one : (p : Progress) → w .progress ≡ p → runFrom s (allowance - steps) steps st ≡ afterStep steps st (runFrom s (allowance - (steps + 1)) (steps + 1)) (stepFrom p (w .control) left)
-  one p q =
+  one : (y : Step) → said ≡ y → runFrom s (allowance - steps) steps st ≡ afterStep steps st (runFrom s (allowance - (steps + 1)) (steps + 1)) y
+  one y q =
       ap (λ (n : ℕ). runFrom s n steps st) (rest allowance steps h) ∙ runs-one-more s (allowance - (steps + 1)) steps st
-      ∙ ap (afterStep steps st (runFrom s (allowance - (steps + 1)) (steps + 1))) (step-is p q)
+      ∙ ap (afterStep steps st (runFrom s (allowance - (steps + 1)) (steps + 1))) (step-is ∙ q)
 
-  pub turn-goes : w .progress ≡ Goes → runFrom s (allowance - steps) steps st ≡ runFrom s (allowance - (steps + 1)) (steps + 1) (record { control = w .control; core = coreOf values marks (w .codes) (w .coded) memory })
-  unfolding left
-  turn-goes q = one Goes q
+  -- by what is said: it goes on, has returned, or stops
+  pub turn-goes : w .progress ≡ Goes → runFrom s (allowance - steps) steps st ≡ runFrom s (allowance - (steps + 1)) (steps + 1) (record { control = w .control; core = left })
+  turn-goes q = one _ (ap says q)
 
-  pub turn-returned : w .progress ≡ Returned → runFrom s (allowance - steps) steps st ≡ ended End·.Returned (steps + 1) (coreOf values marks (w .codes) (w .coded) memory)
-  unfolding left
-  turn-returned q = one Returned q
+  pub turn-returned : w .progress ≡ Returned → runFrom s (allowance - steps) steps st ≡ ended End·.Returned (steps + 1) left
+  turn-returned q = one _ (ap says q)
 
-  core-is : (f : ℕ) → w .progress ≡ Stopped f → left ≡ st .core
-  unfolding left
-  core-is f q = ap (λ (x : Stepped). x .core) e ∙ ap (λ (x : Step). leaving (st .core) x .core) (step-of ∙ step-is (Stopped f) q)
+  core-is : (f : ℕ) → said ≡ stopped f → left ≡ st .core
+  core-is f q = sym (ap (λ (x : Step). leaving left x .core) q) ∙ ap (λ (x : Stepped). x .core) e ∙ ap (λ (x : Step). leaving (st .core) x .core) (step-of ∙ step-is ∙ q)
 
-  pub turn-stopped : (f : ℕ) → w .progress ≡ Stopped f → runFrom s (allowance - steps) steps st ≡ ended (End·.Fault f) steps (coreOf values marks (w .codes) (w .coded) memory)
-  unfolding left
-  turn-stopped f q = one (Stopped f) q ∙ ap (ended (End·.Fault f) steps) (sym (core-is f q))
+  stops : (f : ℕ) → said ≡ stopped f → runFrom s (allowance - steps) steps st ≡ ended (End·.Fault f) steps left
+  stops f q = one (stopped f) q ∙ ap (ended (End·.Fault f) steps) (sym (core-is f q))
+
+  pub turn-stopped : (f : ℕ) → w .progress ≡ Stopped f → runFrom s (allowance - steps) steps st ≡ ended (End·.Fault f) steps left
+  turn-stopped f q = stops f (ap says q)
+
+  -- an access that lies nowhere, and one that lies somewhere and was done there
+  module _ (a : Access) (rd address : ℕ) (q : w .progress ≡ Accesses a rd address) where
+    accesses : (at : Located) → locate (s .layout) a address ≡ at → said ≡ plainStep (st .control) (accessAt (s .layout .regions .sizes) left a rd at)
+    accesses at f = ap says q ∙ ap (λ (x : Located). plainStep (st .control) (accessAt (s .layout .regions .sizes) left a rd x)) f
+
+    pub turn-nowhere : locate (s .layout) a address ≡ Nowhere → runFrom s (allowance - steps) steps st ≡ ended (End·.Fault noField) steps left
+    turn-nowhere f = stops noField (accesses Nowhere f)
+
+    pub turn-moved : (r : ℕ) (offset : ByteOffset) (c : Core) (d : Destination) → locate (s .layout) a address ≡ At r offset
+        → done c ≡ touching left a rd (partStart (s .layout .regions .sizes) r + offset .0) → dueAt (st .control .at .0) (st .control .pending) ≡ d
+        → runFrom s (allowance - steps) steps st ≡ afterStep steps st (runFrom s (allowance - (steps + 1)) (steps + 1)) (advance c d)
+    turn-moved r offset c d f m to = one _ (accesses (At r offset) f ∙ sym (ap (plainStep (st .control)) m) ∙ ap (advance c) to)

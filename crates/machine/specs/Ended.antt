@@ -9,7 +9,7 @@ use Rattle.machine.specs.Run.{Run}
 abbrev pub ranOf : Ended → List ℕ → List Bool → List ℕ → Run
 ranOf r values marks memory =
     record {
-      outcome = record { end = r .end; steps = r .steps; registers = record { values = values; marks = marks; codes = r .codes; coded = r .coded } };
+      outcome = record { end = r .end; steps = r .steps; registers = record { values = values; marks = marks; codes = r .codes } };
       memory = memory;
     }
 

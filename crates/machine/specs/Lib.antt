@@ -1,4 +1,5 @@
 pub mod Placement
+pub mod Fits
 pub mod Run
 pub mod Ended
 pub mod Laws

@@ -65,24 +65,15 @@ pub fn run(
     values[0] = 0;
     marks[0] = true;
     let codes = registers.codes;
-    let coded = registers.coded;
-    let regions = policy.regions.count;
     let r = run_steps(
+        policy,
+        words,
+        bases,
+        returns,
         codes,
-        coded,
         &mut values,
         &mut marks,
         memory,
-        words,
-        returns,
-        regions,
-        &policy.regions.sizes,
-        bases,
-        &policy.regions.fields,
-        &policy.fields.elements,
-        &policy.fields.permissions,
-        &policy.fields.offsets,
-        &policy.fields.counts,
         allowance,
     );
     let end = r.end;
@@ -94,7 +85,6 @@ pub fn run(
             values,
             marks,
             codes: left,
-            coded: r.coded,
         },
     }
 }

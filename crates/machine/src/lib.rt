@@ -5,11 +5,13 @@
 mod place;
 // How a run begins.
 mod begin;
+// What a step asks of memory.
+mod accessing;
 // The run, step after step.
 mod steps;
 
-use alu::Codes;
 pub use begin::run;
+use step::MarkedCodes;
 use step::Registers;
 
 // How a run ends.
@@ -31,6 +33,5 @@ pub struct Outcome {
 pub struct Ended {
     pub end: End,
     pub steps: u64,
-    pub codes: Codes,
-    pub coded: bool,
+    pub codes: MarkedCodes,
 }

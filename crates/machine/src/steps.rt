@@ -4,43 +4,45 @@ ghost use Prim.Native.Nat.{_≤_};
 ghost use lib.ListN.{length};
 ghost use Rattle.v8.specs.Numbers.{mostWords};
 ghost use Rattle.step.specs.Control.{goTo};
-ghost use Rattle.step.specs.Lent.{coreOf, layoutFrom, settingFrom, Covers};
-ghost use Rattle.machine.specs.Run.{runFrom};
+ghost use Rattle.step.specs.Lent.{coreOf};
+ghost use Rattle.machine.specs.Fits.{Fits};
+ghost use Rattle.machine.specs.Run.{runFrom, settingOf};
 ghost use Rattle.machine.specs.Ended.{ranOf};
 use crate::End;
 use crate::Ended;
-use alu::Codes;
+use crate::accessing::access_at;
+use access::Located;
+use access::locate_access;
+use access::width_of;
+use flow::Destination;
 use flow::readings::read_all;
+use policy::Policy;
 use step::Control;
+use step::MARKS;
+use step::MarkedCodes;
 use step::Pending;
 use step::Progress;
 use step::dispatch::one_step;
-use v8::Reading;
+use step::moving::due;
 use v8::WordIndex;
 use v8::numbers::MOST_WORDS;
-use v8::numbers::NOT_READ;
+use v8::numbers::NO_FIELD;
+use v8::numbers::NO_WORD;
 
 // Runs from word 0 until the run has returned, has spent the allowance, or stops at a fault.
-pub fn run_steps<'a>(
-    codes: Codes,
-    coded: bool,
-    values: &mut [u32; 32],
-    marks: &mut [bool; 32],
-    memory: &mut [u8],
+pub fn run_steps(
+    policy: Policy,
     words: &[u32],
-    returns: u32,
-    regions: u8,
-    sizes: &'a [u16; 8],
     bases: &[u32],
-    fields: &'a [u8; 8],
-    elements: &'a [u8; 128],
-    permissions: &'a [u8; 128],
-    offsets: &'a [u32; 128],
-    counts: &'a [u16; 128],
+    returns: u32,
+    codes: MarkedCodes,
+    values: &mut [u32; 32],
+    marks: &mut [bool; MARKS],
+    memory: &mut [u8],
     allowance: u64,
 ) -> Ended
-    requires { ⌜ (length (now words) ≤ mostWords) × (regions ≤ 8) × (regions ≤ length (now bases)) × Covers (layoutFrom regions (now sizes) (now bases) (now fields) (now elements) (now permissions) (now offsets) (now counts)) (length (now memory)) ⌝ }
-    ensures { λ r. ⌜ ranOf r (now (values .exit)) (now (marks .exit)) (now (memory .exit)) ≡ runFrom (settingFrom (layoutFrom regions (now (sizes .entry)) (now (bases .entry)) (now (fields .entry)) (now (elements .entry)) (now (permissions .entry)) (now (offsets .entry)) (now (counts .entry))) (now (words .entry)) returns) allowance 0 (record { control = goTo 0; core = (coreOf (now (values .entry)) (now (marks .entry)) codes coded (now (memory .entry))) }) ⌝ }
+    requires { ⌜ (length (now words) ≤ mostWords) × Fits policy (now bases) (length (now memory)) ⌝ }
+    ensures { λ r. ⌜ ranOf r (now (values .exit)) (now (marks .exit)) (now (memory .exit)) ≡ runFrom (settingOf policy (now (words .entry)) (now (bases .entry)) returns) allowance 0 (record { control = goTo 0; core = coreOf (now (values .entry)) (now (marks .entry)) codes (now (memory .entry)) }) ⌝ }
 {
     let readings = read_all(words);
     let mut control = Control {
@@ -48,39 +50,23 @@ pub fn run_steps<'a>(
         pending: Pending::Nothing,
     };
     let mut flags = codes;
-    let mut set = coded;
     let mut steps: u64 = 0;
     while steps < allowance {
         let at = control.at;
         let i = at.0 as usize;
-        let mut x = Reading::Unread(NOT_READ);
-        if i < MOST_WORDS {
-            x = readings[i];
+        if MOST_WORDS <= i {
+            return Ended {
+                end: End::Fault(NO_WORD),
+                steps,
+                codes: flags,
+            };
         }
-        let r = one_step(
-            control,
-            flags,
-            set,
-            values,
-            marks,
-            memory,
-            x,
-            returns,
-            regions,
-            sizes,
-            bases,
-            fields,
-            elements,
-            permissions,
-            offsets,
-            counts,
-        );
-        control = r.control;
+        let r = one_step(control, flags, values, marks, readings[i], returns);
         flags = r.codes;
-        set = r.coded;
         let progress = r.progress;
         match progress {
             Progress::Goes => {
+                control = r.control;
                 steps += 1;
             }
             Progress::Returned => {
@@ -88,7 +74,6 @@ pub fn run_steps<'a>(
                     end: End::Returned,
                     steps: steps + 1,
                     codes: flags,
-                    coded: set,
                 };
             }
             Progress::Stopped(n) => {
@@ -96,8 +81,60 @@ pub fn run_steps<'a>(
                     end: End::Fault(n),
                     steps,
                     codes: flags,
-                    coded: set,
                 };
+            }
+            Progress::Accesses(a, rd, address) => {
+                let located = locate_access(
+                    policy.regions.count,
+                    &policy.regions.sizes,
+                    bases,
+                    &policy.regions.fields,
+                    &policy.fields.elements,
+                    &policy.fields.permissions,
+                    &policy.fields.offsets,
+                    &policy.fields.counts,
+                    a,
+                    width_of(a),
+                    address,
+                );
+                match located {
+                    Located::At(region, offset) => {
+                        access_at(
+                            values,
+                            marks,
+                            memory,
+                            &policy.regions.sizes,
+                            a,
+                            rd,
+                            region,
+                            offset,
+                        );
+                    }
+                    Located::Nowhere => {
+                        return Ended {
+                            end: End::Fault(NO_FIELD),
+                            steps,
+                            codes: flags,
+                        };
+                    }
+                }
+                let to = due(control);
+                match to {
+                    Destination::To(w) => {
+                        control = Control {
+                            at: w,
+                            pending: Pending::Nothing,
+                        };
+                        steps += 1;
+                    }
+                    Destination::Caller => {
+                        return Ended {
+                            end: End::Returned,
+                            steps: steps + 1,
+                            codes: flags,
+                        };
+                    }
+                }
             }
         }
     }
@@ -105,6 +142,5 @@ pub fn run_steps<'a>(
         end: End::Spent,
         steps,
         codes: flags,
-        coded: set,
     }
 }

@@ -66,9 +66,6 @@ fn judge_outcome(numbers: &[u32; MOST_NUMBERS], outcome: Outcome, kept: bool) ->
     if !same_registers(left, expected) {
         return Verdict::OtherRegisters;
     }
-    if left.coded != expected.coded {
-        return Verdict::OtherCodes;
-    }
     if !same_codes(left.codes, expected.codes) {
         return Verdict::OtherCodes;
     }

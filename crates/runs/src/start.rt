@@ -9,6 +9,8 @@ use crate::record::field_count;
 use crate::record::words_end;
 use policy::Policy;
 use states::codes_of;
+use step::MARKS;
+use step::MarkedCodes;
 use step::Registers;
 ghost use Prim.Native.Nat.{_+_, _≤_};
 
@@ -60,7 +62,7 @@ fn state_from(numbers: &[u32; MOST_NUMBERS], from: usize) -> Registers
     requires { ⌜ from + 34 ≤ 746 ⌝ }
 {
     let mut values = [0u32; 32];
-    let mut marks = [false; 32];
+    let mut marks = [false; MARKS];
     let mut rest = numbers[from + 32];
     let mut r = 0;
     while r < 32 {
@@ -70,12 +72,14 @@ fn state_from(numbers: &[u32; MOST_NUMBERS], from: usize) -> Registers
         r += 1;
     }
     let number = numbers[from + 33];
-    let codes = codes_of(number);
+    let codes = MarkedCodes {
+        value: codes_of(number),
+        set: number / 16 % 2 == 1,
+    };
     Registers {
         values,
         marks,
         codes,
-        coded: number / 16 % 2 == 1,
     }
 }
 

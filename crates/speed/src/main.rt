@@ -8,6 +8,8 @@ use machine::Outcome;
 use policy::Field;
 use policy::Policy;
 use states::end_number;
+use step::MARKS;
+use step::MarkedCodes;
 use step::Registers;
 use v8::ByteOffset;
 
@@ -52,7 +54,7 @@ fn lent() -> Policy {
 // r8 is the start of the region, r9 to r12 are 0.
 fn start() -> Registers {
     let mut values = [0u32; 32];
-    let mut marks = [false; 32];
+    let mut marks = [false; MARKS];
     values[8] = 4096;
     marks[8] = true;
     marks[9] = true;
@@ -62,13 +64,15 @@ fn start() -> Registers {
     Registers {
         values,
         marks,
-        codes: Codes {
-            n: false,
-            z: false,
-            v: false,
-            c: false,
+        codes: MarkedCodes {
+            value: Codes {
+                n: false,
+                z: false,
+                v: false,
+                c: false,
+            },
+            set: false,
         },
-        coded: false,
     }
 }
 

@@ -1,6 +1,8 @@
 // Ends, registers and codes as data made outside gives them, for the programs that compare.
 use alu::Codes;
 use machine::End;
+use step::MARKS;
+use step::MarkedCodes;
 use step::Registers;
 
 // How a run ended, as a number: 0 returned, 1 spent, else the fault's or the refusal's.
@@ -23,8 +25,11 @@ pub fn codes_of(number: u32) -> Codes {
     }
 }
 
-pub fn same_codes(a: Codes, b: Codes) -> bool {
-    (a.n == b.n) & (a.z == b.z) & (a.v == b.v) & (a.c == b.c)
+// Whether the codes are the same, with the same mark; those that are unset too.
+pub fn same_codes(a: MarkedCodes, b: MarkedCodes) -> bool {
+    let x = a.value;
+    let y = b.value;
+    (a.set == b.set) & (x.n == y.n) & (x.z == y.z) & (x.v == y.v) & (x.c == y.c)
 }
 
 // Whether the registers hold the same, with the same marks; those that are unset too.

@@ -91,8 +91,13 @@ abbrev pub accessAt : List ℕ → Core → Access → ℕ → Located → Effec
 accessAt sizes c a rd (At r offset) = touching c a rd (partStart sizes r + offset .0)
 accessAt sizes c a rd Nowhere = fault noField
 
+-- an access to an address
+abbrev pub accessTo : Layout → Core → Access → ℕ → ℕ → Effect
+accessTo l c a rd address = accessAt (l .regions .sizes) c a rd (locate l a address)
+
+-- an access, by where it aims
 abbrev pub accessAimed : Layout → Core → Access → ℕ → Aim → Effect
-accessAimed l c a rd (Address address) = accessAt (l .regions .sizes) c a rd (locate l a address)
+accessAimed l c a rd (Address address) = accessTo l c a rd address
 accessAimed l c a rd (Missed n) = fault n
 
 abbrev pub accessEffect : Layout → Core → Access → ℕ → ℕ → Displacement → Effect

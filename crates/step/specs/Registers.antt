@@ -36,15 +36,15 @@ marksWith marks r = cond (eqb r 0) marks (cond (ltb r 32) (set marks r true) mar
 
 -- the registers after a write
 abbrev pub written : Registers → ℕ → ℕ → Registers
-written g r v = record { values = valuesWith (g .values) r v; marks = marksWith (g .marks) r; codes = g .codes; coded = g .coded }
+written g r v = record { values = valuesWith (g .values) r v; marks = marksWith (g .marks) r; codes = g .codes }
 
 -- the registers after the codes are set
 abbrev pub withCodes : Registers → Codes → Registers
-withCodes g f = record { values = g .values; marks = g .marks; codes = f; coded = true }
+withCodes g f = record { values = g .values; marks = g .marks; codes = record { value = f; set = true } }
 
 -- the registers with r0 a set zero
 abbrev pub withZero : Registers → Registers
-withZero g = record { values = set (g .values) 0 0; marks = set (g .marks) 0 true; codes = g .codes; coded = g .coded }
+withZero g = record { values = set (g .values) 0 0; marks = set (g .marks) 0 true; codes = g .codes }
 
 -- what a second operand gives
 abbrev pub operandIn : List ℕ → Operand → ℕ

@@ -55,8 +55,8 @@ plainStep k (done c) = advance c (dueAt (k .at .0) (k .pending))
 -- a branch: its codes read if its condition reads them, then control takes the edge that they decide
 abbrev pub branchStep : State → Bicc → Step
 branchStep st b =
-    cond (readsCodes (b .cond) && not (st .core .registers .coded)) (stopped unsetRead)
-    (follow (st .control .at .0) (edgeOf (st .control .at .0) (Branch b) (condHolds (b .cond) (st .core .registers .codes))) (st .core))
+    cond (readsCodes (b .cond) && not (st .core .registers .codes .set)) (stopped unsetRead)
+    (follow (st .control .at .0) (edgeOf (st .control .at .0) (Branch b) (condHolds (b .cond) (st .core .registers .codes .value))) (st .core))
 
 -- the leaf return: 102, 104, 105 in order
 abbrev pub returnStep : ℕ → State → Step

@@ -1,30 +1,39 @@
-// One step of the machine: V8's effect of each instruction of the subset on registers, codes and the
-// lent memory. (Document 01, "Machine run".)
+// One step of the machine: V8's effect of each instruction of the subset on registers and codes, and
+// which access to the lent memory it makes. (Document 01, "Machine run".)
 
 // Registers in lent arrays.
-mod regs;
+pub mod regs;
 // Instructions that change registers and codes alone.
 mod compute;
-// Loads and stores.
+// Loads and stores, up to the access itself.
 mod loadstore;
 // One step.
 pub mod dispatch;
 // Control: what follows a word, branches and the return.
-mod moving;
+pub mod moving;
 
 use alu::Codes;
 use flow::Destination;
+use v8::Access;
 use v8::WordIndex;
+
+// How many marks there are: one for each register.
+pub const MARKS: usize = 32;
+
+// The condition codes, marked set or unset.
+pub struct MarkedCodes {
+    pub value: Codes,
+    pub set: bool,
+}
 
 // Registers r0 to r31 and the condition codes, each marked set or unset.
 pub struct Registers {
     pub values: [u32; 32],
-    pub marks: [bool; 32],
-    pub codes: Codes,
-    pub coded: bool,
+    pub marks: [bool; MARKS],
+    pub codes: MarkedCodes,
 }
 
-// What is read, with its mark.
+// What is read of a register, with its mark.
 pub struct Marked {
     pub value: u32,
     pub set: bool,
@@ -49,18 +58,19 @@ pub enum Aim {
     Missed(u8),
 }
 
-// How a step went: on to the next word, returned, or stopped at a fault.
+// How a step went: on to the next word, returned, or stopped at a fault; or it is an access that moves
+// a register at an address, and goes on once that is done.
 pub enum Progress {
     Goes,
     Returned,
     Stopped(u8),
+    Accesses(Access, u8, u32),
 }
 
-// What a step gives beside what it leaves in the lent arrays: how it went, where control stands then,
-// and the condition codes with their mark.
+// What a step gives beside what it leaves in the lent arrays: how it went, where control stands then
+// if it goes, and the condition codes.
 pub struct Went {
     pub progress: Progress,
     pub control: Control,
-    pub codes: Codes,
-    pub coded: bool,
+    pub codes: MarkedCodes,
 }

@@ -1,6 +1,7 @@
 // Registers in lent arrays of values and marks. r0 reads as a set zero, and writes to it vanish.
 ghost use mathlib.Core.Path.{_≡_};
 ghost use Rattle.step.specs.Registers.{valueIn, setIn, registerIn, operandWith, valuesWith, marksWith};
+use crate::MARKS;
 use crate::Marked;
 use v8::Operand;
 
@@ -19,7 +20,7 @@ pub fn value(values: &[u32; 32], r: u8) -> u32
 }
 
 // Whether register r is set.
-pub fn is_set(marks: &[bool; 32], r: u8) -> bool
+pub fn is_set(marks: &[bool; MARKS], r: u8) -> bool
     ensures { λ v. ⌜ v ≡ setIn (now (marks .entry)) r ⌝ }
 {
     let i = r as usize;
@@ -33,7 +34,7 @@ pub fn is_set(marks: &[bool; 32], r: u8) -> bool
 }
 
 // Writes register r, which is set from then on.
-pub fn write(values: &mut [u32; 32], marks: &mut [bool; 32], r: u8, v: u32)
+pub fn write(values: &mut [u32; 32], marks: &mut [bool; MARKS], r: u8, v: u32)
     ensures values { λ _. ⌜ now (values .exit) ≡ valuesWith (now (values .entry)) r v ⌝ }
     ensures marks { λ _. ⌜ now (marks .exit) ≡ marksWith (now (marks .entry)) r ⌝ }
 {
@@ -48,7 +49,7 @@ pub fn write(values: &mut [u32; 32], marks: &mut [bool; 32], r: u8, v: u32)
 }
 
 // What register r reads as, with its mark.
-pub fn register(values: &[u32; 32], marks: &[bool; 32], r: u8) -> Marked
+pub fn register(values: &[u32; 32], marks: &[bool; MARKS], r: u8) -> Marked
     ensures { λ v. ⌜ v ≡ registerIn (now (values .entry)) (now (marks .entry)) r ⌝ }
 {
     Marked {
@@ -58,7 +59,7 @@ pub fn register(values: &[u32; 32], marks: &[bool; 32], r: u8) -> Marked
 }
 
 // What a second operand gives, with its mark: a number is always set.
-pub fn operand(values: &[u32; 32], marks: &[bool; 32], x: Operand) -> Marked
+pub fn operand(values: &[u32; 32], marks: &[bool; MARKS], x: Operand) -> Marked
     ensures { λ v. ⌜ v ≡ operandWith (now (values .entry)) (now (marks .entry)) x ⌝ }
 {
     match x {

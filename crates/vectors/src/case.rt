@@ -7,6 +7,8 @@
 use hex::Digits;
 use hex::word_of;
 use states::codes_of;
+use step::MARKS;
+use step::MarkedCodes;
 use step::Registers;
 ghost use Prim.Native.Nat.{_+_, _≤_, _<_};
 ghost use lib.ListN.{length};
@@ -79,7 +81,7 @@ fn registers_of(fields: &[u32; 24], from: usize, k: usize) -> Registers
     requires { ⌜ k < 8 ⌝ }
 {
     let mut values = [0u32; 32];
-    let mut marks = [false; 32];
+    let mut marks = [false; MARKS];
     marks[0] = true;
     values[15] = RETURNS;
     marks[15] = true;
@@ -90,12 +92,14 @@ fn registers_of(fields: &[u32; 24], from: usize, k: usize) -> Registers
         marks[r] = true;
         i += 1;
     }
-    let codes = codes_of(byte(fields, k) as u32);
+    let codes = MarkedCodes {
+        value: codes_of(byte(fields, k) as u32),
+        set: true,
+    };
     Registers {
         values,
         marks,
         codes,
-        coded: true,
     }
 }
 

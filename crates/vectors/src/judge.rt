@@ -63,7 +63,7 @@ fn judge_case(fields: &[u32; 24]) -> Verdict {
     if !same_registers(left, expected) {
         return Verdict::OtherRegisters;
     }
-    if same_codes(left.codes, expected.codes) & left.coded {
+    if same_codes(left.codes, expected.codes) {
         return Verdict::Kept;
     }
     Verdict::OtherCodes

@@ -1,11 +1,11 @@
 -- A run that is not refused has a policy that obeys the rules and is laid right, so that its steps can be run; refused, it changes nothing.
+use mathlib.Core.Path.{sym, _∙_}
+use native.Mathlib.Omega.{arith}
+use borrow.Author.Needs.{needs}
+use Rattle.policy.proofs.WellFormed.{obeys}
+use Rattle.machine.specs.Run.{runOf}
 use Rattle.machine.proofs.Begun.{begun, refused-run}
 use Rattle.machine.proofs.Covered.{based, covers}
-use Rattle.machine.specs.Run.{runOf}
-use Rattle.policy.proofs.WellFormed.{obeys}
-use native.Mathlib.Omega.{arith}
-use mathlib.Core.Path.{sym, _∙_}
-use borrow.Author.Needs.{needs}
 use Rattle.machine.proofs.begin.run.Statement.{statement}
 use Rattle.machine.proofs.begin.run.Tie as tie
 
@@ -26,15 +26,18 @@ array-write-marks : tie.Need-array-write-marks
 array-write-marks c = search needs
 
 run-steps-requires : tie.Need-run-steps-requires
-run-steps-requires c κs = let g = begun _ _ _ _ _ (sym (c .before .before .before .before .before .before .before .before .before .before .before .before .before .before .refusal .ensures) ∙ c .before .before .before .before .before .before .before .before .before .before .before .before .before .if1 .left) in
-    (g .most, obeys _ (g .ok) .regions-most, omega (arith, based (c .before .before .before .before .before .before .before .before .before .before .before .before .before .before .before .before .before .before .before .args .t1) _ _ _ (g .placed)), covers _ _ _ _ (g .placed) (g .ok))
+run-steps-requires c κs =
+    let policy = c .before .before .before .before .before .before .before .before .before .before .before .before .args .policy in
+    let passed = begun _ _ _ _ _ (sym (c .before .before .before .before .before .before .before .refusal .ensures) ∙ c .before .before .before .before .before .before .if1 .left) in
+    let count = based policy _ _ _ (passed .placed) in
+    (passed .most, record { few = obeys _ (passed .ok) .regions-most; based = omega (arith, count); covers = covers _ _ _ _ (passed .placed) (passed .ok) })
 
 same-length-2 : tie.Need-same-length-2
 same-length-2 c = search needs
 
 returns-2 : tie.Need-returns-2
 unfolding runOf
-returns-2 c = rw ((sym (c .before .before .before .before .before .before .before .before .before .before .before .before .before .before .before .before .before .before .refusal .ensures) ∙ c .before .before .before .before .before .before .before .before .before .before .before .before .before .before .before .before .before .if1 .left)) (c .before .before .before .run-steps .ensures)
+returns-2 c = rw (sym (c .before .before .before .before .before .before .before .before .before .before .before .refusal .ensures) ∙ c .before .before .before .before .before .before .before .before .before .before .if1 .left) (c .before .before .before .run-steps .ensures)
 
 pub run-spec : {M : Type 1} → statement M
 run-spec =

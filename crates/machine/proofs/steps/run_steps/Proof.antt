@@ -1,34 +1,60 @@
 -- The run is the run of what is left: after some steps, the whole run is the run from the state that they left, with what is left of
--- the allowance. That is the measure too.
-use Rattle.machine.proofs.Loop.{turn-spent, turn-goes, turn-returned, turn-stopped}
-use Rattle.flow.proofs.Fetched.{array-has, past-array}
-use Rattle.machine.proofs.Within.{within}
-use Rattle.machine.specs.Run.{runFrom}
-use Rattle.flow.specs.Readings.{readingsOf, readingAt}
-use Rattle.step.specs.Lent.{Within, coreOf, layoutFrom, settingFrom}
+-- the allowance. That is the measure too. Each way through the loop's body ends a step as the definition says: on to the next state,
+-- returned, or stopped at a fault; an access is located and done first.
+use Prim.Native.Nat.{ℕ, _+_, _-_, _≤_}
+use mathlib.Core.Path.{_≡_, refl, sym, _∙_}
+use native.Mathlib.Nat.{sub-zero}
+use native.Mathlib.Omega.{arith}
 use lib.ListN.{length}
 use denote.Ref.{now}
 use borrow.Author.Needs.{needs}
-use native.Mathlib.Omega.{arith}
-use native.Mathlib.Nat.{sub-zero}
-use mathlib.Core.Logic.{⊎-elim}
-use mathlib.Core.Path.{_≡_, refl, sym, subst, _∙_}
-use Prim.Native.Nat.{_≤_, _-_}
+use Rattle.flow.proofs.Fetched.{array-has, past-array}
+use Rattle.step.specs.Setting.{Setting}
+use Rattle.step.specs.Control.{goTo}
+use Rattle.step.specs.Effect.{Core}
+use Rattle.step.specs.Step.{State, Step, stopped, next, returned}
+use Rattle.step.specs.Lent.{coreOf, stepFrom}
+use Rattle.machine.specs.declared.End.the-variants.{Returned, Fault}
+use Rattle.machine.specs.Run.{Run, ended, runFrom, settingOf}
+use Rattle.machine.proofs.Covered.{covered-at}
+use Rattle.machine.proofs.Loop.{turn-spent, turn-outside, turn-goes, turn-returned, turn-stopped, turn-nowhere, turn-moved}
 use Rattle.machine.proofs.steps.run_steps.Statement.{statement}
 use Rattle.machine.proofs.steps.run_steps.Tie as tie
-use Rattle.machine.proofs.steps.run_steps.Reads as reads
-use Rattle.machine.proofs.steps.run_steps.Lts as lts
-use Rattle.flow.proofs.readings.read_all.Reads as read-all-reads
-use Rattle.step.proofs.dispatch.one_step.Reads as one-step-reads
 
 abbrev Inv-loop : tie.InvT-loop
-Inv-loop coded values₀ marks₀ memory₀ words returns regions sizes bases fields elements permissions offsets counts allowance readings control₀ flags₀ set₀ steps₀ values marks memory control flags set steps =
+Inv-loop words bases returns values₀ marks₀ memory₀ allowance policy readings control₀ flags₀ steps₀ values marks memory control flags steps =
     (steps ≤ allowance) × (length memory ≡ length memory₀)
-    × (runFrom (settingFrom (layoutFrom regions sizes bases fields elements permissions offsets counts) words returns) allowance 0 (record { control = control₀; core = coreOf values₀ marks₀ flags₀ set₀ memory₀ })
-    ≡ runFrom (settingFrom (layoutFrom regions sizes bases fields elements permissions offsets counts) words returns) (allowance - steps) steps (record { control = control; core = coreOf values marks flags set memory }))
+    × (runFrom (settingOf policy words bases returns) allowance 0 (record { control = control₀; core = coreOf values₀ marks₀ flags₀ memory₀ })
+    ≡ runFrom (settingOf policy words bases returns) (allowance - steps) steps (record { control = control; core = coreOf values marks flags memory }))
 
 abbrev μ-loop : tie.MeasureT-loop
-μ-loop coded values₀ marks₀ memory₀ words returns regions sizes bases fields elements permissions offsets counts allowance readings control₀ flags₀ set₀ steps₀ values marks memory control flags set steps = allowance - steps
+μ-loop words bases returns values₀ marks₀ memory₀ allowance policy readings control₀ flags₀ steps₀ values marks memory control flags steps = allowance - steps
+
+-- Seen from after the step of a turn: where the turn began, its test, the test of the word's index, and the function's start.
+abbrev Stepped : Type 0
+Stepped = tie.After-one-step Inv-loop μ-loop
+
+abbrev at-loop : Stepped → tie.At-loop Inv-loop μ-loop
+at-loop o = o .before .before .before .before .before .before .before .before
+
+abbrev at-test : Stepped → tie.In-loop Inv-loop μ-loop
+at-test o = o .before .before .before .before .before .before .before
+
+abbrev at-start : Stepped → tie.Start Inv-loop μ-loop
+at-start o = o .before .before .before .before .before .before .before .before .before .before .before .before .before
+
+-- the setting of the run, the whole run, the state at a turn's begin, the core that the turn's step leaves
+abbrev setting : tie.Start Inv-loop μ-loop → Setting
+setting s = settingOf (s .args .t1) (now (s .args .words)) (now (s .args .bases)) (s .args .returns)
+
+abbrev whole : tie.Start Inv-loop μ-loop → Run
+whole s = runFrom (setting s) (s .args .allowance) 0 (record { control = goTo 0; core = coreOf (now (s .args .values)) (now (s .args .marks)) (s .args .codes) (now (s .args .memory)) })
+
+abbrev state : tie.At-loop Inv-loop μ-loop → State
+state b = record { control = b .loop .control; core = coreOf (b .loop .values) (b .loop .marks) (b .loop .flags) (b .loop .memory) }
+
+abbrev left : Stepped → Core
+left o = coreOf (o .one-step .last .1 .1 .0) (o .one-step .last .1 .1 .1 .0) (o .one-step .result .codes) (at-loop o .loop .memory)
 
 read-all-requires : tie.Need-read-all-requires Inv-loop μ-loop
 read-all-requires c κs = c .before .before .before .pre .0
@@ -39,66 +65,135 @@ loop-holds c = (omega arith, refl, simp sub-zero)
 cast-i : tie.Need-cast-i Inv-loop μ-loop
 cast-i c = search needs
 
-mul-x : tie.Need-mul-x Inv-loop μ-loop
-mul-x c = search needs
+same-length : tie.Need-same-length Inv-loop μ-loop
+same-length c = search needs
 
-array-copy-out-x : tie.Need-array-copy-out-x Inv-loop μ-loop
-array-copy-out-x c = search needs
+returns : tie.Need-returns Inv-loop μ-loop
+returns c = sym (c .before .before .before .before .loop .inv .2 ∙ turn-outside (setting (c .before .before .before .before .before .before .before .before .before)) _ _ (state (c .before .before .before .before)) (sym (past-array (now (c .before .before .before .before .before .before .before .before .before .args .words)) (c .before .before .before .before .loop .control .at .0) (c .before .before .before .before .before .before .before .before .before .pre .0) (c .if1 .taken))) (c .before .before .before .loop-test .taken))
 
--- the reading that the step is handed is that of the word that control stands at
-fetched : (c : lts.Joined1 (read-all-reads.Asked, read-all-reads.Learnt, one-step-reads.Asked, one-step-reads.Learnt) reads.Pre reads.Post Inv-loop μ-loop) → c .if1 .x ≡ readingAt (readingsOf (now (c .before .before .before .before .before .before .before .before .before .args .words))) (c .before .before .before .before .loop .control .at .0)
-fetched c =
-    ⊎-elim
-    (λ w. w .2 ∙ array-has (now (c .before .before .before .before .before .before .before .before .before .args .words)) (c .before .before .before .before .before .read-all .result) (c .before .before .before .before .loop .control .at .0) _ (c .before .before .before .before .before .read-all .ensures) (w .0 .taken))
-    (λ w. w .1 ∙ past-array (now (c .before .before .before .before .before .before .before .before .before .args .words)) (c .before .before .before .before .loop .control .at .0) (c .before .before .before .before .before .before .before .before .before .pre .0) (w .0 .left))
-    (c .if1 .came)
+mul-one-step : tie.Need-mul-one-step Inv-loop μ-loop
+mul-one-step c = search needs
+
+array-copy-out-one-step : tie.Need-array-copy-out-one-step Inv-loop μ-loop
+array-copy-out-one-step c = search needs
 
 one-step-requires : tie.Need-one-step-requires Inv-loop μ-loop
-one-step-requires c κs = (
-  ⊎-elim (λ w. within (c .before .before .before .before .before .before .before .loop .control) (c .before .before .before .if1 .x) (w .0 .taken)) (λ w. subst (Within (c .before .before .before .before .before .before .before .loop .control)) (sym (w .1)) tt) (c .before .before .before .if1 .came),
-  c .before .before .before .before .before .before .before .before .before .before .before .before .pre .1,
-  c .before .before .before .before .before .before .before .before .before .before .before .before .pre .2,
-  rw (c .before .before .before .before .before .before .before .loop .inv .1) (c .before .before .before .before .before .before .before .before .before .before .before .before .pre .3),
-)
+one-step-requires c κs = search needs
 
 enum-told : tie.Need-enum-told Inv-loop μ-loop
 enum-told c = search needs
 
 add-steps : tie.Need-add-steps Inv-loop μ-loop
-add-steps c = omega (arith, c .before .before .before .before .before .before .before .before .before .before .before .before .before .loop-test .taken, c .before .before .before .before .before .before .before .before .before .before .before .before .before .before .before .before .before .before .before .fits .allowance)
+add-steps c = omega (arith, at-test (c .before .before .before .before) .loop-test .taken, at-start (c .before .before .before .before) .fits .allowance)
 
 loop-less : tie.Need-loop-less Inv-loop μ-loop
-loop-less c = omega (arith, c .before .before .before .before .before .before .before .before .before .before .before .before .before .loop-test .taken)
+loop-less c = omega (arith, at-test (c .before .before .before .before) .loop-test .taken)
 
 loop-again : tie.Need-loop-again Inv-loop μ-loop
-loop-again c = (omega (arith, c .before .before .before .before .before .before .before .before .before .before .before .before .before .loop-test .taken), c .before .before .before .before .before .before .one-step .kept .1 .1 .1 .1 .1 .0 ∙ c .before .before .before .before .before .before .before .before .before .before .before .before .before .before .loop .inv .1, c .before .before .before .before .before .before .before .before .before .before .before .before .before .before .loop .inv .2 ∙ turn-goes _ _ _ _ _ _ _ _ _ (fetched (c .before .before .before .before .before .before .before .before .before .before)) (c .before .before .before .before .before .before .one-step .ensures) (c .before .before .before .before .before .before .before .before .before .before .before .before .before .loop-test .taken) (c .enum-told .given .1))
+loop-again c =
+    let o = c .before .before .before .before in
+    (omega (arith, at-test o .loop-test .taken), at-loop o .loop .inv .1, at-loop o .loop .inv .2 ∙ turn-goes (setting (at-start o)) _ _ (state (at-loop o)) _ (o .one-step .result) _ _ _ (array-has (now (at-start o .args .words)) (o .before .before .before .before .before .before .before .before .before .read-all .result) (at-loop o .loop .control .at .0) _ (o .before .before .before .before .before .before .before .before .before .read-all .ensures) (o .before .before .before .before .if1 .left)) (o .one-step .ensures _ _) (at-test o .loop-test .taken) (c .before .enum-told .given .1))
 
 enum-told-2 : tie.Need-enum-told-2 Inv-loop μ-loop
 enum-told-2 c = search needs
 
-add-t41 : tie.Need-add-t41 Inv-loop μ-loop
-add-t41 c = omega (arith, c .before .before .before .before .before .before .before .before .before .before .before .before .before .loop-test .taken, c .before .before .before .before .before .before .before .before .before .before .before .before .before .before .before .before .before .before .before .fits .allowance)
-
-same-length : tie.Need-same-length Inv-loop μ-loop
-same-length c = search needs
-
-returns : tie.Need-returns Inv-loop μ-loop
-returns c = sym (c .before .before .before .before .before .before .before .before .before .before .before .before .before .before .loop .inv .2 ∙ turn-returned _ _ _ _ _ _ _ _ _ (fetched (c .before .before .before .before .before .before .before .before .before .before)) (c .before .before .before .before .before .before .one-step .ensures) (c .before .before .before .before .before .before .before .before .before .before .before .before .before .loop-test .taken) (c .enum-told2 .given .1))
-
-enum-known-progress : tie.Need-enum-known-progress Inv-loop μ-loop
-enum-known-progress c = search needs
+add-t40 : tie.Need-add-t40 Inv-loop μ-loop
+add-t40 c = omega (arith, at-test (c .before .before .before) .loop-test .taken, at-start (c .before .before .before) .fits .allowance)
 
 same-length-2 : tie.Need-same-length-2 Inv-loop μ-loop
 same-length-2 c = search needs
 
 returns-2 : tie.Need-returns-2 Inv-loop μ-loop
-returns-2 c = sym (c .before .before .before .before .before .before .before .before .before .before .before .before .before .before .before .loop .inv .2 ∙ turn-stopped _ _ _ _ _ _ _ _ _ (fetched (c .before .before .before .before .before .before .before .before .before .before .before)) (c .before .before .before .before .before .before .before .one-step .ensures) (c .before .before .before .before .before .before .before .before .before .before .before .before .before .before .loop-test .taken) _ (c .before .progress .given .1))
+returns-2 c =
+    let o = c .before .before .before in
+    sym (at-loop o .loop .inv .2 ∙ turn-returned (setting (at-start o)) _ _ (state (at-loop o)) _ (o .one-step .result) _ _ _ (array-has (now (at-start o .args .words)) (o .before .before .before .before .before .before .before .before .before .read-all .result) (at-loop o .loop .control .at .0) _ (o .before .before .before .before .before .before .before .before .before .read-all .ensures) (o .before .before .before .before .if1 .left)) (o .one-step .ensures _ _) (at-test o .loop-test .taken) (c .enum-told2 .given .1))
+
+enum-known-progress : tie.Need-enum-known-progress Inv-loop μ-loop
+enum-known-progress c = search needs
 
 same-length-3 : tie.Need-same-length-3 Inv-loop μ-loop
 same-length-3 c = search needs
 
 returns-3 : tie.Need-returns-3 Inv-loop μ-loop
-returns-3 c = sym (c .before .loop .inv .2 ∙ turn-spent _ _ _ _ (c .loop-test .left))
+returns-3 c =
+    let o = c .before .before .before .before in
+    sym (at-loop o .loop .inv .2 ∙ turn-stopped (setting (at-start o)) _ _ (state (at-loop o)) _ (o .one-step .result) _ _ _ (array-has (now (at-start o .args .words)) (o .before .before .before .before .before .before .before .before .before .read-all .result) (at-loop o .loop .control .at .0) _ (o .before .before .before .before .before .before .before .before .before .read-all .ensures) (o .before .before .before .before .if1 .left)) (o .one-step .ensures _ _) (at-test o .loop-test .taken) _ (c .before .progress .given .1))
+
+enum-known-progress-2 : tie.Need-enum-known-progress-2 Inv-loop μ-loop
+enum-known-progress-2 c = search needs
+
+width-of-requires : tie.Need-width-of-requires Inv-loop μ-loop
+width-of-requires c κs = search needs
+
+locate-access-requires : tie.Need-locate-access-requires Inv-loop μ-loop
+locate-access-requires c κs =
+    let fits = at-start (c .before .before .before .before .before .before .before .before .before .before .before .before) .pre .1 in
+    let width = c .width-of .ensures in
+    (fits .few, fits .based, width .0, width .2)
+
+enum-known-located : tie.Need-enum-known-located Inv-loop μ-loop
+enum-known-located c = search needs
+
+access-at-requires : tie.Need-access-at-requires Inv-loop μ-loop
+access-at-requires c κs =
+    let o = c .before .before .before .before .before .before .before .before .before .before .before .before .before .before .before .before .before .before .before .before .before in
+    let at = sym (c .before .before .before .before .before .before .before .before .locate-access .ensures) ∙ c .before .before .before .before .before .before .located .given .1 in
+    covered-at (setting (at-start o) .layout) _ _ _ _ _ _ (at-start o .pre .1 .covers) (at-loop o .loop .inv .1) at
+
+enum-told-3 : tie.Need-enum-told-3 Inv-loop μ-loop
+enum-told-3 c = search needs
+
+same-length-4 : tie.Need-same-length-4 Inv-loop μ-loop
+same-length-4 c = at-loop (c .before .before .before .before .before .before .before .before .before .before .before .before .before .before .before) .loop .inv .1
+
+returns-4 : tie.Need-returns-4 Inv-loop μ-loop
+returns-4 c =
+    let o = c .before .before .before .before .before .before .before .before .before .before .before .before .before .before .before in
+    let nowhere = sym (c .before .before .locate-access .ensures) ∙ c .enum-told3 .given .1 in
+    sym (at-loop o .loop .inv .2 ∙ turn-nowhere (setting (at-start o)) _ _ (state (at-loop o)) _ (o .one-step .result) _ _ _ (array-has (now (at-start o .args .words)) (o .before .before .before .before .before .before .before .before .before .read-all .result) (at-loop o .loop .control .at .0) _ (o .before .before .before .before .before .before .before .before .before .read-all .ensures) (o .before .before .before .before .if1 .left)) (o .one-step .ensures _ _) (at-test o .loop-test .taken) _ _ _ (c .before .before .before .before .before .before .before .before .before .before .before .before .progress2 .given .1) nowhere)
+
+due-requires : tie.Need-due-requires Inv-loop μ-loop
+due-requires c κs = c .before .before .before .before .before .before .before .before .before .before .before .before .before .before .before .before .before .before .before .before .before .before .before .before .before .before .before .before .if1 .left
+
+enum-known-to : tie.Need-enum-known-to Inv-loop μ-loop
+enum-known-to c = search needs
+
+add-steps-2 : tie.Need-add-steps-2 Inv-loop μ-loop
+add-steps-2 c = omega (arith, at-test (c .before .before .before .before .before .before .before .before .before .before .before .before .before .before .before .before .before .before .before .before .before .before .before .before .before .before .before .before) .loop-test .taken, at-start (c .before .before .before .before .before .before .before .before .before .before .before .before .before .before .before .before .before .before .before .before .before .before .before .before .before .before .before .before) .fits .allowance)
+
+loop-less-2 : tie.Need-loop-less-2 Inv-loop μ-loop
+loop-less-2 c = omega (arith, at-test (c .before .before .before .before .before .before .before .before .before .before .before .before .before .before .before .before .before .before .before .before .before .before .before .before .before .before .before .before) .loop-test .taken)
+
+loop-again-2 : tie.Need-loop-again-2 Inv-loop μ-loop
+loop-again-2 c =
+    let o = c .before .before .before .before .before .before .before .before .before .before .before .before .before .before .before .before .before .before .before .before .before .before .before .before .before .before .before .before in
+    let done = c .before .before .before .before .before .before .access-at in
+    let at = sym (c .before .before .before .before .before .before .before .before .before .before .before .before .before .before .before .locate-access .ensures) ∙ c .before .before .before .before .before .before .before .before .before .before .before .before .before .located .given .1 in
+    let to = sym (c .before .before .before .due .ensures) ∙ c .before .to .given .1 in
+    (omega (arith, at-test o .loop-test .taken), done .kept .1 .1 .0 ∙ at-loop o .loop .inv .1, at-loop o .loop .inv .2 ∙ turn-moved (setting (at-start o)) _ _ (state (at-loop o)) _ (o .one-step .result) _ _ _ (array-has (now (at-start o .args .words)) (o .before .before .before .before .before .before .before .before .before .read-all .result) (at-loop o .loop .control .at .0) _ (o .before .before .before .before .before .before .before .before .before .read-all .ensures) (o .before .before .before .before .if1 .left)) (o .one-step .ensures _ _) (at-test o .loop-test .taken) _ _ _ (c .before .before .before .before .before .before .before .before .before .before .before .before .before .before .before .before .before .before .before .before .before .before .before .before .before .progress2 .given .1) _ _ _ _ at (done .ensures (o .one-step .result .codes)) to)
+
+enum-told-4 : tie.Need-enum-told-4 Inv-loop μ-loop
+enum-told-4 c = search needs
+
+add-t59 : tie.Need-add-t59 Inv-loop μ-loop
+add-t59 c = omega (arith, at-test (c .before .before .before .before .before .before .before .before .before .before .before .before .before .before .before .before .before .before .before .before .before .before .before .before .before .before .before) .loop-test .taken, at-start (c .before .before .before .before .before .before .before .before .before .before .before .before .before .before .before .before .before .before .before .before .before .before .before .before .before .before .before) .fits .allowance)
+
+same-length-5 : tie.Need-same-length-5 Inv-loop μ-loop
+same-length-5 c = c .before .before .before .before .before .access-at .kept .1 .1 .0 ∙ at-loop (c .before .before .before .before .before .before .before .before .before .before .before .before .before .before .before .before .before .before .before .before .before .before .before .before .before .before .before) .loop .inv .1
+
+returns-5 : tie.Need-returns-5 Inv-loop μ-loop
+returns-5 c =
+    let o = c .before .before .before .before .before .before .before .before .before .before .before .before .before .before .before .before .before .before .before .before .before .before .before .before .before .before .before in
+    let done = c .before .before .before .before .before .access-at in
+    let at = sym (c .before .before .before .before .before .before .before .before .before .before .before .before .before .before .locate-access .ensures) ∙ c .before .before .before .before .before .before .before .before .before .before .before .before .located .given .1 in
+    let to = sym (c .before .before .due .ensures) ∙ c .enum-told4 .given .1 in
+    sym (at-loop o .loop .inv .2 ∙ turn-moved (setting (at-start o)) _ _ (state (at-loop o)) _ (o .one-step .result) _ _ _ (array-has (now (at-start o .args .words)) (o .before .before .before .before .before .before .before .before .before .read-all .result) (at-loop o .loop .control .at .0) _ (o .before .before .before .before .before .before .before .before .before .read-all .ensures) (o .before .before .before .before .if1 .left)) (o .one-step .ensures _ _) (at-test o .loop-test .taken) _ _ _ (c .before .before .before .before .before .before .before .before .before .before .before .before .before .before .before .before .before .before .before .before .before .before .before .before .progress2 .given .1) _ _ _ _ at (done .ensures (o .one-step .result .codes)) to)
+
+same-length-6 : tie.Need-same-length-6 Inv-loop μ-loop
+same-length-6 c = search needs
+
+returns-6 : tie.Need-returns-6 Inv-loop μ-loop
+returns-6 c = sym (c .before .loop .inv .2 ∙ turn-spent _ _ _ _ (c .loop-test .left))
 
 pub run-steps-spec : {M : Type 1} → statement M
 run-steps-spec =
@@ -109,19 +204,38 @@ run-steps-spec =
     read-all-requires
     loop-holds
     cast-i
-    mul-x
-    array-copy-out-x
+    same-length
+    returns
+    mul-one-step
+    array-copy-out-one-step
     one-step-requires
     enum-told
     add-steps
     loop-less
     loop-again
     enum-told-2
-    add-t41
-    same-length
-    returns
-    enum-known-progress
+    add-t40
     same-length-2
     returns-2
+    enum-known-progress
     same-length-3
-    returns-3)
+    returns-3
+    enum-known-progress-2
+    width-of-requires
+    locate-access-requires
+    enum-known-located
+    access-at-requires
+    enum-told-3
+    same-length-4
+    returns-4
+    due-requires
+    enum-known-to
+    add-steps-2
+    loop-less-2
+    loop-again-2
+    enum-told-4
+    add-t59
+    same-length-5
+    returns-5
+    same-length-6
+    returns-6)

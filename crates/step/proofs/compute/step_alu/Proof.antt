@@ -1,6 +1,7 @@
 -- Arithmetic and logic stop where an operand is unset, else they write their register, set the codes if asked, and move on.
 use mathlib.Core.Bool.{_&&_}
 use borrow.Author.Tests.{not-true, not-false}
+use Rattle.step.proofs.Arrived.{arrived}
 use borrow.Author.Needs.{needs}
 use Rattle.step.proofs.compute.step_alu.Statement.{statement}
 use Rattle.step.proofs.compute.step_alu.Tie as tie
@@ -15,7 +16,7 @@ stop-requires : tie.Need-stop-requires
 stop-requires c κs = search needs
 
 returns : tie.Need-returns
-returns c = λ memory.
+returns c = λ l memory.
     let unset = rw (c .before .before .before .before .before .before .before .register .ensures, c .before .before .before .before .operand .ensures) at (not-true (c .before .before .before .before .before .before .before .register .result .set && c .before .before .before .before .operand .result .set) (c .before .if1 .taken)) in
     rw (c .stop .ensures, unset)
 
@@ -32,18 +33,18 @@ move-on-requires : tie.Need-move-on-requires
 move-on-requires c κs = search needs
 
 returns-2 : tie.Need-returns-2
-returns-2 c = λ memory.
+returns-2 c = λ l memory.
     let ready = rw (c .before .before .before .before .before .before .before .before .before .before .before .before .before .register .ensures, c .before .before .before .before .before .before .before .before .before .before .operand .ensures) at (not-false (c .before .before .before .before .before .before .before .before .before .before .before .before .before .register .result .set && c .before .before .before .before .before .before .before .before .before .before .operand .result .set) (c .before .before .before .before .before .before .before .if1 .left)) in
     let codes = rw (c .before .before .before .before .before .before .before .before .before .before .operand .ensures, c .before .before .before .before .before .before .before .before .before .before .before .before .before .register .ensures) at (c .before .codes-of .ensures) in
-    rw (ready, c .before .before .if2 .taken, c .before .before .before .write .ensures .0, c .before .before .before .write .ensures .1, c .before .before .before .before .alu .ensures, c .before .before .before .before .before .before .before .before .before .before .operand .ensures, c .before .before .before .before .before .before .before .before .before .before .before .before .before .register .ensures, ← codes) (c .move-on .ensures _ _ _ memory)
+    rw (ready, c .before .before .if2 .taken, c .before .before .before .write .ensures .0, c .before .before .before .write .ensures .1, c .before .before .before .before .alu .ensures, c .before .before .before .before .before .before .before .before .before .before .operand .ensures, c .before .before .before .before .before .before .before .before .before .before .before .before .before .register .ensures, ← codes) (arrived l _ _ _ _ (c .move-on .ensures) _ _ memory _)
 
 move-on-requires-2 : tie.Need-move-on-requires-2
 move-on-requires-2 c κs = search needs
 
 returns-3 : tie.Need-returns-3
-returns-3 c = λ memory.
+returns-3 c = λ l memory.
     let ready = rw (c .before .before .before .before .before .before .before .before .before .before .before .before .register .ensures, c .before .before .before .before .before .before .before .before .before .operand .ensures) at (not-false (c .before .before .before .before .before .before .before .before .before .before .before .before .register .result .set && c .before .before .before .before .before .before .before .before .before .operand .result .set) (c .before .before .before .before .before .before .if1 .left)) in
-    rw (ready, c .before .if2 .left, c .before .before .write .ensures .0, c .before .before .write .ensures .1, c .before .before .before .alu .ensures, c .before .before .before .before .before .before .before .before .before .operand .ensures, c .before .before .before .before .before .before .before .before .before .before .before .before .register .ensures) (c .move-on2 .ensures _ _ _ memory)
+    rw (ready, c .before .if2 .left, c .before .before .write .ensures .0, c .before .before .write .ensures .1, c .before .before .before .alu .ensures, c .before .before .before .before .before .before .before .before .before .operand .ensures, c .before .before .before .before .before .before .before .before .before .before .before .before .register .ensures) (arrived l _ _ _ _ (c .move-on2 .ensures) _ _ memory _)
 
 pub step-alu-spec : {M : Type 1} → statement M
 step-alu-spec =

@@ -15,27 +15,25 @@ enum-known-operation : tie.Need-enum-known-operation
 enum-known-operation c = search needs
 
 step-sethi-requires : tie.Need-step-sethi-requires
-step-sethi-requires c κs = rw (c .before .before .before .before .before .before .before .before .before .x .given .1) at (c .before .before .before .before .before .before .before .before .before .before .before .before .before .pre .0)
+step-sethi-requires c κs = search needs
 
 enum-known-operation-2 : tie.Need-enum-known-operation-2
 enum-known-operation-2 c = search needs
 
 step-alu-requires : tie.Need-step-alu-requires
-step-alu-requires c κs = rw (c .before .before .before .before .before .before .before .before .before .x .given .1) at (c .before .before .before .before .before .before .before .before .before .before .before .before .before .pre .0)
+step-alu-requires c κs = search needs
 
 enum-known-operation-3 : tie.Need-enum-known-operation-3
 enum-known-operation-3 c = search needs
 
 step-shift-requires : tie.Need-step-shift-requires
-step-shift-requires c κs = rw (c .before .before .before .before .before .before .before .before .before .x .given .1) at (c .before .before .before .before .before .before .before .before .before .before .before .before .before .pre .0)
+step-shift-requires c κs = search needs
 
 enum-known-operation-4 : tie.Need-enum-known-operation-4
 enum-known-operation-4 c = search needs
 
 step-access-requires : tie.Need-step-access-requires
-step-access-requires c κs =
-    let p = c .before .before .before .before .before .before .before .before .before .before .before .before .before .before .pre in
-    (rw (c .before .before .before .before .before .before .before .before .before .before .x .given .1) at (p .0), p .1, p .2, p .3)
+step-access-requires c κs = search needs
 
 enum-known-instruction-2 : tie.Need-enum-known-instruction-2
 enum-known-instruction-2 c = search needs
@@ -47,10 +45,10 @@ stop-requires : tie.Need-stop-requires
 stop-requires c κs = search needs
 
 returns : tie.Need-returns
-returns c = rw (c .before .before .before .before .before .before .before .x .given .1, c .before .before .before .before .instruction2 .given .1, ← c .before .before .in-slot .ensures, c .before .if1 .taken, c .stop .ensures)
+returns c = λ l memory. rw (c .before .before .before .before .before .before .before .x .given .1, c .before .before .before .before .instruction2 .given .1, ← c .before .before .in-slot .ensures, c .before .if1 .taken, c .stop .ensures)
 
 branch-requires : tie.Need-branch-requires
-branch-requires c κs = rw (c .before .before .before .before .before .before .x .given .1) at (c .before .before .before .before .before .before .before .before .before .before .pre .0)
+branch-requires c κs = search needs
 
 enum-told : tie.Need-enum-told
 enum-told c = search needs
@@ -62,10 +60,10 @@ stop-requires-2 : tie.Need-stop-requires-2
 stop-requires-2 c κs = search needs
 
 returns-2 : tie.Need-returns-2
-returns-2 c = rw (c .before .before .before .before .before .before .x .given .1, c .before .before .before .enum-told .given .1, ← c .before .before .in-slot2 .ensures, c .before .if2 .taken, c .stop2 .ensures)
+returns-2 c = λ l memory. rw (c .before .before .before .before .before .before .x .given .1, c .before .before .before .enum-told .given .1, ← c .before .before .in-slot2 .ensures, c .before .if2 .taken, c .stop2 .ensures)
 
 leave-requires : tie.Need-leave-requires
-leave-requires c κs = rw (c .before .before .before .before .before .before .before .x .given .1) at (c .before .before .before .before .before .before .before .before .before .before .before .pre .0)
+leave-requires c κs = search needs
 
 enum-told-2 : tie.Need-enum-told-2
 enum-told-2 c = search needs
@@ -74,28 +72,25 @@ stop-requires-3 : tie.Need-stop-requires-3
 stop-requires-3 c κs = search needs
 
 returns-3 : tie.Need-returns-3
-returns-3 c = rw (c .before .before .before .before .before .before .before .before .before .before .x .given .1, c .before .before .before .before .before .before .before .instruction .given .1, and-false (inSlot (c .before .before .before .before .before .before .before .before .before .before .before .before .before .before .args .control .pending)), c .before .before .before .before .operation .given .1) (c .step-sethi .ensures _)
+returns-3 c = λ l memory. rw (c .before .before .before .before .before .before .before .before .before .before .x .given .1, c .before .before .before .before .before .before .before .instruction .given .1, and-false (inSlot (c .before .before .before .before .before .before .before .before .before .before .before .before .args .control .pending)), c .before .before .before .before .operation .given .1) (c .step-sethi .ensures l memory)
 
 returns-4 : tie.Need-returns-4
-returns-4 c = rw (c .before .before .before .before .before .before .before .before .before .before .x .given .1, c .before .before .before .before .before .before .before .instruction .given .1, and-false (inSlot (c .before .before .before .before .before .before .before .before .before .before .before .before .before .before .args .control .pending)), c .before .before .before .before .operation2 .given .1) (c .step-alu .ensures _)
+returns-4 c = λ l memory. rw (c .before .before .before .before .before .before .before .before .before .before .x .given .1, c .before .before .before .before .before .before .before .instruction .given .1, and-false (inSlot (c .before .before .before .before .before .before .before .before .before .before .before .before .args .control .pending)), c .before .before .before .before .operation2 .given .1) (c .step-alu .ensures l memory)
 
 returns-5 : tie.Need-returns-5
-returns-5 c = rw (c .before .before .before .before .before .before .before .before .before .before .x .given .1, c .before .before .before .before .before .before .before .instruction .given .1, and-false (inSlot (c .before .before .before .before .before .before .before .before .before .before .before .before .before .before .args .control .pending)), c .before .before .before .before .operation3 .given .1) (c .step-shift .ensures _)
-
-same-length : tie.Need-same-length
-same-length c = search needs
+returns-5 c = λ l memory. rw (c .before .before .before .before .before .before .before .before .before .before .x .given .1, c .before .before .before .before .before .before .before .instruction .given .1, and-false (inSlot (c .before .before .before .before .before .before .before .before .before .before .before .before .args .control .pending)), c .before .before .before .before .operation3 .given .1) (c .step-shift .ensures l memory)
 
 returns-6 : tie.Need-returns-6
-returns-6 c = rw (c .before .before .before .before .before .before .before .before .before .before .before .before .before .x .given .1, c .before .before .before .before .before .before .before .before .before .before .instruction .given .1, and-false (inSlot (c .before .before .before .before .before .before .before .before .before .before .before .before .before .before .before .before .before .args .control .pending)), c .before .before .before .before .before .before .before .operation4 .given .1) (c .before .before .step-access .ensures)
+returns-6 c = λ l memory. rw (c .before .before .before .before .before .before .before .before .before .before .x .given .1, c .before .before .before .before .before .before .before .instruction .given .1, and-false (inSlot (c .before .before .before .before .before .before .before .before .before .before .before .before .args .control .pending)), c .before .before .before .before .operation4 .given .1) (c .step-access .ensures l memory)
 
 returns-7 : tie.Need-returns-7
-returns-7 c = rw (c .before .before .before .before .before .before .before .x .given .1, c .before .before .before .before .instruction2 .given .1, ← c .before .before .in-slot .ensures, c .before .if1 .left) (c .branch .ensures _ _ _)
+returns-7 c = λ l memory. rw (c .before .before .before .before .before .before .before .x .given .1, c .before .before .before .before .instruction2 .given .1, ← c .before .before .in-slot .ensures, c .before .if1 .left) (c .branch .ensures _ _ l memory)
 
 returns-8 : tie.Need-returns-8
-returns-8 c = rw (c .before .before .before .before .before .before .before .before .x .given .1, c .before .before .before .before .before .enum-told .given .1, ← c .before .before .before .before .in-slot2 .ensures, c .before .before .before .if2 .left) (c .leave .ensures _)
+returns-8 c = λ l memory. rw (c .before .before .before .before .before .before .before .before .x .given .1, c .before .before .before .before .before .enum-told .given .1, ← c .before .before .before .before .in-slot2 .ensures, c .before .before .before .if2 .left) (c .leave .ensures l memory)
 
 returns-9 : tie.Need-returns-9
-returns-9 c = rw (c .before .enum-told2 .given .1, c .stop3 .ensures)
+returns-9 c = λ l memory. rw (c .before .enum-told2 .given .1, c .stop3 .ensures)
 
 pub one-step-spec : {M : Type 1} → statement M
 one-step-spec =
@@ -126,7 +121,6 @@ one-step-spec =
     returns-3
     returns-4
     returns-5
-    same-length
     returns-6
     returns-7
     returns-8

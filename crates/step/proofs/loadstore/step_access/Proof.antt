@@ -15,26 +15,17 @@ aim-requires c κs = search needs
 enum-known-address : tie.Need-enum-known-address
 enum-known-address c = search needs
 
-locate-access-requires : tie.Need-locate-access-requires
-locate-access-requires c κs = search needs
-
-access-at-requires : tie.Need-access-at-requires
-access-at-requires c κs = (c .before .before .before .before .before .before .before .before .before .before .before .before .before .before .before .pre .0, rw (c .before .before .before .locate-access .ensures) (c .before .before .before .before .before .before .before .before .before .before .before .before .before .before .before .pre .3 _ _))
-
 enum-known-n : tie.Need-enum-known-n
 enum-known-n c = search needs
 
 stop-requires : tie.Need-stop-requires
 stop-requires c κs = search needs
 
-same-length : tie.Need-same-length
-same-length c = search needs
-
 returns : tie.Need-returns
-returns c = rw (← c .before .before .before .before .before .before .before .before .before .before .before .before .before .before .before .width-of .ensures .0, ← c .before .before .before .before .before .before .before .before .before .before .before .before .before .moved-set .ensures, ← c .before .before .before .before .before .before .before .before .before .before .aim .ensures, c .before .before .before .before .before .before .before .before .address .given .1, ← c .before .before .before .before .before .before .locate-access .ensures) (c .before .before .access-at .ensures)
+returns c = λ l memory. rw (← c .before .before .before .before .before .width-of .ensures .0, ← c .before .before .before .before .moved-set .ensures, ← c .before .before .before .aim .ensures, c .before .address .given .1)
 
 returns-2 : tie.Need-returns-2
-returns-2 c = rw (← c .before .before .before .before .before .before .before .before .before .width-of .ensures .0, ← c .before .before .before .before .before .before .before .moved-set .ensures, ← c .before .before .before .before .aim .ensures, c .before .before .n .given .1) (rw (c .stop .ensures))
+returns-2 c = λ l memory. rw (← c .before .before .before .before .before .before .width-of .ensures .0, ← c .before .before .before .before .before .moved-set .ensures, ← c .before .before .before .before .aim .ensures, c .before .before .n .given .1) (rw (c .stop .ensures))
 
 pub step-access-spec : {M : Type 1} → statement M
 step-access-spec =
@@ -44,10 +35,7 @@ step-access-spec =
     moved-set-requires
     aim-requires
     enum-known-address
-    locate-access-requires
-    access-at-requires
     enum-known-n
     stop-requires
-    same-length
     returns
     returns-2)

@@ -11,7 +11,7 @@ stop-requires : tie.Need-stop-requires
 stop-requires c κs = search needs
 
 returns : tie.Need-returns
-returns c = λ memory. rw (c .stop .ensures, ← c .before .before .is-set .ensures, not-true (c .before .before .is-set .result) (c .before .if1 .taken))
+returns c = λ l memory. rw (c .stop .ensures, ← c .before .before .is-set .ensures, not-true (c .before .before .is-set .result) (c .before .if1 .taken))
 
 value-requires : tie.Need-value-requires
 value-requires c κs = search needs
@@ -20,19 +20,19 @@ stop-requires-2 : tie.Need-stop-requires-2
 stop-requires-2 c κs = search needs
 
 returns-2 : tie.Need-returns-2
-returns-2 c = λ memory. rw (c .stop2 .ensures, ← c .before .before .before .before .is-set .ensures, not-false (c .before .before .before .before .is-set .result) (c .before .before .before .if1 .left), ← c .before .before .value .ensures, ne-eqb _ 0 (c .before .if2 .taken))
+returns-2 c = λ l memory. rw (c .stop2 .ensures, ← c .before .before .before .before .is-set .ensures, not-false (c .before .before .before .before .is-set .result) (c .before .before .before .if1 .left), ← c .before .before .value .ensures, ne-eqb _ 0 (c .before .if2 .taken))
 
 stop-requires-3 : tie.Need-stop-requires-3
 stop-requires-3 c κs = search needs
 
 returns-3 : tie.Need-returns-3
-returns-3 c = λ memory. rw (c .stop3 .ensures, ← c .before .before .before .before .before .is-set .ensures, not-false (c .before .before .before .before .before .is-set .result) (c .before .before .before .before .if1 .left), ← c .before .before .before .value .ensures, eq-eqb _ 0 (c .before .before .if2 .left), ne-eqb _ _ (c .before .if3 .taken))
+returns-3 c = λ l memory. rw (c .stop3 .ensures, ← c .before .before .before .before .before .is-set .ensures, not-false (c .before .before .before .before .before .is-set .result) (c .before .before .before .before .if1 .left), ← c .before .before .before .value .ensures, eq-eqb _ 0 (c .before .before .if2 .left), ne-eqb _ _ (c .before .if3 .taken))
 
-add-t11 : tie.Need-add-t11
-add-t11 c = search needs
+add-t10 : tie.Need-add-t10
+add-t10 c = search needs
 
 returns-4 : tie.Need-returns-4
-returns-4 c = λ memory. rw (← c .before .before .before .before .before .before .is-set .ensures, not-false (c .before .before .before .before .before .before .is-set .result) (c .before .before .before .before .before .if1 .left), ← c .before .before .before .before .value .ensures, eq-eqb _ 0 (c .before .before .before .if2 .left), eq-eqb _ _ (c .before .before .if3 .left))
+returns-4 c = λ l memory. rw (← c .before .before .before .before .before .before .is-set .ensures, not-false (c .before .before .before .before .before .before .is-set .result) (c .before .before .before .before .before .if1 .left), ← c .before .before .before .before .value .ensures, eq-eqb _ 0 (c .before .before .before .if2 .left), eq-eqb _ _ (c .before .before .if3 .left))
 
 pub leave-spec : {M : Type 1} → statement M
 leave-spec =
@@ -46,5 +46,5 @@ leave-spec =
     returns-2
     stop-requires-3
     returns-3
-    add-t11
+    add-t10
     returns-4)
