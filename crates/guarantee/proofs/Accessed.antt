@@ -29,7 +29,9 @@ use Rattle.memory.proofs.Memory.{load-fits, store-keeps-length, store-keeps-byt
 use Rattle.access.specs.declared.Located.the-variants as Located·
 use Rattle.access.specs.Serve.{accessWidth, serves, allows, addend}
 use Rattle.access.specs.Layout.{layoutOf}
-use Rattle.access.specs.Locate.{insideRegion, regionIn, touches, locate}
+use Rattle.access.specs.Locate.{locate}
+use Rattle.access.specs.Laws.{Disjoint}
+use Rattle.access.proofs.Locating.{inside-says, allowed-located}
 use Rattle.step.specs.declared.Aim.the-variants as Aim·
 use Rattle.step.specs.declared.Registers.{Registers}
 use Rattle.step.specs.Registers.{valueOf, isSet, operandValue, operandSet}
@@ -67,15 +69,6 @@ base-aligned =
     by-step (λ (w : ℕ). (base offset : ℕ) → base % 8 ≡ 0 → offset % w ≡ 0 → (base + offset) % w ≡ 0)
     (omega arith) (omega arith) (omega arith) (omega arith)
 
-some-width : {w : ℕ} → Step w → 1 ≤ w
-some-width = by-step (λ (w : ℕ). 1 ≤ w) (omega arith) (omega arith) (omega arith) (omega arith)
-
-inside-says : (sizes bases : List ℕ) (a r : ℕ) → insideRegion sizes bases a r ≡ true → (getD bases r 0 ≤ a) × (a < getD bases r 0 + getD sizes r 0)
-unfolding insideRegion
-inside-says sizes bases a r e =
-    let p = and-went (leb (getD bases r 0) a) (ltb a (getD bases r 0 + getD sizes r 0)) e in
-    (leb-true (getD bases r 0) a (p .0), ltb-true a (getD bases r 0 + getD sizes r 0) (p .1))
-
 -- a field's entry is not unset
 entry-set : (f : Field) → isUnset (fieldEntry f) ≡ false
 unfolding fieldEntry
@@ -93,6 +86,13 @@ aimed g others rs1 d width a b o z = rw (a, b, o, eq-eqb (add32 (valueOf g rs1) 
 module _ (p : Policy) (bases : List ℕ) (returns : ℕ) (wf : WellFormed p) (laid : Laid (p .regions .count) (p .regions .sizes) (hostOf bases returns)) where
   abbrev host : Host
   host = hostOf bases returns
+
+  -- no address lies in two regions
+  disjoint : Disjoint (layoutOf p bases)
+  disjoint r q n i j s t =
+      let here = inside-says (p .regions .sizes) bases n r s in
+      let there = inside-says (p .regions .sizes) bases n q t in
+      laid .one r q n i j (here .0) (here .1) (there .0) (there .1)
 
   module _ (a : Access) (x y place : ℕ) (q : Reached p host a x y place) where
     -- the field at the place is the region's
@@ -145,55 +145,19 @@ module _ (p : Policy) (bases : List ℕ) (returns : ℕ) (wf : WellFormed p) (la
         some : (b o n : ℕ) → 1 ≤ b → n ≡ b + o → 1 ≤ n
         some b o n l e = omega arith
 
-    -- the machine's search finds the region
-    in-region : insideRegion (p .regions .sizes) bases (add32 x y) (q .region) ≡ true
-    unfolding insideRegion
-    in-region =
-        rw (
-          le-leb (getD bases (q .region) 0) (add32 x y) (omega (arith, q .address)),
-          lt-ltb (add32 x y) (getD bases (q .region) 0 + getD (p .regions .sizes) (q .region) 0) (end (getD bases (q .region) 0) (q .offset) (add32 x y) (accessWidth a) (getD (p .regions .sizes) (q .region) 0) (q .address) inside (some-width (width-step a))),
-        )
-      where
-        end : (b o n w s : ℕ) → n ≡ b + o → o + w ≤ s → 1 ≤ w → n < b + s
-        end b o n w s e l m = omega arith
-
-    region-found : regionIn (p .regions .count) (p .regions .sizes) bases (add32 x y) ≡ q .region
-    unfolding regionIn
-    region-found = at (ltb (q .region) (first f 0 (p .regions .count))) refl
-      where
-        f : ℕ → Bool
-        f = insideRegion (p .regions .sizes) bases (add32 x y)
-
-        found : first f 0 (p .regions .count) < p .regions .count → first f 0 (p .regions .count) ≡ q .region
-        found l =
-            let i = inside-says (p .regions .sizes) bases (add32 x y) (first f 0 (p .regions .count)) (first-passes f 0 (p .regions .count) l) in
-            let j = inside-says (p .regions .sizes) bases (add32 x y) (q .region) in-region in
-            laid .one (first f 0 (p .regions .count)) (q .region) (add32 x y) l (q .region-is) (i .0) (i .1) (j .0) (j .1)
-
-        at : (t : Bool) → ltb (q .region) (first f 0 (p .regions .count)) ≡ t → first f 0 (p .regions .count) ≡ q .region
-        at true t = false-true (sym (first-least f 0 (p .regions .count) (q .region) (omega arith) (ltb-true (q .region) (first f 0 (p .regions .count)) t)) ∙ in-region)
-        at false t = found (omega (arith, ltb-false (q .region) (first f 0 (p .regions .count)) t, q .region-is))
-
-    -- and there the field
-    touched : touches (p .fields .elements) (p .fields .permissions) a (placeOf (q .region) (q .field)) ≡ true
-    unfolding fieldAt
-    touched = rw (element .serving, allowed)
-
-    field-found : findField p (q .region) (q .offset) (q .offset + accessWidth a) ≡ Found·.At (placeOf (q .region) (q .field))
-    field-found =
-        finds p wf (q .region) (q .field) (q .offset) (q .offset + accessWidth a) (q .region-is) (q .field-is)
-        (more (q .offset) (accessWidth a) (some-width (width-step a))) (element .low, element .high)
-      where
-        more : (o w : ℕ) → 1 ≤ w → o < o + w
-        more o w l = omega arith
-
+    -- the machine's searches find the field
     located-there : locate (layoutOf p bases) a (add32 x y) ≡ Located·.At (q .region) (record { 0 = q .offset })
-    unfolding locate
     located-there =
-        rw (region-found, lt-ltb (q .region) (p .regions .count) (q .region-is), rest (getD bases (q .region) 0) (q .offset) (add32 x y) (q .address), field-found, touched)
-      where
-        rest : (b o n : ℕ) → n ≡ b + o → n - b ≡ o
-        rest b o n e = omega arith
+        allowed-located p bases wf disjoint a (add32 x y) (q .region) (q .offset)
+        (record {
+          region = q .region-is;
+          address-is = q .address;
+          field = q .field;
+          field-is = q .field-is;
+          holds = (element .low, element .high);
+          serving = element .serving;
+          allowing = allowed;
+        })
 
     -- the entry that the field's load gives is well formed
     entry-rules : EntryRules (p .regions .count) (p .regions .sizes) (fieldEntry (fieldOf p (q .region) (q .field)))
