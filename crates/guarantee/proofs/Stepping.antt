@@ -39,6 +39,7 @@ use Rattle.step.specs.Control.{goTo, atSlot, dueAt}
 use Rattle.step.specs.Effect.{Core, Effect, fault, done, effectOf}
 use Rattle.step.specs.Step.{State, Step, next, advance, follow, plainStep, branchStep, returnStep, stepWith, stepOf}
 use Rattle.rows.specs.declared.Row.{Row}
+use Rattle.rows.specs.Geometry.{rowBytes}
 use Rattle.rows.specs.Entry.{isUnset, isReturn}
 use Rattle.rows.specs.Row.{entryAt}
 use Rattle.rows.specs.Matches.{Host}
@@ -55,7 +56,7 @@ use Rattle.rules.specs.Laws.{Laid, LeftMatches}
 use Rattle.rows.proofs.ByKind.{held-return}
 use Rattle.rules.proofs.Narrowed.{narrows-row}
 use Rattle.checker.specs.Answer.{passes}
-use Rattle.checker.specs.Routine.{Routine, count, rowAt, resultEntry, rowBytes}
+use Rattle.checker.specs.Routine.{Routine, count, rowAt, resultEntry}
 use Rattle.checker.specs.Passes.{ifRead, readPass, offSlots, flowOf, arrive, changeBy, applied, cross, edges, resultRegister}
 use Rattle.checker.specs.Laws.{Checked, InCode, Flows, After}
 use Rattle.checker.proofs.Looked.{instruction-flows, word-makes, edges-looked, slot-applied, slot-skipped, arrives}

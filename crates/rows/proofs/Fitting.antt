@@ -140,19 +140,19 @@ start-holds h r e v z m =
 pub fits-matches : FitsMatches
 fits-matches h regions sizes a b mark v small wa wb e m u =
     let x = each-kind (λ (k : Kind). FitsAs a b k → RulesAs regions sizes b k → (mark ≡ true) × HoldsAs h b v k) (b .kind)
-          (record {
-            if-unset = λ q _ _. false-true (sym u ∙ q);
-            if-number = λ q f w. given 1 (f .0) (λ x. omega arith)
-                (λ g. fits-holds (a .set) (b .set) (ruled-number (f .0) wa) w (f .1) (excess v) (held-number (f .0) g));
-            if-address = λ q f w. given 2 (f .0) (λ x. omega arith)
-                (λ g. let o = held-address (f .0) g in
-                moved (a .region) (b .region) (f .1) (o .above)
-                (fits-holds (a .set) (b .set) (ruled-address (f .0) wa .set) (w .set) (f .2) (v - baseOf h (a .region) + bias) (o .member)));
-            if-start = λ q f w. starts f;
-            if-return = λ q f w. given 4 f (λ x. omega arith) (λ g. held-return f g);
-            if-none = λ f. absurd f;
-          })
-          (fits-as a b e) (wb .by-kind)
+    (record {
+      if-unset = λ q _ _. false-true (sym u ∙ q);
+      if-number = λ q f w. given 1 (f .0) (λ x. omega arith)
+          (λ g. fits-holds (a .set) (b .set) (ruled-number (f .0) wa) w (f .1) (excess v) (held-number (f .0) g));
+      if-address = λ q f w. given 2 (f .0) (λ x. omega arith)
+          (λ g. let o = held-address (f .0) g in
+          moved (a .region) (b .region) (f .1) (o .above)
+          (fits-holds (a .set) (b .set) (ruled-address (f .0) wa .set) (w .set) (f .2) (v - baseOf h (a .region) + bias) (o .member)));
+      if-start = λ q f w. starts f;
+      if-return = λ q f w. given 4 f (λ x. omega arith) (λ g. held-return f g);
+      if-none = λ f. absurd f;
+    })
+    (fits-as a b e) (wb .by-kind)
     in (x .0, record { by-kind = x .1 })
   where
     given : {C : Type 0} (i : ℕ) → eqb (a .kind) i ≡ true → (i ≡ 0 → ⊥) → (Holds h a v → C) → (mark ≡ true) × C
