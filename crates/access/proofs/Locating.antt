@@ -124,7 +124,7 @@ module _ (p : Policy) (bases : List ℕ) (wf : WellFormed p) (a : Access) (addre
       rw (
         le-leb (getD bases r 0) address (omega (arith, x .address-is)),
         lt-ltb address (getD bases r 0 + getD (p .regions .sizes) r 0)
-        (end (getD bases r 0) (x .address-is) (x .holds .1) (wf .field r (x .field) (x .region) (x .field-is) .inside) (width-some a)),
+            (end (getD bases r 0) (x .address-is) (x .holds .1) (wf .field r (x .field) (x .region) (x .field-is) .inside) (width-some a)),
       )
     where
       end : {e s w : ℕ} (b : ℕ) → address ≡ b + offset → offset + w ≤ e → e ≤ s → 1 ≤ w → address < b + s

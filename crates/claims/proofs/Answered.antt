@@ -1,7 +1,7 @@
 -- The three routines, passed through the check. What the words are is read by computation, and their flow too. Rows that all equal the entry row
 -- are well formed as it is, and it fits each of them, since it fits itself. A transfer followed by a nop leaves the row as it was: the nop changes
 -- nothing, and neither does the condition always. So the row arrives as it left. One nop alone has no next word, which the flow refuses.
-use Prim.Native.Nat.{ℕ, zero, suc, _+_, _*_, _≤_, _<_}
+use Prim.Native.Nat.{ℕ, zero, suc, _+_, _*_, _<_}
 use mathlib.Core.Path.{_≡_, refl, ap, _∙_}
 use mathlib.Core.Bool.{true, and-false}
 use mathlib.Core.List.{List, [], _∷_}
