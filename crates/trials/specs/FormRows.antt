@@ -9,7 +9,7 @@ use Rattle.rows.specs.declared.Note.{Note}
 use Rattle.rows.specs.declared.Row as Rows·
 use Rattle.rows.specs.Geometry.{entryStart, noteStart}
 use Rattle.trials.specs.Case.{Row, _gives_, Given, form, flaw}
-use Rattle.trials.specs.Entries.{above, below, least, most, entryWith, num, just, anyNumber, addr, at, unset, startOrNull, link, noteWith, someCodes, compared, bare, put, noted, bytesOf}
+use Rattle.trials.specs.Entries.{above, below, least, most, entryWith, num, just, anyNumber, addr, at, unset, startOrNull, returnAddress, noteWith, someCodes, compared, bare, put, noted, bytesOf}
 use Rattle.v8.specs.Signed.{bias}
 
 -- the bytes of a row, where there are two regions, of 16 and of 8 bytes
@@ -23,7 +23,7 @@ mixed =
     (put 1 (num 4 bias (above 36))
     (put 2 (addr 0 8 bias (above 16))
     (put 3 (startOrNull 1)
-    (put 15 link bare))))
+    (put 15 returnAddress bare))))
 
 -- it, with an entry of a register; with a note; with a byte at a place
 abbrev pub entryIn : ℕ → Entry → Given
