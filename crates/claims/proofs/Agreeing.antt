@@ -1,14 +1,15 @@
--- Where the bytes of two lists agree, so does what is read from them. An entry is read from 12 bytes, a note from 8, a row from 392; and
--- whether a row is well formed depends on these bytes alone.
+-- Where the bytes of two lists agree, so does what is read from them. An entry, a note and a row are each read from their own bytes;
+-- and whether a row is well formed depends on these bytes alone.
 use Prim.Native.Nat.{ℕ, zero, suc, _+_, _*_, _≤_, _<_}
 use mathlib.Core.Path.{_≡_, refl, sym, ap, _∙_}
-use mathlib.Core.Bool.{Bool, true, false, cond, _&&_}
+use mathlib.Core.Bool.{Bool, true, false, cond}
 use mathlib.Core.List.{List}
 use native.Mathlib.Omega.{arith}
-use lib.Dec.{ltb}
-use borrow.Author.Tests.{ltb-true}
+use lib.Dec.{eqb}
 use Rattle.memory.specs.Memory.{byteAt, wordAt}
-use Rattle.rows.specs.Row.{entryOf, noteOf, entriesFrom, rowOf, entryFormed, noteFormed, entryStart, noteStart, r0Ok, formedAt}
+use Rattle.rows.specs.Geometry.{entryCount, entryBytes, noteBytes, rowBytes, noteOffset, noteStart, noteName, places, entryNamed}
+use Rattle.rows.specs.Row.{entryOf, noteOf, entriesFrom, rowOf, noteFormed, entryFormedAt, formedAt}
+use Rattle.rows.proofs.Named.{named-entry}
 
 module _ (xs ys : List ℕ) where
   -- n bytes of the one list from x on are those of the other from y on
@@ -39,52 +40,53 @@ module _ (xs ys : List ℕ) where
         first-byte (x + 2 + 1) (y + 2 + 1) 1 (omega arith) (part (x + 2) (y + 2) 2 1 1 (omega arith) (part x y 4 2 2 (omega arith) h)),
       )
 
-  pub same-entry : (x y : ℕ) → Agree x y 12 → entryOf xs x ≡ entryOf ys y
+  pub same-entry : (x y : ℕ) → Agree x y entryBytes → entryOf xs x ≡ entryOf ys y
   unfolding entryOf
   same-entry x y h =
       rw (
-        first-byte x y 12 (omega arith) h,
+        first-byte x y entryBytes (omega arith) h,
         h 1 (omega arith),
         h 2 (omega arith),
-        same-word (x + 4) (y + 4) (part x y 12 4 4 (omega arith) h),
-        same-word (x + 8) (y + 8) (part x y 12 8 4 (omega arith) h),
+        same-word (x + 4) (y + 4) (part x y entryBytes 4 4 (omega arith) h),
+        same-word (x + 8) (y + 8) (part x y entryBytes 8 4 (omega arith) h),
       )
 
-  pub same-note : (x y : ℕ) → Agree x y 8 → noteOf xs x ≡ noteOf ys y
+  pub same-note : (x y : ℕ) → Agree x y noteBytes → noteOf xs x ≡ noteOf ys y
   unfolding noteOf
   same-note x y h =
-      rw (first-byte x y 8 (omega arith) h, h 1 (omega arith), same-word (x + 4) (y + 4) (part x y 8 4 4 (omega arith) h))
+      rw (first-byte x y noteBytes (omega arith) h, h 1 (omega arith), same-word (x + 4) (y + 4) (part x y noteBytes 4 4 (omega arith) h))
 
-  same-entries : (n x y : ℕ) → Agree x y (12 * n) → entriesFrom xs x n ≡ entriesFrom ys y n
+  same-entries : (n x y : ℕ) → Agree x y (entryBytes * n) → entriesFrom xs x n ≡ entriesFrom ys y n
   same-entries zero x y h = refl
   same-entries (suc n) x y h =
       rw (
         same-entry x y (λ j l. h j (omega arith)),
-        same-entries n (x + 12) (y + 12) (part x y (12 * suc n) 12 (12 * n) (omega arith) h),
+        same-entries n (x + entryBytes) (y + entryBytes) (part x y (entryBytes * suc n) entryBytes (entryBytes * n) (omega arith) h),
       )
 
+  -- the bytes of the note
+  note-part : (x y : ℕ) → Agree x y rowBytes → Agree (noteStart x) (noteStart y) noteBytes
+  note-part x y h = part x y rowBytes noteOffset noteBytes (omega arith) h
+
   -- rows whose bytes agree are the same row
-  pub same-row : (x y : ℕ) → Agree x y 392 → rowOf xs x ≡ rowOf ys y
+  pub same-row : (x y : ℕ) → Agree x y rowBytes → rowOf xs x ≡ rowOf ys y
   unfolding rowOf
   same-row x y h =
-      rw (same-entries 32 x y (λ j l. h j (omega arith)), same-note (x + 384) (y + 384) (part x y 392 384 8 (omega arith) h))
+      rw (same-entries entryCount x y (λ j l. h j (omega arith)), same-note (noteStart x) (noteStart y) (note-part x y h))
 
-  -- and what is well formed in the one is in the other, register by register and the note
+  -- and what is well formed in the one is in the other, place by place
   module _ (regions : ℕ) (sizes : List ℕ) where
-    pub same-form : (x y r : ℕ) → Agree x y 392 → formedAt regions sizes xs x r ≡ formedAt regions sizes ys y r
+    pub same-form : (x y place : ℕ) → place < places → Agree x y rowBytes → formedAt regions sizes xs x place ≡ formedAt regions sizes ys y place
     unfolding formedAt
-    same-form x y r h = at (ltb r 32) refl
+    same-form x y place l h = at (eqb place noteName) refl
       where
-        at : (t : Bool) → ltb r 32 ≡ t
-            → cond (ltb r 32)
-            (entryFormed regions sizes xs (entryStart x r) && r0Ok r (entryOf xs (entryStart x r)))
-            (noteFormed xs (noteStart x))
-            ≡ cond (ltb r 32)
-            (entryFormed regions sizes ys (entryStart y r) && r0Ok r (entryOf ys (entryStart y r)))
-            (noteFormed ys (noteStart y))
+        at : (t : Bool) → eqb place noteName ≡ t
+            → cond (eqb place noteName) (noteFormed xs (noteStart x)) (entryFormedAt regions sizes xs x (entryNamed place))
+            ≡ cond (eqb place noteName) (noteFormed ys (noteStart y)) (entryFormedAt regions sizes ys y (entryNamed place))
         at true t =
-            let k = part x y 392 (12 * r) 12 (omega (arith, ltb-true r 32 t)) h in
-            rw (t, k 3 (omega arith), same-entry (x + 12 * r) (y + 12 * r) k)
+            let k = note-part x y h in
+            rw (t, k 2 (omega arith), k 3 (omega arith), same-note (noteStart x) (noteStart y) k)
         at false t =
-            let k = part x y 392 384 8 (omega arith) h in
-            rw (t, k 2 (omega arith), k 3 (omega arith), same-note (x + 384) (y + 384) k)
+            let i = entryNamed place in
+            let k = part x y rowBytes (entryBytes * i) entryBytes (omega (arith, named-entry place l t)) h in
+            rw (t, k 3 (omega arith), same-entry (x + entryBytes * i) (y + entryBytes * i) k)

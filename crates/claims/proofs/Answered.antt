@@ -1,13 +1,12 @@
 -- The three routines, passed through the check. What the words are is read by computation, and their flow too. Rows that all equal the entry row
 -- are well formed as it is, and it fits each of them, since it fits itself. A transfer followed by a nop leaves the row as it was: the nop changes
 -- nothing, and neither does the condition always. So the row arrives as it left. One nop alone has no next word, which the flow refuses.
-use Prim.Native.Nat.{ℕ, zero, suc, _+_, _*_, _≤_, _<_}
+use Prim.Native.Nat.{ℕ, zero, suc, _+_, _*_, _<_}
 use mathlib.Core.Path.{_≡_, refl, ap, _∙_}
 use mathlib.Core.Bool.{true, and-false}
 use mathlib.Core.List.{List, [], _∷_}
 use native.Mathlib.Omega.{arith}
 use lib.ListN.{length}
-use borrow.Author.Tests.{le-ltb}
 use Rattle.v8.specs.Search.{first, lowest}
 use Rattle.v8.specs.Numbers.{badRow, entryMisfit}
 use Rattle.v8.specs.Read.{readingOf}
@@ -19,12 +18,14 @@ use Rattle.memory.specs.Memory.{byteAt}
 use Rattle.flow.specs.Transfer.{slotRuns, targetOf}
 use Rattle.flow.specs.Readings.{transfers, isSlot}
 use Rattle.rows.specs.Entry.{isReturn, constant, fits}
-use Rattle.rows.specs.Row.{entryAt, entryOf, rowOf, formFault, misfit, places}
+use Rattle.rows.specs.declared.Flaw.the-variants.{None}
+use Rattle.rows.specs.Geometry.{rowBytes}
+use Rattle.rows.specs.Row.{entryAt, entryOf, rowOf, formFault, misfit}
 use Rattle.rows.proofs.Tests.{other-kind}
 use Rattle.rules.specs.Change.{branchChange, returnChange}
 use Rattle.rules.specs.Narrow.{narrowRow}
 use Rattle.checker.specs.Answer.{accepted, refuse, passes, passOf}
-use Rattle.checker.specs.Routine.{Routine, routineOf, rowBytes}
+use Rattle.checker.specs.Routine.{Routine, routineOf}
 use Rattle.checker.specs.Passes.{shapeOk, rowPass, readPass, flowPass, entryPass, cross, narrowedEdge, wordPass, checkOf}
 use Rattle.claims.specs.Claims.{nop, returnWord, alwaysHere, WellFormedEntry, AllRowsEqual, ReturnThenNop, OneNop, LoopAccepted}
 use Rattle.claims.proofs.Agreeing.{Agree, same-row}
@@ -42,12 +43,12 @@ below-two P a b (suc zero) l = b
 below-two P a b (suc (suc w)) l = absurd (omega arith)
 
 -- a word whose row is well formed passes 1
-row-passes : (p : Policy) (rows : List ℕ) (w : ℕ) → places ≤ formFault (p .regions .count) (p .regions .sizes) rows (rowBytes * w) → passes (rowPass p rows w) ≡ true
+row-passes : (p : Policy) (rows : List ℕ) (w : ℕ) → formFault (p .regions .count) (p .regions .sizes) rows (rowBytes * w) ≡ None → passes (rowPass p rows w) ≡ true
 unfolding rowPass
-row-passes p rows w l = ap passes (unless-none badRow w (formFault (p .regions .count) (p .regions .sizes) rows (rowBytes * w)) l)
+row-passes p rows w e = ap passes (unless-none badRow w (formFault (p .regions .count) (p .regions .sizes) rows (rowBytes * w)) e)
 
 module _ (p : Policy) (rows entry result : List ℕ) (f : WellFormedEntry p entry result) where
-  module _ (long : length rows ≡ 392) (formed : formFault (p .regions .count) (p .regions .sizes) rows 0 ≡ places) where
+  module _ (long : length rows ≡ rowBytes) (formed : formFault (p .regions .count) (p .regions .sizes) rows 0 ≡ None) where
     abbrev alone : Routine
     alone = routineOf p (nop ∷ []) rows entry result
 
@@ -56,7 +57,7 @@ module _ (p : Policy) (rows entry result : List ℕ) (f : WellFormedEntry p entr
     alone-shape = rw (long, f .entry-long, f .result-long, f .entry-formed, f .result-formed)
 
     alone-rows : passOf (rowPass p rows) 1 ≡ accepted
-    alone-rows = all-pass (rowPass p rows) 1 (below-one (λ (w : ℕ). passes (rowPass p rows w) ≡ true) (row-passes p rows 0 (omega arith)))
+    alone-rows = all-pass (rowPass p rows) 1 (below-one (λ (w : ℕ). passes (rowPass p rows w) ≡ true) (row-passes p rows 0 formed))
 
     alone-reads : passOf (readPass (alone .readings)) 1 ≡ accepted
     unfolding passOf first lowest readPass
@@ -75,25 +76,22 @@ one-nop p rows entry result f long formed = alone-answer p rows entry result f l
 
 -- a transfer, then a nop in its slot, both rows equal to the entry row
 module _ (p : Policy) (rows entry result : List ℕ) (f : WellFormedEntry p entry result) (e : AllRowsEqual rows entry 2) where
-  agree : (w : ℕ) → w < 2 → Agree rows entry (392 * w) 0 392
+  agree : (w : ℕ) → w < 2 → Agree rows entry (rowBytes * w) 0 rowBytes
   agree w l j b = e .same w j l b ∙ ap (byteAt entry) (none j)
     where
       none : (k : ℕ) → k ≡ 0 + k
       none k = omega arith
 
   -- each row is the entry row, and well formed
-  row-is : (w : ℕ) → w < 2 → rowOf rows (392 * w) ≡ rowOf entry 0
-  row-is w l = same-row rows entry (392 * w) 0 (agree w l)
+  row-is : (w : ℕ) → w < 2 → rowOf rows (rowBytes * w) ≡ rowOf entry 0
+  row-is w l = same-row rows entry (rowBytes * w) 0 (agree w l)
 
-  row-formed : (w : ℕ) → w < 2 → places ≤ formFault (p .regions .count) (p .regions .sizes) rows (392 * w)
-  row-formed w l = formed-too (p .regions .count) (p .regions .sizes) rows entry (392 * w) 0 (agree w l) (f .entry-formed)
-
-  entry-formed : places ≤ formFault (p .regions .count) (p .regions .sizes) entry 0
-  entry-formed = omega (arith, f .entry-formed)
+  row-formed : (w : ℕ) → w < 2 → formFault (p .regions .count) (p .regions .sizes) rows (rowBytes * w) ≡ None
+  row-formed w l = formed-too (p .regions .count) (p .regions .sizes) rows entry (rowBytes * w) 0 (agree w l) (f .entry-formed)
 
   -- the entry row fits row 0
-  entry-fits : places ≤ misfit (rowOf entry 0) (rowOf rows (392 * 0))
-  entry-fits = rw (row-is 0 (omega arith)) (row-self (p .regions .count) (p .regions .sizes) entry 0 entry-formed)
+  entry-fits : misfit (rowOf entry 0) (rowOf rows (rowBytes * 0)) ≡ None
+  entry-fits = rw (row-is 0 (omega arith)) (row-self (p .regions .count) (p .regions .sizes) entry 0 (f .entry-formed))
 
   module _ (word : ℕ) where
     abbrev pair : Routine
@@ -108,7 +106,7 @@ module _ (p : Policy) (rows entry result : List ℕ) (f : WellFormedEntry p entr
 
     pair-entry : entryPass rows entry ≡ accepted
     unfolding entryPass
-    pair-entry = unless-none entryMisfit 0 (misfit (rowOf entry 0) (rowOf rows (392 * 0))) entry-fits
+    pair-entry = unless-none entryMisfit 0 (misfit (rowOf entry 0) (rowOf rows (rowBytes * 0))) entry-fits
 
     -- a transfer that passes each pass makes a routine that does: its slot is read, is no transfer, and is not looked at by itself
     module _ (reads : passes (readPass (pair .readings) 0) ≡ true) (slot : transfers (readingOf word) ≡ true) (flows : passes (flowPass (pair .readings) 0) ≡ true)
@@ -156,7 +154,7 @@ module _ (p : Policy) (rows entry result : List ℕ) (f : WellFormedEntry p entr
           row-is 0 (omega arith),
           other-kind (entryAt (rowOf entry 0) 15 .kind) 4 0 links (λ x. omega arith),
           links,
-          nop-keeps (p .regions .count) (p .regions .sizes) entry 0 entry-formed (constant (sethiOf 0)),
+          nop-keeps (p .regions .count) (p .regions .sizes) entry 0 (f .entry-formed) (constant (sethiOf 0)),
           fitting,
         )
 
@@ -183,8 +181,8 @@ module _ (p : Policy) (rows entry result : List ℕ) (f : WellFormedEntry p entr
         nop-read,
         row-is 0 (omega arith),
         and-false,
-        nop-keeps (p .regions .count) (p .regions .sizes) entry 0 entry-formed (constant (sethiOf 0)),
-        le-ltb (misfit (rowOf entry 0) (rowOf rows (392 * 0))) places entry-fits,
+        nop-keeps (p .regions .count) (p .regions .sizes) entry 0 (f .entry-formed) (constant (sethiOf 0)),
+        entry-fits,
       )
 
   loop-answer : checkOf p (alwaysHere ∷ nop ∷ []) rows entry result ≡ accepted

@@ -5,20 +5,22 @@ use mathlib.Core.Path.{_≡_, refl, ap}
 use mathlib.Core.Bool.{Bool, true, not, _&&_, _||_, and-false}
 use mathlib.Core.List.{List}
 use native.Mathlib.Omega.{arith}
-use lib.Dec.{ltb, eqb}
+use lib.Dec.{eqb}
 use borrow.Author.Tests.{eqb-true, eq-eqb}
 use Rattle.v8.specs.Choice.{cond-both}
 use Rattle.v8.specs.Search.{needed, needed-le}
 use Rattle.rows.specs.declared.Entry.{Entry}
+use Rattle.rows.specs.declared.Flaw.the-variants.{None}
 use Rattle.rows.specs.declared.Note.{Note}
 use Rattle.rows.specs.declared.Row.{Row}
 use Rattle.rows.specs.Entry.{isComparison, noteOk, fitsNote}
-use Rattle.rows.specs.Row.{entryAt, entriesWith, rowWith, noteOf, rowOf, noteStart, formedAt, formFault, fitsAt, misfitsAt, misfit, places}
+use Rattle.rows.specs.Geometry.{noteStart, noteName, places, entryNamed}
+use Rattle.rows.specs.Row.{entryAt, entriesWith, rowWith, noteOf, rowOf, formedAt, formFault, fitsAt, misfitsAt, misfit}
 use Rattle.rows.proofs.Tests.{or-true, and-went}
+use Rattle.rows.proofs.LowestFlaw.{no-flaw}
 use Rattle.rows.proofs.Order.{fits-self}
 use Rattle.rows.proofs.Obeying.{formed-each, row-obeys}
 use Rattle.rules.specs.Change.{noteAfter}
-use Rattle.claims.proofs.Passing.{none-found}
 
 -- a note fits itself
 note-self : (n : Note) → fitsNote n n ≡ true
@@ -41,7 +43,7 @@ note-kept n h =
     none : (r : ℕ) → 1 ≤ r → r ≡ 0 → ⊥
     none r l e = omega arith
 
-module _ (regions : ℕ) (sizes bytes : List ℕ) (at : ℕ) (h : places ≤ formFault regions sizes bytes at) where
+module _ (regions : ℕ) (sizes bytes : List ℕ) (at : ℕ) (h : formFault regions sizes bytes at ≡ None) where
   abbrev row : Row
   row = rowOf bytes at
 
@@ -50,16 +52,16 @@ module _ (regions : ℕ) (sizes bytes : List ℕ) (at : ℕ) (h : places ≤ for
 
   note-formed : noteOk (row .note) ≡ true
   unfolding formedAt rowOf
-  note-formed = needed (formedAt regions sizes bytes at 32) (noteOk (noteOf bytes (noteStart at))) (formed 32 (omega arith)) (λ f. rw (f, and-false))
+  note-formed = needed (formedAt regions sizes bytes at noteName) (noteOk (noteOf bytes (noteStart at))) (formed noteName (omega arith)) (λ f. rw (f, and-false))
 
   -- a well formed row fits itself
-  pub row-self : places ≤ misfit (rowOf bytes at) (rowOf bytes at)
+  pub row-self : misfit (rowOf bytes at) (rowOf bytes at) ≡ None
   unfolding misfit fitsAt
   row-self =
-      none-found (misfitsAt row row) places
-      (λ r l. ap not (cond-both (λ (x : Bool). x ≡ true) (ltb r 32)
-      (λ _. fits-self regions sizes (entryAt row r) (row-obeys regions sizes bytes at h .entries r))
-      (λ _. note-self (row .note))))
+      no-flaw (misfitsAt row row)
+      (λ place l. ap not (cond-both (λ (x : Bool). x ≡ true) (eqb place noteName)
+      (λ _. note-self (row .note))
+      (λ _. fits-self regions sizes (entryAt row (entryNamed place)) (row-obeys regions sizes bytes at h .entries (entryNamed place)))))
 
   -- a nop keeps it
   pub nop-keeps : (e : Entry) → rowWith (rowOf bytes at) 0 e (noteAfter (rowOf bytes at .note) 0) ≡ rowOf bytes at

@@ -1,16 +1,19 @@
--- A check that passes: where no register of a row is at fault the search finds none, where each word passes the pass over the words does, and
+-- A check that passes: a row without a flaw is accepted, where each word passes the pass over the words does, and
 -- where each pass does the check accepts. (The other direction, what an accepted check shows, is checker's.)
 use Prim.Native.Nat.{ℕ, _≤_, _<_}
 use mathlib.Core.Path.{_≡_, refl, sym, ap, _∙_}
 use mathlib.Core.Bool.{Bool, true, false, not}
 use mathlib.Core.List.{List}
-use native.Mathlib.Omega.{arith}
 use lib.Dec.{ltb}
 use borrow.Author.Tests.{ltb-true, ltb-false, le-ltb}
-use Rattle.v8.specs.Search.{first, first-passes, first-least}
+use Rattle.v8.specs.Search.{first, first-passes}
 use Rattle.policy.specs.Policy.{policyOk}
-use Rattle.rows.specs.Row.{brokenAt, formFault, places}
+use Rattle.rows.specs.declared.Flaw.{Flaw}
+use Rattle.rows.specs.declared.Flaw.the-variants.{None}
+use Rattle.rows.specs.Geometry.{rowBytes}
+use Rattle.rows.specs.Row.{brokenAt, formFault}
 use Rattle.rows.proofs.Tests.{false-true}
+use Rattle.rows.proofs.LowestFlaw.{none-broken, no-flaw}
 use Rattle.checker.specs.declared.Answer.{Answer}
 use Rattle.checker.specs.Answer.{accepted, passes, refuses, passOf}
 use Rattle.checker.specs.Routine.{Routine, count}
@@ -27,17 +30,17 @@ none-found f n h = at (ltb (first f 0 n) n) refl
         false-true (sym (h (first f 0 n) l) ∙ first-passes f 0 n l)
     at false t = ltb-false (first f 0 n) n t
 
--- a search that found no fault is accepted
-pub unless-none : (number w r : ℕ) → places ≤ r → unlessFault number w r ≡ accepted
-unless-none number w r l = rw (le-ltb r places l)
+-- a row that has no flaw is accepted
+pub unless-none : (number w : ℕ) (flaw : Flaw) → flaw ≡ None → unlessFault number w flaw ≡ accepted
+unless-none number w flaw e = rw e
 
 -- a row whose bytes agree with those of a well formed one is well formed
-pub formed-too : (regions : ℕ) (sizes xs ys : List ℕ) (x y : ℕ) → Agree xs ys x y 392
-    → formFault regions sizes ys y ≡ places → places ≤ formFault regions sizes xs x
+pub formed-too : (regions : ℕ) (sizes xs ys : List ℕ) (x y : ℕ) → Agree xs ys x y rowBytes
+    → formFault regions sizes ys y ≡ None → formFault regions sizes xs x ≡ None
 unfolding formFault
 formed-too regions sizes xs ys x y h e =
-    none-found (brokenAt regions sizes xs x) places
-    (λ r l. ap not (same-form xs ys regions sizes x y r h) ∙ first-least (brokenAt regions sizes ys y) 0 places r (omega arith) (omega arith))
+    no-flaw (brokenAt regions sizes xs x)
+    (λ place l. ap not (same-form xs ys regions sizes x y place l h) ∙ none-broken (brokenAt regions sizes ys y) e place l)
 
 -- a pass over the words accepts if each word does
 pub all-pass : (f : ℕ → Answer) (n : ℕ) → ((w : ℕ) → w < n → passes (f w) ≡ true) → passOf f n ≡ accepted

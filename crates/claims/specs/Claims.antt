@@ -12,7 +12,9 @@ use Rattle.step.specs.declared.Registers.{Registers}
 use Rattle.machine.specs.declared.End.the-variants.{Spent}
 use Rattle.machine.specs.Run.{runOf}
 use Rattle.rows.specs.Entry.{isReturn, fits}
-use Rattle.rows.specs.Row.{entryAt, entryOf, entryFormed, rowOf, formFault, places}
+use Rattle.rows.specs.declared.Flaw.the-variants.{None}
+use Rattle.rows.specs.Geometry.{rowBytes, entryBytes}
+use Rattle.rows.specs.Row.{entryAt, entryOf, entryFormed, rowOf, formFault}
 use Rattle.checker.specs.Answer.{accepted, refuse}
 use Rattle.checker.specs.Passes.{checkOf}
 use Rattle.guarantee.specs.Guarantee.{Start}
@@ -27,19 +29,18 @@ nop = 0x01000000
 abbrev pub alwaysHere : ℕ
 alwaysHere = 0x10800000
 
--- a policy that obeys the rules, and an entry row and a result entry that are well formed: of the 33 places of a row, its registers and its note,
--- none is found at fault
+-- a policy that obeys the rules, and an entry row and a result entry that are well formed: no place of the row, register or note, has a flaw
 pub record WellFormedEntry (p : Policy) (entry result : List ℕ) : Type 0 where
   pub policy : policyOk p ≡ true
-  pub entry-long : length entry ≡ 392
-  pub entry-formed : formFault (p .regions .count) (p .regions .sizes) entry 0 ≡ places
-  pub result-long : length result ≡ 12
+  pub entry-long : length entry ≡ rowBytes
+  pub entry-formed : formFault (p .regions .count) (p .regions .sizes) entry 0 ≡ None
+  pub result-long : length result ≡ entryBytes
   pub result-formed : entryFormed (p .regions .count) (p .regions .sizes) result 0 ≡ true
 
 -- "all rows equal to a well-formed entry row": n rows, each byte by byte the entry row
 pub record AllRowsEqual (rows entry : List ℕ) (n : ℕ) : Type 0 where
-  pub long : length rows ≡ 392 * n
-  pub same : (w j : ℕ) → w < n → j < 392 → byteAt rows (392 * w + j) ≡ byteAt entry j
+  pub long : length rows ≡ rowBytes * n
+  pub same : (w j : ℕ) → w < n → j < rowBytes → byteAt rows (rowBytes * w + j) ≡ byteAt entry j
 
 -- "Return then nop, all rows equal to a well-formed entry row with r15 kind 4 and r8 fitting: 0 0 0."
 abbrev pub ReturnThenNop : Type 0
@@ -52,7 +53,7 @@ ReturnThenNop =
 abbrev pub OneNop : Type 0
 OneNop =
     (p : Policy) (rows entry result : List ℕ) → WellFormedEntry p entry result
-    → length rows ≡ 392 → formFault (p .regions .count) (p .regions .sizes) rows 0 ≡ places
+    → length rows ≡ rowBytes → formFault (p .regions .count) (p .regions .sizes) rows 0 ≡ None
     → checkOf p (nop ∷ []) rows entry result ≡ refuse 3 0 0
 
 -- "10800000 (always, distance 0) then nop, both rows equal to the entry row: accepted, never returns." It is accepted ..

@@ -39,6 +39,7 @@ use Rattle.step.specs.Control.{goTo, atSlot, dueAt}
 use Rattle.step.specs.Effect.{Core, Effect, fault, done, effectOf}
 use Rattle.step.specs.Step.{State, Step, next, advance, follow, plainStep, branchStep, returnStep, stepWith, stepOf}
 use Rattle.rows.specs.declared.Row.{Row}
+use Rattle.rows.specs.Geometry.{rowBytes}
 use Rattle.rows.specs.Entry.{isUnset, isReturn}
 use Rattle.rows.specs.Geometry.{rowBytes}
 use Rattle.rows.specs.Row.{entryAt}

@@ -19,6 +19,7 @@ use Rattle.flow.proofs.Fetched.{read-count}
 use Rattle.flow.proofs.Examined.{first-examined}
 use Rattle.machine.specs.Run.{Run, settingOf, startState, refusalOf, runOf, runFrom, traceFrom}
 use Rattle.rows.specs.declared.Row.{Row}
+use Rattle.rows.specs.Geometry.{rowBytes}
 use Rattle.rows.specs.Entry.{entryOk}
 use Rattle.rows.specs.Row.{entryAt, entryOf}
 use Rattle.rows.specs.Matches.{Host, Holds, RowMatches}
@@ -30,7 +31,6 @@ use Rattle.rules.specs.Laws.{Laid}
 use Rattle.memory.specs.Memory.{byteAt}
 use Rattle.checker.specs.Answer.{accepted}
 use Rattle.checker.specs.Routine.{Routine, routineOf, rowAt, entryRow}
-use Rattle.rows.specs.Geometry.{rowBytes}
 use Rattle.checker.specs.Passes.{checkOf}
 use Rattle.checker.specs.Laws.{Checked}
 use Rattle.checker.proofs.Accepted.{accepts}

@@ -26,6 +26,7 @@ use Rattle.sets.specs.Sets.{ended, setOk, fitsSet}
 use Rattle.sets.specs.Rules.{within, addSets, subSets, andSets, sllSet, sraSet, srlSet}
 use Rattle.sets.specs.Narrow.{atMost, atLeast, lessThan, isMember, only, without}
 use Rattle.rows.specs.Entry.{sizeIn, entryOk, fits, noteOk, fitsNote, fieldEntry}
+use Rattle.rows.specs.Flaw.{flawFrom}
 use Rattle.rows.specs.Row.{entryAt, entriesWith, entryOf, noteOf, rowOf, formedAt, formFault, fitsAt, misfit}
 use Rattle.rules.specs.Result.{offsetsGive, addressSum, addressDifference, aluResult, shiftResult}
 use Rattle.rules.specs.Reach.{inField, inRegion, reachOf}
@@ -55,15 +56,15 @@ unfolding readingOf format00 format10 memoryOf operandOf countOf signExtend writ
 machine-rows-hold = refl
 
 row-rows-hold : Holds rowTable
-unfolding readingOf format00 format10 memoryOf operandOf countOf signExtend conditionOf lowest first widthOf fieldAt holdsIn stopOf findIn ended setOk fitsSet within addSets subSets andSets sllSet sraSet srlSet atMost atLeast lessThan isMember only without sizeIn entryOk fits noteOk fitsNote fieldEntry entryAt entriesWith entryOf noteOf formedAt formFault fitsAt misfit offsetsGive addressSum addressDifference aluResult shiftResult inField inRegion reachOf noteAfter codesNote aluChange shiftChange accessChange branchChange returnChange narrowEntry narrowRow
+unfolding readingOf format00 format10 memoryOf operandOf countOf signExtend conditionOf lowest first widthOf fieldAt holdsIn stopOf findIn ended setOk fitsSet within addSets subSets andSets sllSet sraSet srlSet atMost atLeast lessThan isMember only without sizeIn entryOk fits noteOk fitsNote fieldEntry entryAt entriesWith entryOf noteOf formedAt flawFrom formFault fitsAt misfit offsetsGive addressSum addressDifference aluResult shiftResult inField inRegion reachOf noteAfter codesNote aluChange shiftChange accessChange branchChange returnChange narrowEntry narrowRow
 row-rows-hold = refl
 
 pass-rows-hold : Holds passTable
-unfolding readingOf format00 format10 memoryOf operandOf countOf signExtend lowest first all widthOf leastOf mostOf fieldAt valuesOk fieldOk endBefore fieldFits fieldAtOk regionOk policyOk targetOf setOk fitsSet sizeIn entryOk fits noteOk fitsNote entryAt entryOf noteOf rowOf formedAt formFault fitsAt misfit passOf isSlot shapeOk rowPass readPass flowPass entryPass answerOf checkOf
+unfolding readingOf format00 format10 memoryOf operandOf countOf signExtend lowest first all widthOf leastOf mostOf fieldAt valuesOk fieldOk endBefore fieldFits fieldAtOk regionOk policyOk targetOf setOk fitsSet sizeIn entryOk fits noteOk fitsNote entryAt entryOf noteOf rowOf formedAt flawFrom formFault fitsAt misfit passOf isSlot shapeOk rowPass readPass flowPass entryPass answerOf checkOf
 pass-rows-hold = refl
 
 edge-rows-hold : Holds edgeTable
-unfolding readingOf format00 format10 memoryOf operandOf countOf signExtend conditionOf lowest first all widthOf leastOf mostOf fieldAt valuesOk fieldOk endBefore fieldFits fieldAtOk regionOk policyOk holdsIn stopOf findIn slotRuns targetOf ended setOk fitsSet within addSets subSets andSets sllSet sraSet srlSet atMost atLeast lessThan isMember only without sizeIn entryOk fits noteOk fitsNote fieldEntry entryAt entriesWith entryOf noteOf formedAt formFault fitsAt misfit rowOf offsetsGive addressSum addressDifference aluResult shiftResult inField inRegion reachOf noteAfter codesNote aluChange shiftChange accessChange branchChange returnChange narrowEntry narrowRow passOf isSlot shapeOk rowPass readPass flowPass entryPass cross narrowedEdge wordPass answerOf checkOf
+unfolding readingOf format00 format10 memoryOf operandOf countOf signExtend conditionOf lowest first all widthOf leastOf mostOf fieldAt valuesOk fieldOk endBefore fieldFits fieldAtOk regionOk policyOk holdsIn stopOf findIn slotRuns targetOf ended setOk fitsSet within addSets subSets andSets sllSet sraSet srlSet atMost atLeast lessThan isMember only without sizeIn entryOk fits noteOk fitsNote fieldEntry entryAt entriesWith entryOf noteOf formedAt flawFrom formFault fitsAt misfit rowOf offsetsGive addressSum addressDifference aluResult shiftResult inField inRegion reachOf noteAfter codesNote aluChange shiftChange accessChange branchChange returnChange narrowEntry narrowRow passOf isSlot shapeOk rowPass readPass flowPass entryPass cross narrowedEdge wordPass answerOf checkOf
 edge-rows-hold = refl
 
 every-claim-holds : (c : Claim) → Says c

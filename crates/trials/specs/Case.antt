@@ -33,6 +33,7 @@ use Rattle.step.specs.declared.Registers.{Registers}
 use Rattle.machine.specs.declared.End.{End}
 use Rattle.machine.specs.Run.{Run, runOf}
 use Rattle.rows.specs.declared.Entry.{Entry}
+use Rattle.rows.specs.declared.Flaw.{Flaw}
 use Rattle.rows.specs.declared.Note.{Note}
 use Rattle.rows.specs.declared.Row as Rows·
 use Rattle.rows.specs.Entry.{fits, fitsNote}
@@ -123,6 +124,8 @@ pub data Outcome : Type 0 where
   ends : End → ℕ → List ℕ → List Bool → ℕ → List ℕ → Outcome
   -- it fits, or it does not
   fitted : Bool → Outcome
+  -- the lowest place of a row that is badly formed or does not fit, or none
+  flaw : Flaw → Outcome
   -- the result's entry, or the number of the condition that it breaks
   makes : Result → Outcome
   -- what the word does to the row
@@ -209,10 +212,10 @@ outcome (loaded op m a) = yields (loadOf op m a)
 outcome (stored op v a m) = leaves (storeOf op v a m)
 outcome (begins sizes r) = yields (partStart sizes r)
 outcome (runs p words bases returns g allowance memory) = endsOf (runOf p words bases returns g allowance memory)
-outcome (form regions sizes bytes) = yields (formFault regions sizes bytes 0)
+outcome (form regions sizes bytes) = flaw (formFault regions sizes bytes 0)
 outcome (fitting a b) = fitted (fits a b)
 outcome (fittingNote a b) = fitted (fitsNote a b)
-outcome (fittingRow a b) = yields (misfit a b)
+outcome (fittingRow a b) = flaw (misfit a b)
 outcome (entries sizes op a b) = makes (aluResult sizes op a b)
 outcome (shiftedEntry op a b) = makes (shiftResult op a b)
 outcome (change p row w) = changeBy p row (readingOf w)

@@ -5,6 +5,7 @@ use mathlib.Core.List.{List, [], _∷_, _++_, map}
 use lib.ListN.{replicate, take}
 use Rattle.policy.specs.declared.Policy.{Policy}
 use Rattle.policy.specs.Build.{emptyPolicy, withRegion, withField}
+use Rattle.rows.specs.Geometry.{rowBytes}
 use Rattle.rows.specs.declared.Entry.{Entry}
 use Rattle.rows.specs.declared.Row as Rows·
 use Rattle.trials.specs.Case.{Row, _gives_, Given, check, answers}
@@ -65,7 +66,7 @@ shapeRows =
     check (uniform 1 7 0) [] [] [] [] gives answers 20 0 0
     -- no words; 129 words
     ∷ check oneWord [] [] (bytesOf called) (bytesOfEntry unset) gives answers 21 0 0
-    ∷ check oneWord (replicate 129 0x01000000) (replicate (392 * 129) 0) (bytesOf called) (bytesOfEntry unset) gives answers 21 0 0
+    ∷ check oneWord (replicate 129 0x01000000) (replicate (rowBytes * 129) 0) (bytesOf called) (bytesOfEntry unset) gives answers 21 0 0
     -- the lengths of rows, entry row and result entry, each one byte short or long
     ∷ shaped (take 783 twoRows) (bytesOf called) (bytesOfEntry unset) gives answers 21 0 0
     ∷ shaped (twoRows ++ 0 ∷ []) (bytesOf called) (bytesOfEntry unset) gives answers 21 0 0

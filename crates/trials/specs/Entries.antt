@@ -8,6 +8,7 @@ use Rattle.rows.specs.declared.Entry.{Entry}
 use Rattle.rows.specs.declared.Note.{Note}
 use Rattle.rows.specs.declared.Row.{Row}
 use Rattle.rows.specs.Entry.{numberIn, addressIn, blank}
+use Rattle.rows.specs.Geometry.{entryCount}
 
 -- the numbers n and -n in excess form
 abbrev pub above : ℕ → ℕ
@@ -71,7 +72,7 @@ compared register number = noteWith 2 register number
 
 -- a row where nothing is set
 abbrev pub bare : Row
-bare = record { entries = just bias ∷ replicate 31 unset; note = noCodes }
+bare = record { entries = just bias ∷ replicate (entryCount - 1) unset; note = noCodes }
 
 -- a row with another entry of register r; with another note
 abbrev pub put : ℕ → Entry → Row → Row

@@ -2,7 +2,8 @@
 use mathlib.Core.Bool.{true, false}
 use mathlib.Core.List.{List, [], _∷_, _++_}
 use Rattle.rows.specs.declared.Entry.{Entry}
-use Rattle.trials.specs.Case.{Row, _gives_, fitting, fittingNote, fittingRow, fitted, yields}
+use Rattle.rows.specs.declared.Flaw.the-variants.{None, At}
+use Rattle.trials.specs.Case.{Row, _gives_, fitting, fittingNote, fittingRow, fitted, flaw}
 use Rattle.trials.specs.Entries.{above, below, least, most, num, just, anyNumber, addr, at, unset, startOrNull, returnAddress, noCodes, someCodes, compared, bare, put, noted}
 use Rattle.v8.specs.Signed.{bias}
 
@@ -82,7 +83,7 @@ kindRows =
     ∷ fitting returnAddress unset gives fitted true
     ∷ []
 
--- notes, and rows: the lowest register that does not fit, 32 for the note, 33 where the row fits
+-- notes, and rows: the lowest register that does not fit, 32 for the note, or none where the row fits
 abbrev pub noteFitRows : List Row
 noteFitRows =
     fittingNote noCodes noCodes gives fitted true
@@ -96,11 +97,11 @@ noteFitRows =
     ∷ fittingNote (compared 1 (above 9)) (compared 1 (above 9)) gives fitted true
     ∷ fittingNote (compared 2 (above 9)) (compared 1 (above 9)) gives fitted false
     ∷ fittingNote (compared 1 (above 8)) (compared 1 (above 9)) gives fitted false
-    ∷ fittingRow bare bare gives yields 33
-    ∷ fittingRow (noted someCodes (put 1 fours bare)) bare gives yields 33
-    ∷ fittingRow bare (put 31 fours bare) gives yields 31
-    ∷ fittingRow bare (noted someCodes bare) gives yields 32
-    ∷ fittingRow bare (noted someCodes (put 9 returnAddress (put 5 fours bare))) gives yields 5
+    ∷ fittingRow bare bare gives flaw None
+    ∷ fittingRow (noted someCodes (put 1 fours bare)) bare gives flaw None
+    ∷ fittingRow bare (put 31 fours bare) gives flaw (At 31)
+    ∷ fittingRow bare (noted someCodes bare) gives flaw (At 32)
+    ∷ fittingRow bare (noted someCodes (put 9 returnAddress (put 5 fours bare))) gives flaw (At 5)
     ∷ []
 
 -- all of them

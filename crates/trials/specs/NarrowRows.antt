@@ -6,7 +6,7 @@ use Rattle.rows.specs.declared.Row as Rows·
 use Rattle.rules.specs.declared.EntryLeft.the-variants.{Left, Nothing}
 use Rattle.rules.specs.Narrow.{left, nothing}
 use Rattle.trials.specs.Case.{Row, _gives_, Outcome, narrowing, narrowingRow, remains, rowRemains}
-use Rattle.trials.specs.Entries.{above, below, least, most, num, just, anyNumber, addr, at, unset, startOrNull, link, someCodes, compared, bare, put, noted}
+use Rattle.trials.specs.Entries.{above, below, least, most, num, just, anyNumber, addr, at, unset, startOrNull, returnAddress, someCodes, compared, bare, put, noted}
 use Rattle.v8.specs.Signed.{bias}
 
 -- an entry is left; nothing is
@@ -108,7 +108,7 @@ otherRows =
     -- an address, the return address, what is unset
     ∷ narrowing 1 (at 1 8) bias gives leaves (at 1 8)
     ∷ narrowing 3 (addr 1 4 bias (above 8)) (above 4) gives leaves (addr 1 4 bias (above 8))
-    ∷ narrowing 9 link bias gives leaves link
+    ∷ narrowing 9 returnAddress bias gives leaves returnAddress
     ∷ narrowing 1 unset bias gives leaves unset
     -- 4 to 7, 12 to 15, 0 and 8 narrow no number, and leave a single one
     ∷ narrowing 4 fours (above 9) gives leaves fours

@@ -58,16 +58,9 @@ afterSixteen more = anew (region 24 ∷ bytesThen 16 0 more)
 abbrev pub uniform : ℕ → ℕ → ℕ → Policy
 uniform regions size fields =
     record {
-      regions = regions;
-      sizes = replicate 8 size;
-      fields = replicate 8 fields;
-      elements = replicate 128 0;
-      permissions = replicate 128 0;
-      targets = replicate 128 0;
-      offsets = replicate 128 0;
-      counts = replicate 128 0;
-      lows = replicate 128 0;
-      highs = replicate 128 0;
+      regions = record { count = regions; sizes = replicate 8 size; fields = replicate 8 fields };
+      fields = record { elements = replicate 128 0; permissions = replicate 128 0; offsets = replicate 128 0; counts = replicate 128 0 };
+      values = record { targets = replicate 128 0; lows = replicate 128 0; highs = replicate 128 0 };
     }
 
 -- regions
