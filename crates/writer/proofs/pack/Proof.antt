@@ -31,7 +31,9 @@ add-t18 : tie.Need-add-t18
 add-t18 c = search needs
 
 add-t19 : tie.Need-add-t19
-add-t19 c = record { fits = omega (arith, rw (c .before .before .before .low .given .1) at (c .before .before .before .before .before .pre .2)) }
+add-t19 c =
+    let at-pre = c .before .before .before .before .before in
+    record { fits = omega (arith, rw (c .before .before .before .low .given .1) at (at-pre .pre .2)) }
 
 returns : tie.Need-returns
 unfolding packed packOf

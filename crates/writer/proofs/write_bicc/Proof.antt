@@ -21,18 +21,27 @@ add-word : tie.Need-add-word
 add-word c = search needs
 
 add-word-2 : tie.Need-add-word-2
-add-word-2 c = let g = rw (← c .before .before .before .before .signed-bits .ensures, c .before .before .b .given .1) at (signed-fits 22 0 22 (c .before .before .before .before .before .args .distance .0) (omega arith)) in
+add-word-2 c =
+    let at-args = c .before .before .before .before .before in
+    let g = rw (← c .before .before .before .before .signed-bits .ensures, c .before .before .b .given .1) at (signed-fits 22 0 22 (at-args .args .distance .0) (omega arith)) in
     record { fits = omega arith }
 
 add-t13 : tie.Need-add-t13
-add-t13 c = let g = rw (← c .before .before .before .before .before .signed-bits .ensures, c .before .before .before .b .given .1) at (signed-fits 22 0 22 (c .before .before .before .before .before .before .args .distance .0) (omega arith)) in
+add-t13 c =
+    let at-signed-bits = c .before .before .before .before .before in
+    let at-args = at-signed-bits .before in
+    let g = rw (← at-signed-bits .signed-bits .ensures, c .before .before .before .b .given .1) at (signed-fits 22 0 22 (at-args .args .distance .0) (omega arith)) in
     record { fits = omega arith }
 
 returns : tie.Need-returns
-returns c = rw (← c .before .before .before .before .before .signed-bits .ensures, c .before .before .before .b .given .1) (simp (c .if2 .taken, lt-ltb _ _ (c .before .if1 .taken)) (ap Written (omega arith)))
+returns c =
+    let at-signed-bits = c .before .before .before .before .before in
+    rw (← at-signed-bits .signed-bits .ensures, c .before .before .before .b .given .1) (simp (c .if2 .taken, lt-ltb _ _ (c .before .if1 .taken)) (ap Written (omega arith)))
 
 returns-2 : tie.Need-returns-2
-returns-2 c = rw (← c .before .before .before .before .before .signed-bits .ensures, c .before .before .before .b .given .1) (simp (c .if2 .left, lt-ltb _ _ (c .before .if1 .taken)) (ap Written (omega arith)))
+returns-2 c =
+    let at-signed-bits = c .before .before .before .before .before in
+    rw (← at-signed-bits .signed-bits .ensures, c .before .before .before .b .given .1) (simp (c .if2 .left, lt-ltb _ _ (c .before .if1 .taken)) (ap Written (omega arith)))
 
 enum-told : tie.Need-enum-told
 enum-told c = search needs

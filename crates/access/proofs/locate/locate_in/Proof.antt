@@ -30,11 +30,12 @@ allowed-requires c κs = search needs
 
 returns : tie.Need-returns
 returns c =
+    let at-found = c .before .before .before .before .before .before .before in
     let at-match = c .before .before .before .before .before .before .before .before in
     rw (
       ← at-match .before .before .before .pre .0,
       ← is-found (at-match .before .find-in .ensures),
-      c .before .before .before .before .before .before .before .found .given .1,
+      at-found .found .given .1,
       ← c .before .before .before .serves-element .ensures,
       ← c .before .allowed .ensures,
       c .if2 .taken,
@@ -45,11 +46,12 @@ enum-told c = search needs
 
 returns-2 : tie.Need-returns-2
 returns-2 c =
+    let at-found = c .before .before .before .before .before .before .before in
     let at-match = c .before .before .before .before .before .before .before .before in
     rw (
       ← at-match .before .before .before .pre .0,
       ← is-found (at-match .before .find-in .ensures),
-      c .before .before .before .before .before .before .before .found .given .1,
+      at-found .found .given .1,
       ← c .before .before .before .serves-element .ensures,
       ← c .before .allowed .ensures,
       c .if2 .left,

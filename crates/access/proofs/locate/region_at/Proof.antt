@@ -47,8 +47,11 @@ add-top c = omega (arith, c .extent .ensures .1, c .before .before .shared-slice
 
 returns : tie.Need-returns Inv-loop μ-loop
 unfolding insideRegion
-returns c = let e = c .if1 .taken in (
-  sym (c .before .before .before .before .before .loop .inv .1 ∙ first-here (insideRegion (now (c .before .before .before .before .before .before .before .args .sizes)) (now (c .before .before .before .before .before .before .before .args .bases)) (c .before .before .before .before .before .before .before .args .address)) _ _ (c .before .before .before .before .loop-test .taken) (rw (c .before .extent .ensures .0) at e)),
+returns c =
+    let at-loop = c .before .before .before .before .before in
+    let at-args = at-loop .before .before in
+    let e = c .if1 .taken in (
+  sym (at-loop .loop .inv .1 ∙ first-here (insideRegion (now (at-args .args .sizes)) (now (at-args .args .bases)) (at-args .args .address)) _ _ (c .before .before .before .before .loop-test .taken) (rw (c .before .extent .ensures .0) at e)),
   λ h. near _ _ _ (c .before .extent .ensures .1) e,
 )
 
@@ -60,7 +63,10 @@ loop-less c = omega arith
 
 loop-again : tie.Need-loop-again Inv-loop μ-loop
 unfolding insideRegion
-loop-again c = (omega arith, c .before .before .before .before .before .loop .inv .1 ∙ first-next (insideRegion (now (c .before .before .before .before .before .before .before .args .sizes)) (now (c .before .before .before .before .before .before .before .args .bases)) (c .before .before .before .before .before .before .before .args .address)) _ _ (c .before .before .before .before .loop-test .taken) (rw (c .before .extent .ensures .0) at (c .if1 .left)))
+loop-again c =
+    let at-loop = c .before .before .before .before .before in
+    let at-args = at-loop .before .before in
+    (omega arith, at-loop .loop .inv .1 ∙ first-next (insideRegion (now (at-args .args .sizes)) (now (at-args .args .bases)) (at-args .args .address)) _ _ (c .before .before .before .before .loop-test .taken) (rw (c .before .extent .ensures .0) at (c .if1 .left)))
 
 returns-2 : tie.Need-returns-2 Inv-loop μ-loop
 returns-2 c = (sym (c .before .loop .inv .1 ∙ first-end (insideRegion (now (c .before .before .before .args .sizes)) (now (c .before .before .before .args .bases)) (c .before .before .before .args .address)) _ _ (c .loop-test .left)), λ h. absurd (omega arith))

@@ -1,3 +1,4 @@
+-- Each code from the operands and the result.
 use Rattle.alu.specs.Codes.{codesOf}
 use borrow.Author.Needs.{needs}
 use Rattle.alu.proofs.codes.codes_of.Statement.{statement}

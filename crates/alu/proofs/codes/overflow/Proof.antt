@@ -1,3 +1,4 @@
+-- Of sums and differences the formula of the three top bits; logic never overflows.
 use borrow.Author.Needs.{needs}
 use Rattle.alu.proofs.codes.overflow.Statement.{statement}
 use Rattle.alu.proofs.codes.overflow.Tie as tie

@@ -1,3 +1,4 @@
+-- The index is below 16, and the table is the definition's.
 use mathlib.Core.Path.{refl}
 use Rattle.alu.specs.Condition.{conditionOf}
 use borrow.Author.Needs.{needs}

@@ -1,3 +1,4 @@
+-- Each rule has its formula.
 use mathlib.Core.Bool.{xor}
 use borrow.Author.Needs.{needs}
 use Rattle.alu.proofs.condition.rule_holds.Statement.{statement}

@@ -1,3 +1,4 @@
+-- Each operation has its formula.
 use borrow.Author.Needs.{needs}
 use Rattle.alu.proofs.result.alu.Statement.{statement}
 use Rattle.alu.proofs.result.alu.Tie as tie

@@ -1,3 +1,4 @@
+-- Each shift has its operation, and the count is below 32.
 use borrow.Author.Needs.{needs}
 use Rattle.alu.proofs.result.shift.Statement.{statement}
 use Rattle.alu.proofs.result.shift.Tie as tie

@@ -1,3 +1,4 @@
+-- Each part of the field is read from its place among the field's sixteen bytes; lo and hi in excess form.
 use borrow.Author.Needs.{needs}
 use Rattle.bundle.specs.Layout.{fieldRead}
 use Rattle.bundle.proofs.building.field_read.Statement.{statement}

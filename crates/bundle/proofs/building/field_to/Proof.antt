@@ -1,3 +1,4 @@
+-- An add follows only an add that was accepted.
 use Rattle.v8.specs.Choice.{tests}
 use Rattle.bundle.specs.Bundle.{fieldTo}
 use Rattle.bundle.proofs.building.field_to.Statement.{statement}

@@ -1,3 +1,4 @@
+-- The fields of all regions are those before the region that does not exist any more.
 use borrow.Author.Needs.{needs}
 use Rattle.bundle.proofs.layout.field_total.Statement.{statement}
 use Rattle.bundle.proofs.layout.field_total.Tie as tie

@@ -1,3 +1,4 @@
+-- The byte that is read is the fourth of the field's sixteen.
 use borrow.Author.Needs.{needs}
 use Rattle.bundle.proofs.layout.field_zero.Statement.{statement}
 use Rattle.bundle.proofs.layout.field_zero.Tie as tie

@@ -1,3 +1,4 @@
+-- The byte that is read is the last of the region's four.
 use borrow.Author.Needs.{needs}
 use Rattle.bundle.proofs.layout.region_zero.Statement.{statement}
 use Rattle.bundle.proofs.layout.region_zero.Tie as tie

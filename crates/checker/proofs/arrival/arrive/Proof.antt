@@ -13,7 +13,9 @@ mul-misfit : tie.Need-mul-misfit
 mul-misfit c = search needs
 
 misfit-requires : tie.Need-misfit-requires
-misfit-requires c κs = rw (c .before .before .to .given .1) at (c .before .before .before .before .before .before .pre .1)
+misfit-requires c κs =
+    let at-pre = c .before .before .before .before .before .before in
+    rw (c .before .before .to .given .1) at (at-pre .pre .1)
 
 unless-fault-requires : tie.Need-unless-fault-requires
 unless-fault-requires c κs = search needs
@@ -34,7 +36,9 @@ accept-requires : tie.Need-accept-requires
 accept-requires c κs = search needs
 
 returns : tie.Need-returns
-returns c = rw (c .before .before .before .before .before .enum-told .given .1, ← c .before .before .before .before .read-entry .ensures, ← c .before .before .before .entry-at .ensures, ← c .before .before .fits2 .ensures, c .before .if1 .taken) (c .accept .ensures)
+returns c =
+    let at-enum-told = c .before .before .before .before .before in
+    rw (at-enum-told .enum-told .given .1, ← c .before .before .before .before .read-entry .ensures, ← c .before .before .before .entry-at .ensures, ← c .before .before .fits2 .ensures, c .before .if1 .taken) (c .accept .ensures)
 
 refuse-requires : tie.Need-refuse-requires
 refuse-requires c κs = search needs
@@ -43,7 +47,9 @@ returns-2 : tie.Need-returns-2
 returns-2 c = rw (c .before .before .before .before .to .given .1, ← c .before .misfit .ensures) (c .unless-fault .ensures)
 
 returns-3 : tie.Need-returns-3
-returns-3 c = rw (c .before .before .before .before .before .enum-told .given .1, ← c .before .before .before .before .read-entry .ensures, ← c .before .before .before .entry-at .ensures, ← c .before .before .fits2 .ensures, c .before .if1 .left) (c .refuse .ensures)
+returns-3 c =
+    let at-enum-told = c .before .before .before .before .before in
+    rw (at-enum-told .enum-told .given .1, ← c .before .before .before .before .read-entry .ensures, ← c .before .before .before .entry-at .ensures, ← c .before .before .fits2 .ensures, c .before .if1 .left) (c .refuse .ensures)
 
 pub arrive-spec : {M : Type 1} → statement M
 arrive-spec =

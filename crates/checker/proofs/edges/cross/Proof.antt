@@ -10,7 +10,9 @@ arrive-requires c κs = search needs
 
 returns : tie.Need-returns
 unfolding cross
-returns c = rw (not-true (c .before .before .before .before .before .args .e .slot) (c .before .if1 .taken)) (c .arrive .ensures)
+returns c =
+    let at-args = c .before .before .before .before .before in
+    rw (not-true (at-args .args .e .slot) (c .before .if1 .taken)) (c .arrive .ensures)
 
 change-by-requires : tie.Need-change-by-requires
 change-by-requires c κs = search needs
@@ -41,15 +43,25 @@ refuse-requires c κs = search needs
 
 returns-2 : tie.Need-returns-2
 unfolding cross
-returns-2 c = rw (not-false (c .before .before .before .before .before .before .before .before .before .before .args .e .slot) (c .before .before .before .before .before .before .if1 .left), ← c .before .before .before .before .before .change-by .ensures, c .before .before .before .register .given .1, ← c .before .row-with .ensures) (c .arrive2 .ensures)
+returns-2 c =
+    let at-change-by = c .before .before .before .before .before in
+    let at-if1 = at-change-by .before in
+    let at-args = at-if1 .before .before .before .before in
+    rw (not-false (at-args .args .e .slot) (at-if1 .if1 .left), ← at-change-by .change-by .ensures, c .before .before .before .register .given .1, ← c .before .row-with .ensures) (c .arrive2 .ensures)
 
 returns-3 : tie.Need-returns-3
 unfolding cross
-returns-3 c = rw (not-false (c .before .before .before .before .before .before .before .before .args .e .slot) (c .before .before .before .before .if1 .left), ← c .before .before .before .change-by .ensures, c .before .enum-told .given .1) (c .arrive3 .ensures)
+returns-3 c =
+    let at-args = c .before .before .before .before .before .before .before .before in
+    rw (not-false (at-args .args .e .slot) (c .before .before .before .before .if1 .left), ← c .before .before .before .change-by .ensures, c .before .enum-told .given .1) (c .arrive3 .ensures)
 
 returns-4 : tie.Need-returns-4
 unfolding cross
-returns-4 c = rw (not-false (c .before .before .before .before .before .before .before .before .before .before .args .e .slot) (c .before .before .before .before .before .before .if1 .left), ← c .before .before .before .before .before .change-by .ensures, c .before .before .before .number .given .1) (c .refuse .ensures)
+returns-4 c =
+    let at-change-by = c .before .before .before .before .before in
+    let at-if1 = at-change-by .before in
+    let at-args = at-if1 .before .before .before .before in
+    rw (not-false (at-args .args .e .slot) (at-if1 .if1 .left), ← at-change-by .change-by .ensures, c .before .before .before .number .given .1) (c .refuse .ensures)
 
 pub cross-spec : {M : Type 1} → statement M
 cross-spec =

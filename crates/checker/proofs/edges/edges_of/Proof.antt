@@ -90,27 +90,31 @@ narrows-requires c κs = search needs
 
 arrive-requires : tie.Need-arrive-requires
 arrive-requires c κs =
+    let at-edge-of2 = c .before .before .before .before .before in
     let s = c .before .before .before .before .before .before .before .before .before .before in
-    (s .pre .1, lies s false (c .before .before .before .before .before .edge-of2 .result) (c .before .before .before .before .before .edge-of2 .ensures) (not-false _ (c .before .before .before .if3 .left)))
+    (s .pre .1, lies s false (at-edge-of2 .edge-of2 .result) (at-edge-of2 .edge-of2 .ensures) (not-false _ (c .before .before .before .if3 .left)))
 
 returns-3 : tie.Need-returns-3
 returns-3 c =
+    let at-edge-of2 = c .before .before .before .before .before .before in
     let s = c .before .before .before .before .before .before .before .before .before .before .before in
-    let e = c .before .before .before .before .before .before .edge-of2 .result in
+    let e = at-edge-of2 .edge-of2 .result in
     let t = and-went (not (e .slot)) (not (c .before .before .narrows .result)) (c .before .if4 .taken) in
     let none = sym (c .before .before .narrows .ensures) ∙ not-true (c .before .before .narrows .result) (t .1) in
     c .arrive .ensures ∙ straight (s .args .policy) (now (s .args .rows)) (now (s .args .result)) (s .args .at .0) (s .args .x) e (s .args .row) (not-true (e .slot) (t .0)) none
-    ∙ there (along s) _ _ (c .before .before .before .before .before .before .edge-of2 .ensures) (not-false _ (c .before .before .before .before .if3 .left)) ∙ sym (rest (c .before .before .before .before .before .before .before))
+    ∙ there (along s) _ _ (at-edge-of2 .edge-of2 .ensures) (not-false _ (c .before .before .before .before .if3 .left)) ∙ sym (rest (c .before .before .before .before .before .before .before))
 
 narrowed-edge-requires-2 : tie.Need-narrowed-edge-requires-2
 narrowed-edge-requires-2 c κs =
+    let at-edge-of2 = c .before .before .before .before .before in
     let s = c .before .before .before .before .before .before .before .before .before .before in
-    (s .pre .0, s .pre .1, lies s false (c .before .before .before .before .before .edge-of2 .result) (c .before .before .before .before .before .edge-of2 .ensures) (not-false _ (c .before .before .before .if3 .left)))
+    (s .pre .0, s .pre .1, lies s false (at-edge-of2 .edge-of2 .result) (at-edge-of2 .edge-of2 .ensures) (not-false _ (c .before .before .before .if3 .left)))
 
 returns-4 : tie.Need-returns-4
 returns-4 c =
+    let at-edge-of2 = c .before .before .before .before .before .before in
     let s = c .before .before .before .before .before .before .before .before .before .before .before in
-    c .narrowed-edge2 .ensures ∙ there (along s) _ _ (c .before .before .before .before .before .before .edge-of2 .ensures) (not-false _ (c .before .before .before .before .if3 .left)) ∙ sym (rest (c .before .before .before .before .before .before .before))
+    c .narrowed-edge2 .ensures ∙ there (along s) _ _ (at-edge-of2 .edge-of2 .ensures) (not-false _ (c .before .before .before .before .if3 .left)) ∙ sym (rest (c .before .before .before .before .before .before .before))
 
 pub edges-of-spec : {M : Type 1} → statement M
 edges-of-spec =

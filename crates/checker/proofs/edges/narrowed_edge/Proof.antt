@@ -25,7 +25,12 @@ cross-requires c κs = search needs
 
 returns : tie.Need-returns
 unfolding narrowedEdge narrowRow
-returns c = rw (← c .before .before .before .before .before .before .before .before .before .narrows .ensures, c .before .before .before .before .before .before .before .if1 .taken, ← c .before .before .before .before .before .before .entry-at .ensures, ← c .before .before .before .before .before .narrow-entry .ensures, c .before .before .before .entry .given .1, ← c .before .row-with .ensures) (c .cross .ensures)
+returns c =
+    let at-narrow-entry = c .before .before .before .before .before in
+    let at-entry-at = at-narrow-entry .before in
+    let at-if1 = at-entry-at .before in
+    let at-narrows = at-if1 .before .before in
+    rw (← at-narrows .narrows .ensures, at-if1 .if1 .taken, ← at-entry-at .entry-at .ensures, ← at-narrow-entry .narrow-entry .ensures, c .before .before .before .entry .given .1, ← c .before .row-with .ensures) (c .cross .ensures)
 
 enum-told : tie.Need-enum-told
 enum-told c = search needs
@@ -35,7 +40,10 @@ accept-requires c κs = search needs
 
 returns-2 : tie.Need-returns-2
 unfolding narrowedEdge narrowRow
-returns-2 c = rw (← c .before .before .before .before .before .before .before .narrows .ensures, c .before .before .before .before .before .if1 .taken, ← c .before .before .before .before .entry-at .ensures, ← c .before .before .before .narrow-entry .ensures, c .before .enum-told .given .1) (c .accept .ensures)
+returns-2 c =
+    let at-if1 = c .before .before .before .before .before in
+    let at-narrows = at-if1 .before .before in
+    rw (← at-narrows .narrows .ensures, at-if1 .if1 .taken, ← c .before .before .before .before .entry-at .ensures, ← c .before .before .before .narrow-entry .ensures, c .before .enum-told .given .1) (c .accept .ensures)
 
 cross-requires-2 : tie.Need-cross-requires-2
 cross-requires-2 c κs = search needs

@@ -23,10 +23,14 @@ enum-told : tie.Need-enum-told
 enum-told c = search needs
 
 returns-2 : tie.Need-returns-2
-returns-2 c = rw (not-false (c .before .before .before .before .before .before .before .args .e .exists) (c .before .before .before .before .if1 .left), c .before .before .to .given .1) (c .lands-at .ensures)
+returns-2 c =
+    let at-args = c .before .before .before .before .before .before .before in
+    rw (not-false (at-args .args .e .exists) (c .before .before .before .before .if1 .left), c .before .before .to .given .1) (c .lands-at .ensures)
 
 returns-3 : tie.Need-returns-3
-returns-3 c = rw (not-false (c .before .before .before .before .before .args .e .exists) (c .before .before .if1 .left), c .enum-told .given .1) (same (c .before .before .before .before .before .args .taken))
+returns-3 c =
+    let at-args = c .before .before .before .before .before in
+    rw (not-false (at-args .args .e .exists) (c .before .before .if1 .left), c .enum-told .given .1) (same (at-args .args .taken))
 
 pub lands-spec : {M : Type 1} → statement M
 lands-spec =

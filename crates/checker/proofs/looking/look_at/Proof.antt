@@ -37,7 +37,9 @@ refuse-requires : tie.Need-refuse-requires
 refuse-requires c κs = search needs
 
 returns : tie.Need-returns
-returns c = rw (← c .before .before .before .before .before .row-at .ensures, ← c .before .before .before .before .change-of .ensures, c .before .before .number .given .1) (c .refuse .ensures)
+returns c =
+    let at-row-at = c .before .before .before .before .before in
+    rw (← at-row-at .row-at .ensures, ← c .before .before .before .before .change-of .ensures, c .before .before .number .given .1) (c .refuse .ensures)
 
 edges-of-requires : tie.Need-edges-of-requires
 edges-of-requires c κs = search needs

@@ -25,10 +25,14 @@ refuse-requires : tie.Need-refuse-requires
 refuse-requires c κs = search needs
 
 returns-2 : tie.Need-returns-2
-returns-2 c = rw (not-false (c .before .before .before .before .before .before .before .args .examined) (c .before .before .before .before .if1 .left), c .before .before .x .given .1) (c .look-at .ensures)
+returns-2 c =
+    let at-args = c .before .before .before .before .before .before .before in
+    rw (not-false (at-args .args .examined) (c .before .before .before .before .if1 .left), c .before .before .x .given .1) (c .look-at .ensures)
 
 returns-3 : tie.Need-returns-3
-returns-3 c = rw (not-false (c .before .before .before .before .before .before .before .args .examined) (c .before .before .before .before .if1 .left), c .before .before .x2 .given .1) (c .refuse .ensures)
+returns-3 c =
+    let at-args = c .before .before .before .before .before .before .before in
+    rw (not-false (at-args .args .examined) (c .before .before .before .before .if1 .left), c .before .before .x2 .given .1) (c .refuse .ensures)
 
 pub word-in-spec : {M : Type 1} → statement M
 word-in-spec =

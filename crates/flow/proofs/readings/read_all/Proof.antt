@@ -41,10 +41,11 @@ loop-less c = search needs
 
 loop-again : tie.Need-loop-again Inv-loop μ-loop
 loop-again c =
+    let at-args = c .before .before .before .before .before in
     let l = c .before .before .before .loop in
-    let words = c .before .before .before .before .before .args .words .now in
+    let words = at-args .args .words .now in
     let more = c .before .before .loop-test .taken in
-    let most : l .i < length (l .readings) = omega (arith, l .inv .1, more, c .before .before .before .before .before .pre) in
+    let most : l .i < length (l .readings) = omega (arith, l .inv .1, more, at-args .pre) in
     let x = c .read-word .result in
     (omega arith, length-set (l .readings) (l .i) x ∙ l .inv .1, one-filled words (l .readings) (l .i) x (l .inv .2) most more (c .read-word .ensures .0))
 

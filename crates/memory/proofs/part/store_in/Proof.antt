@@ -31,7 +31,9 @@ same-length : tie.Need-same-length
 same-length c = search needs
 
 returns : tie.Need-returns
-returns c = let a = c .before .before .before .before .before .before .args in
+returns c =
+    let at-args = c .before .before .before .before .before .before in
+    let a = at-args .args in
     let k : ℕ = a .start + a .size - a .start in
     ap (putMid (a .start) k (a .memory .now)) (c .before .before .store .ensures)
     ∙ store-in-part (a .start) k (a .op) (a .v) (a .at .0) (a .memory .now) (omega arith)

@@ -1,3 +1,4 @@
+-- The text up to the next place is the text before with the byte after it.
 use mathlib.Core.Path.{refl}
 use Rattle.output.proofs.Pushed.{pushed}
 use borrow.Author.Needs.{needs}

@@ -41,7 +41,9 @@ loop-less : tie.Need-loop-less Inv-loop μ-loop
 loop-less c = search needs
 
 loop-again : tie.Need-loop-again Inv-loop μ-loop
-loop-again c = let a = c .before .before .before .before .before .args in (
+loop-again c =
+    let at-args = c .before .before .before .before .before in
+    let a = at-args .args in (
   search needs,
   search needs,
   search needs,

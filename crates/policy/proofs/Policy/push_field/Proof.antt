@@ -22,7 +22,9 @@ below-8 c = omega (arith, regions-at-most _ (c .before .pre), c .if1 .left)
 
 -- with room in the region, the next field has a place
 place-below : (c : tie.Else3) → placeOf (c .before .before .before .before .before .before .before .before .before .before .before .before .args .region) (countOf (c .before .before .before .before .before .before .before .before .before .before .before .before .args .t1) (c .before .before .before .before .before .before .before .before .before .before .before .before .args .region)) < 128
-place-below c = omega (arith, below-8 (c .before .before .before .before .before .before .before .before .before .before .before), c .before .before .before .before .before .before .before .before .if2 .left)
+place-below c =
+    let at-if2 = c .before .before .before .before .before .before .before .before in
+    omega (arith, below-8 (c .before .before .before .before .before .before .before .before .before .before .before), at-if2 .if2 .left)
 
 -- what the add gives where every test passes
 accepts : (p : Policy) (r : ℕ) (f : Field) → policyOk p ≡ true → leb (p .regions .count) r ≡ false → leb 16 (countOf p r) ≡ false
@@ -58,10 +60,14 @@ field-follows-requires c κs = search needs
 
 returns-3 : tie.Need-returns-3
 unfolding built fieldNumber fieldFits endBefore
-returns-3 c = simp (
-  c .before .before .before .before .before .before .before .before .before .before .before .before .pre,
-  lt-leb _ _ (c .before .before .before .before .before .before .before .before .before .before .before .if1 .left),
-  lt-leb _ _ (c .before .before .before .before .before .before .before .before .if2 .left),
+returns-3 c =
+    let at-if2 = c .before .before .before .before .before .before .before .before in
+    let at-if1 = at-if2 .before .before .before in
+    let at-pre = at-if1 .before in
+    simp (
+  at-pre .pre,
+  lt-leb _ _ (at-if1 .if1 .left),
+  lt-leb _ _ (at-if2 .if2 .left),
   ← c .before .before .before .end-before .ensures,
   sym (c .before .field-follows .ensures) ∙ not-true _ (c .if3 .taken),
 )
@@ -97,7 +103,9 @@ put-word-requires-3 : tie.Need-put-word-requires-3
 put-word-requires-3 c κs = place-below (c .before .before .before .before .before .before .before .before .before .before .before .before .before)
 
 add-regions : tie.Need-add-regions
-add-regions c = record { fits = omega (arith, c .before .before .before .before .before .before .before .before .before .before .before .before .before .before .before .before .before .before .before .before .before .before .if2 .left) }
+add-regions c =
+    let at-if2 = c .before .before .before .before .before .before .before .before .before .before .before .before .before .before .before .before .before .before .before .before .before .before in
+    record { fits = omega (arith, at-if2 .if2 .left) }
 
 element-write-regions : tie.Need-element-write-regions
 element-write-regions c = below-8 (c .before .before .before .before .before .before .before .before .before .before .before .before .before .before .before .before .before .before .before .before .before .before .before .before .before)
@@ -105,6 +113,10 @@ element-write-regions c = below-8 (c .before .before .before .before .before .be
 returns-4 : tie.Need-returns-4
 unfolding endBefore
 returns-4 c =
+    let at-put-half = c .before .before .before .before .before .before in
+    let at-put-word = at-put-half .before .before in
+    let at-put-byte2 = at-put-word .before .before in
+    let at-put-byte = at-put-byte2 .before .before in
     let accepted = c .before .before .before .before .before .before .before .before .before .before .before .before .before .before in
     let room = accepted .before .before .before .before .before .before .before .before in
     let there = room .before .before .before in
@@ -112,10 +124,10 @@ returns-4 c =
       c .put-word3 .ensures,
       c .before .before .put-word2 .ensures,
       c .before .before .before .before .put-byte3 .ensures,
-      c .before .before .before .before .before .before .put-half .ensures,
-      c .before .before .before .before .before .before .before .before .put-word .ensures,
-      c .before .before .before .before .before .before .before .before .before .before .put-byte2 .ensures,
-      c .before .before .before .before .before .before .before .before .before .before .before .before .put-byte .ensures,
+      at-put-half .put-half .ensures,
+      at-put-word .put-word .ensures,
+      at-put-byte2 .put-byte2 .ensures,
+      at-put-byte .put-byte .ensures,
     )
     (sym (accepts _ _ _ (there .before .pre) (lt-leb _ _ (there .if1 .left)) (lt-leb _ _ (room .if2 .left))
     (rw (← accepted .before .before .before .end-before .ensures) (sym (accepted .before .field-follows .ensures) ∙ not-false _ (accepted .if3 .left)))))

@@ -34,7 +34,9 @@ add-regions c = search needs
 
 returns-3 : tie.Need-returns-3
 unfolding built regionNumber
-returns-3 c = simp (c .before .before .before .before .before .pre, lt-leb _ _ (c .before .before .before .if1 .left), sym (c .before .before .size-ok .ensures) ∙ not-false _ (c .before .if2 .left))
+returns-3 c =
+    let at-pre = c .before .before .before .before .before in
+    simp (at-pre .pre, lt-leb _ _ (c .before .before .before .if1 .left), sym (c .before .before .size-ok .ensures) ∙ not-false _ (c .before .if2 .left))
 
 pub push-region-spec : {M : Type 1} → statement M
 push-region-spec =

@@ -33,8 +33,9 @@ region-ok-requires c κs = search needs
 returns-2 : tie.Need-returns-2 Inv-loop μ-loop
 unfolding policyOk
 returns-2 c =
+    let at-args = c .before .before .before .before .before .before in
     simp (
-      all-not (regionOk (c .before .before .before .before .before .before .args .self)) _ _ (c .before .before .loop-test .taken) (sym (c .before .region-ok .ensures) ∙ not-true _ (c .if2 .taken)),
+      all-not (regionOk (at-args .args .self)) _ _ (c .before .before .loop-test .taken) (sym (c .before .region-ok .ensures) ∙ not-true _ (c .if2 .taken)),
       and-false,
     )
 

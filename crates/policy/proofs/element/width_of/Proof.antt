@@ -1,3 +1,4 @@
+-- A number below 8 has its width in the table, which lies from 1 to 4; any other is taken for one byte wide.
 use native.Mathlib.Omega.{arith}
 use borrow.Author.Tests.{lt-ltb}
 use borrow.Author.Needs.{needs}

@@ -1,3 +1,4 @@
+-- The sum and the product stay below 2^64, so that they are those of the definition.
 use native.Mathlib.Omega.{arith}
 use native.Mathlib.Nat.{mul-le-mul-right}
 use borrow.Author.Needs.{needs}

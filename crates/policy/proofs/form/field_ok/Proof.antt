@@ -1,3 +1,4 @@
+-- The tests are those of the definition; the width that divides is at least 1.
 use borrow.Author.Needs.{needs}
 use Rattle.policy.specs.Policy.{fieldOk}
 use Rattle.policy.proofs.form.field_ok.Statement.{statement}

@@ -59,9 +59,13 @@ field-follows-requires c κs = search needs
 
 returns-3 : tie.Need-returns-3 Inv-loop μ-loop
 unfolding regionOk fieldAt
-returns-3 c = let a = c .before .before .before .before .before .before .before .before .before .before .before .before .before .before .before .before .before .before .before .args in
-    let e = sym (follows-is (a .t1) (a .r) (c .before .before .before .before .before .before .before .before .before .before .before .before .loop .k) _ _ (c .before .before .field-in .ensures) (c .before .before .before .before .before .before .before .before .before .before .before .before .loop .inv .2)) ∙ sym (c .before .field-follows .ensures) ∙ not-true _ (c .if3 .taken) in
-    simp (all-not (fieldAtOk (a .t1) (a .r)) _ _ (c .before .before .before .before .before .before .before .before .before .before .before .loop-test .taken) e, and-false)
+returns-3 c =
+    let at-loop-test = c .before .before .before .before .before .before .before .before .before .before .before in
+    let at-loop = at-loop-test .before in
+    let at-args = at-loop .before .before .before .before .before .before .before in
+    let a = at-args .args in
+    let e = sym (follows-is (a .t1) (a .r) (at-loop .loop .k) _ _ (c .before .before .field-in .ensures) (at-loop .loop .inv .2)) ∙ sym (c .before .field-follows .ensures) ∙ not-true _ (c .if3 .taken) in
+    simp (all-not (fieldAtOk (a .t1) (a .r)) _ _ (at-loop-test .loop-test .taken) e, and-false)
 
 elements-end-requires : tie.Need-elements-end-requires Inv-loop μ-loop
 elements-end-requires c κs = search needs
@@ -74,11 +78,15 @@ loop-less c = search needs
 
 loop-again : tie.Need-loop-again Inv-loop μ-loop
 unfolding fieldAt
-loop-again c = let a = c .before .before .before .before .before .before .before .before .before .before .before .before .before .before .before .before .before .before .before .before .args in
-    let e = sym (follows-is (a .t1) (a .r) (c .before .before .before .before .before .before .before .before .before .before .before .before .before .loop .k) _ _ (c .before .before .before .field-in .ensures) (c .before .before .before .before .before .before .before .before .before .before .before .before .before .loop .inv .2)) ∙ sym (c .before .before .field-follows .ensures) ∙ not-false _ (c .before .if3 .left) in (
-      omega arith,
-      all-more _ _ (c .before .before .before .before .before .before .before .before .before .before .before .before .before .loop .inv .1) e,
-      end-next (a .t1) (a .r) (c .before .before .before .before .before .before .before .before .before .before .before .before .before .loop .k) _ _ (c .before .before .before .field-in .ensures) (c .elements-end .ensures),
+loop-again c =
+    let at-loop-test = c .before .before .before .before .before .before .before .before .before .before .before .before in
+    let at-loop = at-loop-test .before in
+    let at-args = at-loop .before .before .before .before .before .before .before in
+    let a = at-args .args in
+    let e = sym (follows-is (a .t1) (a .r) (at-loop .loop .k) _ _ (c .before .before .before .field-in .ensures) (at-loop .loop .inv .2)) ∙ sym (c .before .before .field-follows .ensures) ∙ not-false _ (c .before .if3 .left) in (
+      omega (arith, at-loop-test .loop-test .taken),
+      all-more _ _ (at-loop .loop .inv .1) e,
+      end-next (a .t1) (a .r) (at-loop .loop .k) _ _ (c .before .before .before .field-in .ensures) (c .elements-end .ensures),
     )
 
 returns-4 : tie.Need-returns-4 Inv-loop μ-loop

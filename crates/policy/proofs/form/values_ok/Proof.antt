@@ -1,3 +1,4 @@
+-- An element below 6 is looked up in the tables of least and greatest numbers; the others name a region.
 use borrow.Author.Tests.{lt-ltb}
 use borrow.Author.Needs.{needs}
 use Rattle.v8.specs.Choice.{tests}

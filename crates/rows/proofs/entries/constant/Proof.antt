@@ -1,3 +1,4 @@
+-- The set is the word's excess form alone.
 use borrow.Author.Needs.{needs}
 use Rattle.rows.proofs.entries.constant.Statement.{statement}
 use Rattle.rows.proofs.entries.constant.Tie as tie

@@ -21,7 +21,9 @@ add-result : tie.Need-add-result
 add-result c = search needs
 
 returns-2 : tie.Need-returns-2
-returns-2 c = rw (c .before .before .before .set-ok2 .ensures, c .before .before .before .before .size-in .ensures .0) (sym (ok-address _ _ _ (c .before .before .before .before .before .if2 .taken)))
+returns-2 c =
+    let at-if2 = c .before .before .before .before .before in
+    rw (c .before .before .before .set-ok2 .ensures, c .before .before .before .before .size-in .ensures .0) (sym (ok-address _ _ _ (at-if2 .if2 .taken)))
 
 is-blank-requires : tie.Need-is-blank-requires
 is-blank-requires c κs = search needs

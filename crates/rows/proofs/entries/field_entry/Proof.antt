@@ -1,3 +1,4 @@
+-- The elements below 6 hold numbers, 6 a region's start, the last that or null.
 use borrow.Author.Needs.{needs}
 use Rattle.v8.specs.Choice.{tests}
 use Rattle.rows.specs.Entry.{fieldEntry}

@@ -1,3 +1,4 @@
+-- The tests are those of the definition.
 use borrow.Author.Needs.{needs}
 use Rattle.rows.proofs.entries.is_region_start.Statement.{statement}
 use Rattle.rows.proofs.entries.is_region_start.Tie as tie

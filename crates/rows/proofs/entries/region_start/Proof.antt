@@ -1,3 +1,4 @@
+-- The offsets are 0 alone.
 use borrow.Author.Needs.{needs}
 use Rattle.rows.proofs.entries.region_start.Statement.{statement}
 use Rattle.rows.proofs.entries.region_start.Tie as tie

@@ -1,3 +1,4 @@
+-- A region below 8 has its size in the array; there is no other.
 use native.Mathlib.Omega.{arith}
 use borrow.Author.Needs.{needs}
 use borrow.Author.Tests.{lt-ltb}

@@ -1,3 +1,4 @@
+-- The tests are those of the definition.
 use mathlib.Core.Path.{refl}
 use Rattle.rows.specs.Entry.{fitsNote}
 use Rattle.rows.proofs.notes.fits_note.Statement.{statement}

@@ -1,3 +1,4 @@
+-- The entry's bytes lie in the slice; its zero byte and its form are tested.
 use borrow.Author.Needs.{needs}
 use Rattle.rows.proofs.reading.entry_formed.Statement.{statement}
 use Rattle.rows.proofs.reading.entry_formed.Tie as tie

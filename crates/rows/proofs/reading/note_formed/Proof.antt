@@ -1,3 +1,4 @@
+-- The note's bytes lie in the slice; its two zero bytes and its form are tested.
 use borrow.Author.Needs.{needs}
 use Rattle.rows.proofs.reading.note_formed.Statement.{statement}
 use Rattle.rows.proofs.reading.note_formed.Tie as tie

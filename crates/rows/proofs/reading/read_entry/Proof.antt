@@ -1,3 +1,4 @@
+-- Each part is read from its place among the entry's twelve bytes; lo and hi in excess form.
 use borrow.Author.Needs.{needs}
 use Rattle.rows.specs.Row.{entryOf}
 use Rattle.rows.proofs.reading.read_entry.Statement.{statement}

@@ -1,3 +1,4 @@
+-- Each part is read from its place among the note's eight bytes; the number in excess form.
 use borrow.Author.Needs.{needs}
 use Rattle.rows.specs.Row.{noteOf}
 use Rattle.rows.proofs.reading.read_note.Statement.{statement}

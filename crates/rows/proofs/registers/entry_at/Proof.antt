@@ -1,3 +1,4 @@
+-- An index below the entries' count is looked up; any other has no entry.
 use borrow.Author.Needs.{needs}
 use Rattle.v8.specs.Choice.{tests}
 use Rattle.rows.specs.Row.{entryAt}

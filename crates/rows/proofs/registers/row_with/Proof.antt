@@ -1,3 +1,4 @@
+-- r0 and numbers that name no entry keep the entries; any other has its entry set.
 use borrow.Author.Needs.{needs}
 use Rattle.v8.specs.Choice.{tests}
 use Rattle.rows.specs.Row.{entriesWith}

@@ -33,8 +33,9 @@ enum-known-place c = search needs
 
 field-in-requires : tie.Need-field-in-requires
 field-in-requires c κs =
+    let at-place = c .before .before .before .before .before .before .before .before .before in
     let reach = c .before .before .before .before .before .before .before .before .before .before .before in
-    placed _ _ _ _ _ _ _ _ (sym (reach .reach-of .ensures) ∙ c .before .before .before .before .before .before .before .before .before .place .given .1)
+    placed _ _ _ _ _ _ _ _ (sym (reach .reach-of .ensures) ∙ at-place .place .given .1)
 
 field-entry-requires : tie.Need-field-entry-requires
 field-entry-requires c κs = search needs

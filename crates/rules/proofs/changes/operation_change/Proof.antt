@@ -52,13 +52,17 @@ returns : tie.Need-returns
 returns c = rw (c .before .before .before .before .x .given .1, c .note-after .ensures, c .before .constant .ensures, c .before .before .sethi .ensures)
 
 returns-2 : tie.Need-returns-2
-returns-2 c = rw (c .before .before .before .before .before .x2 .given .1, ← c .before .before .before .operands-of .ensures) (c .alu-change .ensures)
+returns-2 c =
+    let at-x2 = c .before .before .before .before .before in
+    rw (at-x2 .x2 .given .1, ← c .before .before .before .operands-of .ensures) (c .alu-change .ensures)
 
 returns-3 : tie.Need-returns-3
 returns-3 c = rw (c .before .before .before .x3 .given .1, ← c .before .operands-of2 .ensures) (c .shift-change .ensures)
 
 returns-4 : tie.Need-returns-4
-returns-4 c = rw (c .before .before .before .before .before .x4 .given .1, ← c .before .entry-at .ensures, ← c .before .before .before .addend-of .ensures, ← c .before .before .operands-of3 .ensures) (c .access-change .ensures)
+returns-4 c =
+    let at-x4 = c .before .before .before .before .before in
+    rw (at-x4 .x4 .given .1, ← c .before .entry-at .ensures, ← c .before .before .before .addend-of .ensures, ← c .before .before .operands-of3 .ensures) (c .access-change .ensures)
 
 pub operation-change-spec : {M : Type 1} → statement M
 operation-change-spec =

@@ -22,7 +22,9 @@ offsets-give-requires-2 c κs = search needs
 
 returns-2 : tie.Need-returns-2
 unfolding addressSum
-returns-2 c = rw (c .before .before .before .before .before .if1 .left, c .before .before .if2 .taken, ← c .before .add-sets2 .ensures) (c .offsets-give2 .ensures)
+returns-2 c =
+    let at-if1 = c .before .before .before .before .before in
+    rw (at-if1 .if1 .left, c .before .before .if2 .taken, ← c .before .add-sets2 .ensures) (c .offsets-give2 .ensures)
 
 returns-3 : tie.Need-returns-3
 unfolding addressSum

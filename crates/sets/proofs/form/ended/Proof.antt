@@ -1,3 +1,4 @@
+-- With equal ends the set is the single number.
 use Rattle.v8.specs.Choice.{tests}
 use Rattle.sets.specs.Sets.{ended}
 use borrow.Author.Needs.{needs}

@@ -1,3 +1,4 @@
+-- The tests are those of the definition; the remainder is taken of a difference that is not negative where the first test passes.
 use Rattle.sets.specs.Sets.{fitsSet}
 use borrow.Author.Needs.{needs}
 use Rattle.sets.proofs.form.fits_set.Statement.{statement}

@@ -1,3 +1,4 @@
+-- The tests are those of the definition; the remainder is taken of a difference that is not negative where the order is right.
 use Rattle.sets.specs.Sets.{setOk}
 use borrow.Author.Needs.{needs}
 use Rattle.sets.proofs.form.set_ok.Statement.{statement}

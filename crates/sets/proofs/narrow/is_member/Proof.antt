@@ -1,3 +1,4 @@
+-- The difference to lo is on the step; below lo it counts as 0, and the first test fails.
 use Rattle.sets.specs.Narrow.{isMember}
 use borrow.Author.Needs.{needs}
 use Rattle.sets.proofs.narrow.is_member.Statement.{statement}

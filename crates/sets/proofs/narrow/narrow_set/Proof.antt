@@ -1,3 +1,4 @@
+-- Each class has its function.
 use borrow.Author.Needs.{needs}
 use Rattle.sets.proofs.narrow.narrow_set.Statement.{statement}
 use Rattle.sets.proofs.narrow.narrow_set.Tie as tie

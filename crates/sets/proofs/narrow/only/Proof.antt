@@ -1,3 +1,4 @@
+-- The number alone is left where it is a member.
 use Rattle.sets.specs.Narrow.{only}
 use borrow.Author.Needs.{needs}
 use Rattle.sets.proofs.narrow.only.Statement.{statement}

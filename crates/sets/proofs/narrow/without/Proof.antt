@@ -1,3 +1,4 @@
+-- A dropped end leaves the members above it or below it; a number that is no end leaves all.
 use Rattle.v8.specs.Choice.{tests}
 use Rattle.sets.specs.Narrow.{without}
 use borrow.Author.Needs.{needs}

@@ -1,3 +1,4 @@
+-- By 0 the remainder is the number itself, as the definition's is.
 use native.Mathlib.Nat.{mod-zero}
 use borrow.Author.Needs.{needs}
 use Rattle.sets.proofs.natural.remainder.Statement.{statement}

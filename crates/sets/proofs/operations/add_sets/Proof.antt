@@ -1,3 +1,4 @@
+-- The ends' sums stay below 2^64.
 use Rattle.sets.specs.Rules.{addSets}
 use borrow.Author.Needs.{needs}
 use Rattle.sets.proofs.operations.add_sets.Statement.{statement}

@@ -1,3 +1,4 @@
+-- Each operation has its rule; logic but for AND gives the full set.
 use borrow.Author.Needs.{needs}
 use Rattle.sets.proofs.operations.alu_sets.Statement.{statement}
 use Rattle.sets.proofs.operations.alu_sets.Tie as tie

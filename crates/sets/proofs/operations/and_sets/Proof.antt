@@ -1,3 +1,4 @@
+-- Which of the two operands is never negative decides the greatest member.
 use Rattle.v8.specs.Choice.{tests}
 use Rattle.sets.specs.Rules.{andSets}
 use borrow.Author.Needs.{needs}

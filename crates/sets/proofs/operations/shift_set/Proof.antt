@@ -1,3 +1,4 @@
+-- Each shift has its rule, and the count is below 32.
 use borrow.Author.Needs.{needs}
 use Rattle.sets.proofs.operations.shift_set.Statement.{statement}
 use Rattle.sets.proofs.operations.shift_set.Tie as tie

@@ -1,3 +1,4 @@
+-- Both ends and the step are multiplied, and the ends tested.
 use Rattle.sets.specs.Rules.{sllSet}
 use borrow.Author.Needs.{needs}
 use Rattle.sets.proofs.operations.sll_set.Statement.{statement}

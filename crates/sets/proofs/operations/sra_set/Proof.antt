@@ -1,3 +1,4 @@
+-- Both ends are divided.
 use Rattle.sets.specs.Rules.{sraSet}
 use borrow.Author.Needs.{needs}
 use Rattle.sets.proofs.operations.sra_set.Statement.{statement}

@@ -1,3 +1,4 @@
+-- The ends' differences, with 2^32 added, stay below 2^64 and not below 0.
 use Rattle.sets.specs.Rules.{subSets}
 use borrow.Author.Needs.{needs}
 use Rattle.sets.proofs.operations.sub_sets.Statement.{statement}

@@ -1,3 +1,4 @@
+-- Each end is tested against both bounds; past the tests, what is taken off leaves 32 bits.
 use Rattle.v8.specs.Choice.{tests}
 use Rattle.sets.specs.Rules.{within}
 use borrow.Author.Needs.{needs}

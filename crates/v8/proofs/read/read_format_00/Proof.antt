@@ -32,7 +32,9 @@ returns c = rw (← c .before .before .before .op2-of .ensures) (simp (c .before
 
 returns-2 : tie.Need-returns-2
 unfolding format00
-returns-2 c = rw (← c .before .before .before .before .before .op2-of .ensures) (simp (c .before .before .before .before .match .keys2) (cc))
+returns-2 c =
+    let at-op2-of = c .before .before .before .before .before in
+    rw (← at-op2-of .op2-of .ensures) (simp (c .before .before .before .before .match .keys2) (cc))
 
 returns-3 : tie.Need-returns-3
 unfolding format00

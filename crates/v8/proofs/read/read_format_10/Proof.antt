@@ -55,15 +55,20 @@ returns-5 c = rw (← c .before .before .op3-of .ensures) (simp (c .before .matc
 
 returns-6 : tie.Need-returns-6
 unfolding format10
-returns-6 c = let w = c .before .before .before .before .before .args .w in
+returns-6 c =
+    let at-args = c .before .before .before .before .before in
+    let w = at-args .args .w in
     simp (le-leb (op3Of w) 7 (omega arith))
     (rw (← c .before .before .before .before .op3-of .ensures, ← c .before .alu-op .ensures) (c .read-alu .ensures))
 
 returns-7 : tie.Need-returns-7
 unfolding format10
-returns-7 c = let w = c .before .before .before .before .before .before .before .args .w in
+returns-7 c =
+    let at-op3-of = c .before .before .before .before .before .before in
+    let at-args = at-op3-of .before in
+    let w = at-args .args .w in
     simp (lt-leb (op3Of w) 7 (omega arith), le-ltb (op3Of w) 16 (omega arith), le-leb (op3Of w) 23 (omega arith))
-    (rw (← c .before .before .before .before .before .before .op3-of .ensures, ← c .before .alu-op2 .ensures) (c .read-alu2 .ensures))
+    (rw (← at-op3-of .op3-of .ensures, ← c .before .alu-op2 .ensures) (c .read-alu2 .ensures))
 
 returns-8 : tie.Need-returns-8
 unfolding format10
@@ -71,7 +76,9 @@ returns-8 c = rw (← c .before .before .before .op3-of .ensures) (simp (lt-leb 
 
 returns-9 : tie.Need-returns-9
 unfolding format10
-returns-9 c = let r = c .before .before .before .match .rest in
+returns-9 c =
+    let at-args = c .before .before .before .before .before in
+    let r = c .before .before .before .match .rest in
     rw (← c .before .before .before .before .op3-of .ensures)
     (simp (
       lt-leb _ 7 (c .before .before .if2 .left),
@@ -80,7 +87,7 @@ returns-9 c = let r = c .before .before .before .match .rest in
       ne-eqb _ _ (r .0 .0 .0 .1),
       ne-eqb _ _ (r .0 .0 .1),
       ne-eqb _ _ (r .0 .1),
-      ne-eqb (c .before .before .before .before .before .args .w) leafReturn (λ e. r .1 (c .before .before .before .before .op3-of .ensures ∙ ap op3Of e)),
+      ne-eqb (at-args .args .w) leafReturn (λ e. r .1 (c .before .before .before .before .op3-of .ensures ∙ ap op3Of e)),
     ))
 
 pub read-format-10-spec : {M : Type 1} → statement M
