@@ -175,7 +175,7 @@ module _ (p : Policy) (bases : List ℕ) (returns : ℕ) (wf : WellFormed p) (la
         at false t = found (omega (arith, ltb-false (q .region) (first f 0 (p .regions .count)) t, q .region-is))
 
     -- and there the field
-    touched : touches (p .fields .elements) (p .fields .permissions) a (placeOf (q .region) (q .field)) ≡ true
+    touched : touches (p .fields) a (placeOf (q .region) (q .field)) ≡ true
     unfolding fieldAt
     touched = rw (element .serving, allowed)
 

@@ -55,7 +55,8 @@ use Rattle.rules.specs.Laws.{Laid, LeftMatches}
 use Rattle.rows.proofs.ByKind.{held-return}
 use Rattle.rules.proofs.Narrowed.{narrows-row}
 use Rattle.checker.specs.Answer.{passes}
-use Rattle.checker.specs.Routine.{Routine, count, rowAt, resultEntry, rowBytes}
+use Rattle.rows.specs.Geometry.{rowBytes}
+use Rattle.checker.specs.Routine.{Routine, count, rowAt, resultEntry}
 use Rattle.checker.specs.Passes.{ifRead, readPass, offSlots, flowOf, arrive, changeBy, applied, cross, edges, resultRegister}
 use Rattle.checker.specs.Laws.{Checked, InCode, Flows, After}
 use Rattle.checker.proofs.Looked.{instruction-flows, word-makes, edges-looked, slot-applied, slot-skipped, arrives}
@@ -292,7 +293,7 @@ module _ (t : Routine) (bases : List ℕ) (returns : ℕ) (wf : WellFormed (t .p
 
   -- the codes are set where a branch reads them
   codes-set : (row : Row) (c : Core) (cnd : ℕ) → Fitted (t .policy) h row c → (after : Row) → After row (branchChange (row .note) cnd) after
-      → readsCodes cnd ≡ true → c .registers .coded ≡ true
+      → readsCodes cnd ≡ true → c .registers .codes .set ≡ true
   unfolding branchChange
   codes-set row c cnd f after a r = f .matches .note .coded (at (eqb (row .note .kind) 0) refl)
     where
@@ -313,26 +314,26 @@ module _ (t : Routine) (bases : List ℕ) (returns : ℕ) (wf : WellFormed (t .p
 
   -- the condition that holds on an edge narrows to a row that matches
   module _ (w : ℕ) (b : Bicc) (c : Core) (ck : CoreOk (t .policy) h c) (row : Row) (fit : Fitted (t .policy) h row c) where
-    narrowed : (taken : Bool) → condHolds (b .cond) (c .registers .codes) ≡ taken
+    narrowed : (taken : Bool) → condHolds (b .cond) (c .registers .codes .value) ≡ taken
         → LeftMatches (t .policy .regions .count) (t .policy .regions .sizes) h (narrowRow (edgeOf w (Branch b) taken .narrowing) row) (heldOf (c .registers))
     narrowed true e =
         narrows-row (t .policy .regions .count) (t .policy .regions .sizes) h (b .cond) row (heldOf (c .registers)) (read-small (c .registers) (ck .words)) (fit .rules) (fit .matches) e
     narrowed false e =
         narrows-row (t .policy .regions .count) (t .policy .regions .sizes) h (oppositeOf (b .cond)) row (heldOf (c .registers)) (read-small (c .registers) (ck .words)) (fit .rules) (fit .matches)
-        (opposite-holds (b .cond) (c .registers .codes) ∙ ap not e)
+        (opposite-holds (b .cond) (c .registers .codes .value) ∙ ap not e)
 
   branch-step : (w : ℕ) (b : Bicc) (c : Core) → CoreOk (t .policy) h c → At t h w c → word w ≡ Read (Branch b)
-      → (readsCodes (b .cond) ≡ true → c .registers .coded ≡ true) × StepGood t h c (branchStep (record { control = goTo w; core = c }) b)
+      → (readsCodes (b .cond) ≡ true → c .registers .codes .set ≡ true) × StepGood t h c (branchStep (record { control = goTo w; core = c }) b)
   branch-step w b c ck at q =
       let m = looks w c at (Read (Branch b)) q in
       let s = codes-set (rowAt (t .rows) w) c (b .cond) (at .fitted) (m .after) (m .change) in (
         s,
-        rw (read (readsCodes (b .cond)) (c .registers .coded) s)
+        rw (read (readsCodes (b .cond)) (c .registers .codes .set) s)
             (edge-followed w c ck (Branch b) q refl at (rowAt (t .rows) w)
             (subst (λ (r : Row). passes (edges (t .policy) (t .rows) (t .result) w (Read (Branch b)) (word (w + 1)) r) ≡ true)
             (branch-after (rowAt (t .rows) w) (m .after) (b .cond) (m .change)) (m .passed))
-            (condHolds (b .cond) (c .registers .codes)) (decided (b .cond) (c .registers .codes) (condHolds (b .cond) (c .registers .codes)) refl)
-            (narrowed w b c ck (rowAt (t .rows) w) (at .fitted) (condHolds (b .cond) (c .registers .codes)) refl)),
+            (condHolds (b .cond) (c .registers .codes .value)) (decided (b .cond) (c .registers .codes .value) (condHolds (b .cond) (c .registers .codes .value)) refl)
+            (narrowed w b c ck (rowAt (t .rows) w) (at .fitted) (condHolds (b .cond) (c .registers .codes .value)) refl)),
       )
     where
       read : (x y : Bool) → (x ≡ true → y ≡ true) → (x && not y) ≡ false

@@ -29,7 +29,8 @@ use Rattle.rows.proofs.Obeying.{entry-obeys, row-obeys}
 use Rattle.rules.specs.Laws.{Laid}
 use Rattle.memory.specs.Memory.{byteAt}
 use Rattle.checker.specs.Answer.{accepted}
-use Rattle.checker.specs.Routine.{Routine, routineOf, rowAt, entryRow, rowBytes}
+use Rattle.rows.specs.Geometry.{rowBytes}
+use Rattle.checker.specs.Routine.{Routine, routineOf, rowAt, entryRow}
 use Rattle.checker.specs.Passes.{checkOf}
 use Rattle.checker.specs.Laws.{Checked}
 use Rattle.checker.proofs.Accepted.{accepts}

@@ -34,7 +34,7 @@ hostOf bases returns = record { bases = bases; returns = returns }
 
 -- what the registers and codes of the machine hold; "r0 counts as a set zero"
 abbrev pub heldOf : Registers → Held
-heldOf g = record { value = valueOf g; mark = isSet g; codes = g .codes; coded = g .coded }
+heldOf g = record { value = valueOf g; mark = isSet g; codes = g .codes .value; coded = g .codes .set }
 
 -- 32 registers of 32 bits, each with its mark
 pub record Words (g : Registers) : Type 0 where
@@ -56,7 +56,7 @@ abbrev pub noState : State
 noState =
     record {
       control = goTo 0;
-      core = record { registers = record { values = []; marks = []; codes = noCodes; coded = false }; memory = [] };
+      core = record { registers = record { values = []; marks = []; codes = record { value = noCodes; set = false } }; memory = [] };
     }
   where
     noCodes : Codes

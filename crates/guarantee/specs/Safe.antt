@@ -59,7 +59,7 @@ OperationSafe p h g (Memory a rd rs1 d) = (movedSet (g .marks) a rd ≡ true) ×
 -- .. and a transfer that does: a branch by codes that are set, the return to the caller
 abbrev pub InstructionSafe : Policy → Host → Registers → Instruction → Type 0
 InstructionSafe p h g (Plain x) = OperationSafe p h g x
-InstructionSafe p h g (Branch b) = readsCodes (b .cond) ≡ true → g .coded ≡ true
+InstructionSafe p h g (Branch b) = readsCodes (b .cond) ≡ true → g .codes .set ≡ true
 InstructionSafe p h g Return = (isSet g link ≡ true) × (valueOf g link ≡ h .returns)
 
 -- a word that is read, and whose instruction is safe
