@@ -10,7 +10,7 @@ use Rattle.policy.specs.declared.Policy.{Policy}
 use Rattle.alu.specs.declared.codes.Codes.{Codes}
 use Rattle.memory.specs.Memory.{Bytes}
 use Rattle.step.specs.declared.Registers.{Registers}
-use Rattle.step.specs.Registers.{valueOf, isSet}
+use Rattle.step.specs.Registers.{markCount, valueOf, isSet}
 use Rattle.flow.specs.Readings.{readingAt}
 use Rattle.step.specs.Setting.{Setting}
 use Rattle.step.specs.Control.{goTo}
@@ -39,7 +39,7 @@ heldOf g = record { value = valueOf g; mark = isSet g; codes = g .codes .value; 
 -- 32 registers of 32 bits, each with its mark
 pub record Words (g : Registers) : Type 0 where
   pub values : length (g .values) ≡ 32
-  pub marks : length (g .marks) ≡ 32
+  pub marks : length (g .marks) ≡ markCount
   pub small : (r : ℕ) → getD (g .values) r 0 < 4294967296
 
 -- "A start matches if 22 finds nothing wrong in it, registers and codes match the entry row, and readable fields (permission 1 or 3) match,

@@ -52,53 +52,59 @@ turn-outside s allowance steps st unread h =
     ap (λ (n : ℕ). runFrom s n steps st) (rest allowance steps h) ∙ runs-one-more s (allowance - (steps + 1)) steps st
     ∙ ap (λ (x : Reading). afterStep steps st (runFrom s (allowance - (steps + 1)) (steps + 1)) (stepWith (s .layout) (s .returns) st x)) unread
 
-module _ (s : Setting) (allowance steps : ℕ) (st : State) (x : Reading) (w : Went) (values : List ℕ) (marks : List Bool) (memory : List ℕ)
-    (fetched : x ≡ readingAt (s .readings) (st .control .at .0))
-    (e : completed (s .layout) (st .control) w values marks memory ≡ leaving (st .core) (stepWith (s .layout) (s .returns) st x)) (h : steps < allowance) where
+-- what a turn of the loop has shown: a step of the allowance is left, the word that control stands at was fetched, and the step of it
+-- has answered, leaving values and marks
+pub record Turned (s : Setting) (allowance steps : ℕ) (st : State) (w : Went) (values : List ℕ) (marks : List Bool) : Type 0 where
+  pub allowed : steps < allowance
+  pub word : Reading
+  pub fetched : word ≡ readingAt (s .readings) (st .control .at .0)
+  pub says : completed (s .layout) (st .control) w values marks (st .core .memory) ≡ leaving (st .core) (stepWith (s .layout) (s .returns) st word)
+
+module _ {s : Setting} {allowance steps : ℕ} {st : State} {w : Went} {values : List ℕ} {marks : List Bool} (t : Turned s allowance steps st w values marks) where
   -- what the lent arrays hold after the step
   abbrev left : Core
-  left = coreOf values marks (w .codes) memory
+  left = coreOf values marks (w .codes) (st .core .memory)
 
   -- the step that the answer says
-  abbrev says : Progress → Step
-  says p = stepFrom (s .layout) (st .control) p (w .control) left
+  abbrev saying : Progress → Step
+  saying p = stepFrom (s .layout) (st .control) p (w .control) left
 
   abbrev said : Step
-  said = says (w .progress)
+  said = saying (w .progress)
 
   -- the step of what is fetched is the step of the state
-  step-of : stepWith (s .layout) (s .returns) st x ≡ stepOf s st
+  step-of : stepWith (s .layout) (s .returns) st (t .word) ≡ stepOf s st
   unfolding stepOf
-  step-of = ap (stepWith (s .layout) (s .returns) st) fetched
+  step-of = ap (stepWith (s .layout) (s .returns) st) (t .fetched)
 
   step-is : stepOf s st ≡ said
-  step-is = sym step-of ∙ sym (leaving-step (st .core) _) ∙ sym (ap (λ (x : Stepped). x .step) e) ∙ leaving-step left said
+  step-is = sym step-of ∙ sym (leaving-step (st .core) _) ∙ sym (ap (λ (x : Stepped). x .step) (t .says)) ∙ leaving-step left said
 
   one : (y : Step) → said ≡ y → runFrom s (allowance - steps) steps st ≡ afterStep steps st (runFrom s (allowance - (steps + 1)) (steps + 1)) y
   one y q =
-      ap (λ (n : ℕ). runFrom s n steps st) (rest allowance steps h) ∙ runs-one-more s (allowance - (steps + 1)) steps st
+      ap (λ (n : ℕ). runFrom s n steps st) (rest allowance steps (t .allowed)) ∙ runs-one-more s (allowance - (steps + 1)) steps st
       ∙ ap (afterStep steps st (runFrom s (allowance - (steps + 1)) (steps + 1))) (step-is ∙ q)
 
   -- by what is said: it goes on, has returned, or stops
   pub turn-goes : w .progress ≡ Goes → runFrom s (allowance - steps) steps st ≡ runFrom s (allowance - (steps + 1)) (steps + 1) (record { control = w .control; core = left })
-  turn-goes q = one _ (ap says q)
+  turn-goes q = one _ (ap saying q)
 
   pub turn-returned : w .progress ≡ Returned → runFrom s (allowance - steps) steps st ≡ ended End·.Returned (steps + 1) left
-  turn-returned q = one _ (ap says q)
+  turn-returned q = one _ (ap saying q)
 
   core-is : (f : ℕ) → said ≡ stopped f → left ≡ st .core
-  core-is f q = sym (ap (λ (x : Step). leaving left x .core) q) ∙ ap (λ (x : Stepped). x .core) e ∙ ap (λ (x : Step). leaving (st .core) x .core) (step-of ∙ step-is ∙ q)
+  core-is f q = sym (ap (λ (x : Step). leaving left x .core) q) ∙ ap (λ (x : Stepped). x .core) (t .says) ∙ ap (λ (x : Step). leaving (st .core) x .core) (step-of ∙ step-is ∙ q)
 
   stops : (f : ℕ) → said ≡ stopped f → runFrom s (allowance - steps) steps st ≡ ended (End·.Fault f) steps left
   stops f q = one (stopped f) q ∙ ap (ended (End·.Fault f) steps) (sym (core-is f q))
 
   pub turn-stopped : (f : ℕ) → w .progress ≡ Stopped f → runFrom s (allowance - steps) steps st ≡ ended (End·.Fault f) steps left
-  turn-stopped f q = stops f (ap says q)
+  turn-stopped f q = stops f (ap saying q)
 
   -- an access that lies nowhere, and one that lies somewhere and was done there
   module _ (a : Access) (rd address : ℕ) (q : w .progress ≡ Accesses a rd address) where
     accesses : (at : Located) → locate (s .layout) a address ≡ at → said ≡ plainStep (st .control) (accessAt (s .layout .regions .sizes) left a rd at)
-    accesses at f = ap says q ∙ ap (λ (x : Located). plainStep (st .control) (accessAt (s .layout .regions .sizes) left a rd x)) f
+    accesses at f = ap saying q ∙ ap (λ (x : Located). plainStep (st .control) (accessAt (s .layout .regions .sizes) left a rd x)) f
 
     pub turn-nowhere : locate (s .layout) a address ≡ Nowhere → runFrom s (allowance - steps) steps st ≡ ended (End·.Fault noField) steps left
     turn-nowhere f = stops noField (accesses Nowhere f)

@@ -31,7 +31,12 @@ pub fn access_at(
     offset: ByteOffset,
 )
     requires { ⌜ Covered (now sizes) (length (now memory)) (accessWidth a) region (offset .0) ⌝ }
-    ensures { λ _. ⌜ ((codes : MarkedCodes) → done (coreOf (now (values .exit)) (now (marks .exit)) codes (now (memory .exit))) ≡ touching (coreOf (now (values .entry)) (now (marks .entry)) codes (now (memory .entry))) a rd (partStart (now (sizes .entry)) region + offset .0)) ⌝ }
+    ensures { λ _. ⌜
+        ((codes : MarkedCodes)
+        → done (coreOf (now (values .exit)) (now (marks .exit)) codes (now (memory .exit)))
+        ≡ touching (coreOf (now (values .entry)) (now (marks .entry)) codes (now (memory .entry)))
+        a rd (partStart (now (sizes .entry)) region + offset .0))
+        ⌝ }
 {
     let i = region as usize;
     let size = extent(sizes[i]);

@@ -42,7 +42,11 @@ pub fn run_steps(
     allowance: u64,
 ) -> Ended
     requires { ⌜ (length (now words) ≤ mostWords) × Fits policy (now bases) (length (now memory)) ⌝ }
-    ensures { λ r. ⌜ ranOf r (now (values .exit)) (now (marks .exit)) (now (memory .exit)) ≡ runFrom (settingOf policy (now (words .entry)) (now (bases .entry)) returns) allowance 0 (record { control = goTo 0; core = coreOf (now (values .entry)) (now (marks .entry)) codes (now (memory .entry)) }) ⌝ }
+    ensures { λ r. ⌜
+        ranOf r (now (values .exit)) (now (marks .exit)) (now (memory .exit))
+        ≡ runFrom (settingOf policy (now (words .entry)) (now (bases .entry)) returns) allowance 0
+        (record { control = goTo 0; core = coreOf (now (values .entry)) (now (marks .entry)) codes (now (memory .entry)) })
+        ⌝ }
 {
     let readings = read_all(words);
     let mut control = Control {

@@ -16,32 +16,46 @@ ghost use Prim.Native.Nat.{_+_, _≤_};
 
 // The number of regions, and the size and the number of fields of each, in a policy without fields.
 fn regions_of(numbers: &[u32; MOST_NUMBERS]) -> Policy {
-    let mut policy = Policy::empty();
-    policy.regions.count = (numbers[REGIONS] % 256) as u8;
+    let empty = Policy::empty();
+    let mut regions = empty.regions;
+    regions.count = (numbers[REGIONS] % 256) as u8;
     let mut r = 0;
     while r < 8 {
-        policy.regions.sizes[r] = (numbers[SIZES + r] % 65536) as u16;
-        policy.regions.fields[r] = (numbers[COUNTS + r] % 256) as u8;
+        regions.sizes[r] = (numbers[SIZES + r] % 65536) as u16;
+        regions.fields[r] = (numbers[COUNTS + r] % 256) as u8;
         r += 1;
     }
-    policy
+    let fields = empty.fields;
+    let values = empty.values;
+    Policy {
+        regions,
+        fields,
+        values,
+    }
 }
 
 // The policy with the field that stands at number `at`.
-fn with_field(mut policy: Policy, numbers: &[u32; MOST_NUMBERS], at: usize) -> Policy
+fn with_field(policy: Policy, numbers: &[u32; MOST_NUMBERS], at: usize) -> Policy
     requires { ⌜ at + 4 ≤ 746 ⌝ }
 {
     let kinds = numbers[at];
     let extent = numbers[at + 1];
     let place = (kinds / 16777216 % 128) as usize;
-    policy.fields.elements[place] = (kinds / 65536 % 256) as u8;
-    policy.fields.permissions[place] = (kinds / 256 % 256) as u8;
-    policy.values.targets[place] = (kinds % 256) as u8;
-    policy.fields.offsets[place] = extent / 65536;
-    policy.fields.counts[place] = (extent % 65536) as u16;
-    policy.values.lows[place] = numbers[at + 2];
-    policy.values.highs[place] = numbers[at + 3];
-    policy
+    let regions = policy.regions;
+    let mut fields = policy.fields;
+    let mut values = policy.values;
+    fields.elements[place] = (kinds / 65536 % 256) as u8;
+    fields.permissions[place] = (kinds / 256 % 256) as u8;
+    fields.offsets[place] = extent / 65536;
+    fields.counts[place] = (extent % 65536) as u16;
+    values.targets[place] = (kinds % 256) as u8;
+    values.lows[place] = numbers[at + 2];
+    values.highs[place] = numbers[at + 3];
+    Policy {
+        regions,
+        fields,
+        values,
+    }
 }
 
 // The policy, as it stands: it may break rules.

@@ -11,6 +11,10 @@ use Rattle.alu.specs.declared.codes.Codes.{Codes}
 use Rattle.step.specs.declared.Registers.{Registers}
 use Rattle.step.specs.declared.Marked.{Marked}
 
+-- how many marks there are: one for each register
+abbrev pub markCount : ℕ
+markCount = 32
+
 -- what register r reads as, of 32 values; a number above 31 names no register
 unfoldable pub valueIn : List ℕ → ℕ → ℕ
 valueIn values r = cond (eqb r 0) 0 (cond (ltb r 32) (getD values r 0) 0)

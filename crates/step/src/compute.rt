@@ -35,7 +35,10 @@ pub fn step_alu(
     x: Operand,
 ) -> Went
     requires { ⌜ control .at .0 < mostWords ⌝ }
-    ensures { λ r. ⌜ Does r (now (values .exit)) (now (marks .exit)) control (registersOf (now (values .entry)) (now (marks .entry)) codes) (λ l st. plainStep control (aluEffect (st .core) op cc rd rs1 x)) ⌝ }
+    ensures { λ r. ⌜
+        Does r (now (values .exit)) (now (marks .exit)) control (registersOf (now (values .entry)) (now (marks .entry)) codes)
+        (λ l st. plainStep control (aluEffect (st .core) op cc rd rs1 x))
+        ⌝ }
 {
     let left = register(values, marks, rs1);
     let right = operand(values, marks, x);
@@ -66,7 +69,10 @@ pub fn step_shift(
     x: Operand,
 ) -> Went
     requires { ⌜ control .at .0 < mostWords ⌝ }
-    ensures { λ r. ⌜ Does r (now (values .exit)) (now (marks .exit)) control (registersOf (now (values .entry)) (now (marks .entry)) codes) (λ l st. plainStep control (shiftEffect (st .core) op rd rs1 x)) ⌝ }
+    ensures { λ r. ⌜
+        Does r (now (values .exit)) (now (marks .exit)) control (registersOf (now (values .entry)) (now (marks .entry)) codes)
+        (λ l st. plainStep control (shiftEffect (st .core) op rd rs1 x))
+        ⌝ }
 {
     let left = register(values, marks, rs1);
     let right = operand(values, marks, x);
@@ -88,7 +94,10 @@ pub fn step_sethi(
     imm22: u32,
 ) -> Went
     requires { ⌜ control .at .0 < mostWords ⌝ }
-    ensures { λ r. ⌜ Does r (now (values .exit)) (now (marks .exit)) control (registersOf (now (values .entry)) (now (marks .entry)) codes) (λ l st. plainStep control (sethiEffect (st .core) rd imm22)) ⌝ }
+    ensures { λ r. ⌜
+        Does r (now (values .exit)) (now (marks .exit)) control (registersOf (now (values .entry)) (now (marks .entry)) codes)
+        (λ l st. plainStep control (sethiEffect (st .core) rd imm22))
+        ⌝ }
 {
     write(values, marks, rd, sethi(imm22));
     move_on(control, codes)

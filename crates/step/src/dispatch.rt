@@ -31,7 +31,10 @@ pub fn one_step(
     returns: u32,
 ) -> Went
     requires { ⌜ control .at .0 < mostWords ⌝ }
-    ensures { λ r. ⌜ Does r (now (values .exit)) (now (marks .exit)) control (registersOf (now (values .entry)) (now (marks .entry)) codes) (λ l st. stepWith l returns st x) ⌝ }
+    ensures { λ r. ⌜
+        Does r (now (values .exit)) (now (marks .exit)) control (registersOf (now (values .entry)) (now (marks .entry)) codes)
+        (λ l st. stepWith l returns st x)
+        ⌝ }
 {
     match x {
         Reading::Read(instruction) => match instruction {

@@ -73,7 +73,10 @@ pub fn step_access(
     d: Displacement,
 ) -> Went
     requires { ⌜ control .at .0 < mostWords ⌝ }
-    ensures { λ r. ⌜ Does r (now (values .entry)) (now (marks .entry)) control (registersOf (now (values .entry)) (now (marks .entry)) codes) (λ l st. plainStep control (accessEffect l (st .core) a rd rs1 d)) ⌝ }
+    ensures { λ r. ⌜
+        Does r (now (values .entry)) (now (marks .entry)) control (registersOf (now (values .entry)) (now (marks .entry)) codes)
+        (λ l st. plainStep control (accessEffect l (st .core) a rd rs1 d))
+        ⌝ }
 {
     let at = control.at;
     let width = width_of(a);

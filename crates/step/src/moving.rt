@@ -89,7 +89,11 @@ pub fn move_on(control: Control, codes: MarkedCodes) -> Went
 // Follows the edge of a branch that is taken, or the other: over the slot where that runs.
 fn follow_branch(control: Control, codes: MarkedCodes, b: Bicc, taken: bool) -> Went
     requires { ⌜ control .at .0 < mostWords ⌝ }
-    ensures { λ r. ⌜ ((values : List ℕ) (marks : List Bool) → Does r values marks control (registersOf values marks codes) (λ l st. follow (control .at .0) (branchEdge (control .at .0) b taken) (st .core))) ⌝ }
+    ensures { λ r. ⌜
+        ((values : List ℕ) (marks : List Bool)
+        → Does r values marks control (registersOf values marks codes)
+        (λ l st. follow (control .at .0) (branchEdge (control .at .0) b taken) (st .core)))
+        ⌝ }
 {
     let at = control.at;
     let to = landing_of(at, b, taken);
@@ -116,7 +120,11 @@ fn follow_branch(control: Control, codes: MarkedCodes, b: Bicc, taken: bool) -> 
 // A branch: 102 where its condition reads codes that are unset, else the edge that the codes decide.
 pub fn branch(control: Control, codes: MarkedCodes, b: Bicc) -> Went
     requires { ⌜ control .at .0 < mostWords ⌝ }
-    ensures { λ r. ⌜ ((values : List ℕ) (marks : List Bool) → Does r values marks control (registersOf values marks codes) (λ l st. branchStep st b)) ⌝ }
+    ensures { λ r. ⌜
+        ((values : List ℕ) (marks : List Bool)
+        → Does r values marks control (registersOf values marks codes)
+        (λ l st. branchStep st b))
+        ⌝ }
 {
     if reads_codes(b.cond) & !codes.set {
         return stop(control, codes, UNSET_READ);
@@ -134,7 +142,10 @@ pub fn leave(
     returns: u32,
 ) -> Went
     requires { ⌜ control .at .0 < mostWords ⌝ }
-    ensures { λ r. ⌜ Does r (now (values .entry)) (now (marks .entry)) control (registersOf (now (values .entry)) (now (marks .entry)) codes) (λ l st. returnStep returns st) ⌝ }
+    ensures { λ r. ⌜
+        Does r (now (values .entry)) (now (marks .entry)) control (registersOf (now (values .entry)) (now (marks .entry)) codes)
+        (λ l st. returnStep returns st)
+        ⌝ }
 {
     if !is_set(marks, LINK) {
         return stop(control, codes, UNSET_READ);

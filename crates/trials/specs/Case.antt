@@ -187,7 +187,7 @@ numbersOf p (a ∷ more) = addOf p a .number ∷ numbersOf (addOf p a .policy) m
 abbrev pub endsOf : Run → Outcome
 endsOf r =
     ends (r .outcome .end) (r .outcome .steps) (take 8 (r .outcome .registers .values)) (take 8 (r .outcome .registers .marks))
-    (cond (r .outcome .registers .coded) 16 0 + digitOf (r .outcome .registers .codes))
+    (cond (r .outcome .registers .codes .set) 16 0 + digitOf (r .outcome .registers .codes .value))
     (r .memory)
 
 -- the outcome of a word, as it is read, on a row

@@ -43,8 +43,7 @@ registersOf link linked digit coded =
     record {
       values = 7 ∷ 0x3000 ∷ 0x2000 ∷ 0x12345678 ∷ 5 ∷ replicate 10 0 ++ link ∷ replicate 16 0;
       marks = false ∷ true ∷ true ∷ true ∷ false ∷ true ∷ true ∷ true ∷ replicate 7 false ++ linked ∷ replicate 16 false;
-      codes = codesAt digit;
-      coded = coded;
+      codes = record { value = codesAt digit; set = coded };
     }
 
 -- r15 is the return address, the codes are unset and Z

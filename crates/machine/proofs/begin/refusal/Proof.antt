@@ -20,18 +20,33 @@ returns-2 c = rw (← c .before .before .well-formed .ensures, not-false (c .bef
 
 returns-3 : tie.Need-returns-3
 unfolding refusalOf
-returns-3 c = rw (← c .before .before .before .well-formed .ensures, not-false (c .before .before .before .well-formed .result) (c .before .before .if1 .left), le-ltb _ 1 (c .before .if2 .left), lt-ltb 128 _ (c .if3 .taken))
+returns-3 c =
+    let well-formed = c .before .before .before .well-formed in
+    rw (← well-formed .ensures, not-false (well-formed .result) (c .before .before .if1 .left), le-ltb _ 1 (c .before .if2 .left), lt-ltb 128 _ (c .if3 .taken))
 
 placed-requires : tie.Need-placed-requires
-placed-requires c κs = obeys _ (sym (c .before .before .before .before .before .well-formed .ensures) ∙ not-false (c .before .before .before .before .before .well-formed .result) (c .before .before .before .before .if1 .left)) .regions-most
+placed-requires c κs =
+    let well-formed = c .before .before .before .before .before .well-formed in
+    let test = c .before .before .before .before .if1 in
+    obeys _ (sym (well-formed .ensures) ∙ not-false (well-formed .result) (test .left)) .regions-most
 
 returns-4 : tie.Need-returns-4
 unfolding refusalOf
-returns-4 c = rw (← c .before .before .before .before .before .before .before .well-formed .ensures, not-false (c .before .before .before .before .before .before .before .well-formed .result) (c .before .before .before .before .before .before .if1 .left), le-ltb _ 1 (c .before .before .before .before .before .if2 .left), le-ltb 128 _ (c .before .before .before .before .if3 .left), ← c .before .placed .ensures, not-true (c .before .placed .result) (c .if4 .taken))
+returns-4 c =
+    let well-formed = c .before .before .before .before .before .before .before .well-formed in
+    let test = c .before .before .before .before .before .before .if1 in
+    let test2 = c .before .before .before .before .before .if2 in
+    let test3 = c .before .before .before .before .if3 in
+    rw (← well-formed .ensures, not-false (well-formed .result) (test .left), le-ltb _ 1 (test2 .left), le-ltb 128 _ (test3 .left), ← c .before .placed .ensures, not-true (c .before .placed .result) (c .if4 .taken))
 
 returns-5 : tie.Need-returns-5
 unfolding refusalOf
-returns-5 c = rw (← c .before .before .before .before .before .before .before .well-formed .ensures, not-false (c .before .before .before .before .before .before .before .well-formed .result) (c .before .before .before .before .before .before .if1 .left), le-ltb _ 1 (c .before .before .before .before .before .if2 .left), le-ltb 128 _ (c .before .before .before .before .if3 .left), ← c .before .placed .ensures, not-false (c .before .placed .result) (c .if4 .left))
+returns-5 c =
+    let well-formed = c .before .before .before .before .before .before .before .well-formed in
+    let test = c .before .before .before .before .before .before .if1 in
+    let test2 = c .before .before .before .before .before .if2 in
+    let test3 = c .before .before .before .before .if3 in
+    rw (← well-formed .ensures, not-false (well-formed .result) (test .left), le-ltb _ 1 (test2 .left), le-ltb 128 _ (test3 .left), ← c .before .placed .ensures, not-false (c .before .placed .result) (c .if4 .left))
 
 pub refusal-spec : {M : Type 1} → statement M
 refusal-spec =

@@ -27,8 +27,11 @@ array-write-marks c = search needs
 
 run-steps-requires : tie.Need-run-steps-requires
 run-steps-requires c κs =
-    let policy = c .before .before .before .before .before .before .before .before .before .before .before .before .args .policy in
-    let passed = begun _ _ _ _ _ (sym (c .before .before .before .before .before .before .before .refusal .ensures) ∙ c .before .before .before .before .before .before .if1 .left) in
+    let start = c .before .before .before .before .before .before .before .before .before .before .before .before in
+    let refusal = c .before .before .before .before .before .before .before .refusal in
+    let test = c .before .before .before .before .before .before .if1 in
+    let policy = start .args .policy in
+    let passed = begun _ _ _ _ _ (sym (refusal .ensures) ∙ test .left) in
     let count = based policy _ _ _ (passed .placed) in
     (passed .most, record { few = obeys _ (passed .ok) .regions-most; based = omega (arith, count); covers = covers _ _ _ _ (passed .placed) (passed .ok) })
 
@@ -37,7 +40,11 @@ same-length-2 c = search needs
 
 returns-2 : tie.Need-returns-2
 unfolding runOf
-returns-2 c = rw (sym (c .before .before .before .before .before .before .before .before .before .before .before .refusal .ensures) ∙ c .before .before .before .before .before .before .before .before .before .before .if1 .left) (c .before .before .before .run-steps .ensures)
+returns-2 c =
+    let refusal = c .before .before .before .before .before .before .before .before .before .before .before .refusal in
+    let test = c .before .before .before .before .before .before .before .before .before .before .if1 in
+    let run-steps = c .before .before .before .run-steps in
+    rw (sym (refusal .ensures) ∙ test .left) (run-steps .ensures)
 
 pub run-spec : {M : Type 1} → statement M
 run-spec =

@@ -1,7 +1,7 @@
 -- The run is the run of what is left: after some steps, the whole run is the run from the state that they left, with what is left of
 -- the allowance. That is the measure too. Each way through the loop's body ends a step as the definition says: on to the next state,
 -- returned, or stopped at a fault; an access is located and done first.
-use Prim.Native.Nat.{ℕ, _+_, _-_, _≤_}
+use Prim.Native.Nat.{_-_, _≤_}
 use mathlib.Core.Path.{_≡_, refl, sym, _∙_}
 use native.Mathlib.Nat.{sub-zero}
 use native.Mathlib.Omega.{arith}
@@ -10,14 +10,11 @@ use denote.Ref.{now}
 use borrow.Author.Needs.{needs}
 use Rattle.flow.proofs.Fetched.{array-has, past-array}
 use Rattle.step.specs.Setting.{Setting}
-use Rattle.step.specs.Control.{goTo}
-use Rattle.step.specs.Effect.{Core}
-use Rattle.step.specs.Step.{State, Step, stopped, next, returned}
-use Rattle.step.specs.Lent.{coreOf, stepFrom}
-use Rattle.machine.specs.declared.End.the-variants.{Returned, Fault}
-use Rattle.machine.specs.Run.{Run, ended, runFrom, settingOf}
+use Rattle.step.specs.Step.{State}
+use Rattle.step.specs.Lent.{coreOf}
+use Rattle.machine.specs.Run.{runFrom, settingOf}
 use Rattle.machine.proofs.Covered.{covered-at}
-use Rattle.machine.proofs.Loop.{turn-spent, turn-outside, turn-goes, turn-returned, turn-stopped, turn-nowhere, turn-moved}
+use Rattle.machine.proofs.Loop.{Turned, turn-spent, turn-outside, turn-goes, turn-returned, turn-stopped, turn-nowhere, turn-moved}
 use Rattle.machine.proofs.steps.run_steps.Statement.{statement}
 use Rattle.machine.proofs.steps.run_steps.Tie as tie
 
@@ -43,18 +40,23 @@ at-test o = o .before .before .before .before .before .before .before
 abbrev at-start : Stepped → tie.Start Inv-loop μ-loop
 at-start o = o .before .before .before .before .before .before .before .before .before .before .before .before .before
 
--- the setting of the run, the whole run, the state at a turn's begin, the core that the turn's step leaves
+-- the setting of the run, the state at a turn's begin, and what the turn has shown after its step
 abbrev setting : tie.Start Inv-loop μ-loop → Setting
 setting s = settingOf (s .args .t1) (now (s .args .words)) (now (s .args .bases)) (s .args .returns)
-
-abbrev whole : tie.Start Inv-loop μ-loop → Run
-whole s = runFrom (setting s) (s .args .allowance) 0 (record { control = goTo 0; core = coreOf (now (s .args .values)) (now (s .args .marks)) (s .args .codes) (now (s .args .memory)) })
 
 abbrev state : tie.At-loop Inv-loop μ-loop → State
 state b = record { control = b .loop .control; core = coreOf (b .loop .values) (b .loop .marks) (b .loop .flags) (b .loop .memory) }
 
-abbrev left : Stepped → Core
-left o = coreOf (o .one-step .last .1 .1 .0) (o .one-step .last .1 .1 .1 .0) (o .one-step .result .codes) (at-loop o .loop .memory)
+turned : (o : Stepped)
+    → Turned (setting (at-start o)) (at-start o .args .allowance) (at-loop o .loop .steps) (state (at-loop o)) (o .one-step .result) (o .one-step .last .1 .1 .0) (o .one-step .last .1 .1 .1 .0)
+turned o =
+    let read = o .before .before .before .before .before .before .before .before .before .read-all in
+    record {
+      allowed = at-test o .loop-test .taken;
+      word = _;
+      fetched = array-has (now (at-start o .args .words)) (read .result) (at-loop o .loop .control .at .0) _ (read .ensures) (o .before .before .before .before .if1 .left);
+      says = o .one-step .ensures _ _;
+    }
 
 read-all-requires : tie.Need-read-all-requires Inv-loop μ-loop
 read-all-requires c κs = c .before .before .before .pre .0
@@ -69,7 +71,11 @@ same-length : tie.Need-same-length Inv-loop μ-loop
 same-length c = search needs
 
 returns : tie.Need-returns Inv-loop μ-loop
-returns c = sym (c .before .before .before .before .loop .inv .2 ∙ turn-outside (setting (c .before .before .before .before .before .before .before .before .before)) _ _ (state (c .before .before .before .before)) (sym (past-array (now (c .before .before .before .before .before .before .before .before .before .args .words)) (c .before .before .before .before .loop .control .at .0) (c .before .before .before .before .before .before .before .before .before .pre .0) (c .if1 .taken))) (c .before .before .before .loop-test .taken))
+returns c =
+    let at-begin = c .before .before .before .before in
+    let start = c .before .before .before .before .before .before .before .before .before in
+    let outside = past-array (now (start .args .words)) (at-begin .loop .control .at .0) (start .pre .0) (c .if1 .taken) in
+    sym (at-begin .loop .inv .2 ∙ turn-outside (setting start) _ _ (state at-begin) (sym outside) (c .before .before .before .loop-test .taken))
 
 mul-one-step : tie.Need-mul-one-step Inv-loop μ-loop
 mul-one-step c = search needs
@@ -84,21 +90,27 @@ enum-told : tie.Need-enum-told Inv-loop μ-loop
 enum-told c = search needs
 
 add-steps : tie.Need-add-steps Inv-loop μ-loop
-add-steps c = omega (arith, at-test (c .before .before .before .before) .loop-test .taken, at-start (c .before .before .before .before) .fits .allowance)
+add-steps c =
+    let o = c .before .before .before .before in
+    omega (arith, at-test o .loop-test .taken, at-start o .fits .allowance)
 
 loop-less : tie.Need-loop-less Inv-loop μ-loop
-loop-less c = omega (arith, at-test (c .before .before .before .before) .loop-test .taken)
+loop-less c =
+    let o = c .before .before .before .before in
+    omega (arith, at-test o .loop-test .taken)
 
 loop-again : tie.Need-loop-again Inv-loop μ-loop
 loop-again c =
     let o = c .before .before .before .before in
-    (omega (arith, at-test o .loop-test .taken), at-loop o .loop .inv .1, at-loop o .loop .inv .2 ∙ turn-goes (setting (at-start o)) _ _ (state (at-loop o)) _ (o .one-step .result) _ _ _ (array-has (now (at-start o .args .words)) (o .before .before .before .before .before .before .before .before .before .read-all .result) (at-loop o .loop .control .at .0) _ (o .before .before .before .before .before .before .before .before .before .read-all .ensures) (o .before .before .before .before .if1 .left)) (o .one-step .ensures _ _) (at-test o .loop-test .taken) (c .before .enum-told .given .1))
+    (omega (arith, at-test o .loop-test .taken), at-loop o .loop .inv .1, at-loop o .loop .inv .2 ∙ turn-goes (turned o) (c .before .enum-told .given .1))
 
 enum-told-2 : tie.Need-enum-told-2 Inv-loop μ-loop
 enum-told-2 c = search needs
 
 add-t40 : tie.Need-add-t40 Inv-loop μ-loop
-add-t40 c = omega (arith, at-test (c .before .before .before) .loop-test .taken, at-start (c .before .before .before) .fits .allowance)
+add-t40 c =
+    let o = c .before .before .before in
+    omega (arith, at-test o .loop-test .taken, at-start o .fits .allowance)
 
 same-length-2 : tie.Need-same-length-2 Inv-loop μ-loop
 same-length-2 c = search needs
@@ -106,7 +118,7 @@ same-length-2 c = search needs
 returns-2 : tie.Need-returns-2 Inv-loop μ-loop
 returns-2 c =
     let o = c .before .before .before in
-    sym (at-loop o .loop .inv .2 ∙ turn-returned (setting (at-start o)) _ _ (state (at-loop o)) _ (o .one-step .result) _ _ _ (array-has (now (at-start o .args .words)) (o .before .before .before .before .before .before .before .before .before .read-all .result) (at-loop o .loop .control .at .0) _ (o .before .before .before .before .before .before .before .before .before .read-all .ensures) (o .before .before .before .before .if1 .left)) (o .one-step .ensures _ _) (at-test o .loop-test .taken) (c .enum-told2 .given .1))
+    sym (at-loop o .loop .inv .2 ∙ turn-returned (turned o) (c .enum-told2 .given .1))
 
 enum-known-progress : tie.Need-enum-known-progress Inv-loop μ-loop
 enum-known-progress c = search needs
@@ -117,7 +129,7 @@ same-length-3 c = search needs
 returns-3 : tie.Need-returns-3 Inv-loop μ-loop
 returns-3 c =
     let o = c .before .before .before .before in
-    sym (at-loop o .loop .inv .2 ∙ turn-stopped (setting (at-start o)) _ _ (state (at-loop o)) _ (o .one-step .result) _ _ _ (array-has (now (at-start o .args .words)) (o .before .before .before .before .before .before .before .before .before .read-all .result) (at-loop o .loop .control .at .0) _ (o .before .before .before .before .before .before .before .before .before .read-all .ensures) (o .before .before .before .before .if1 .left)) (o .one-step .ensures _ _) (at-test o .loop-test .taken) _ (c .before .progress .given .1))
+    sym (at-loop o .loop .inv .2 ∙ turn-stopped (turned o) _ (c .before .progress .given .1))
 
 enum-known-progress-2 : tie.Need-enum-known-progress-2 Inv-loop μ-loop
 enum-known-progress-2 c = search needs
@@ -149,8 +161,9 @@ same-length-4 c = at-loop (c .before .before .before .before .before .before .be
 returns-4 : tie.Need-returns-4 Inv-loop μ-loop
 returns-4 c =
     let o = c .before .before .before .before .before .before .before .before .before .before .before .before .before .before .before in
+    let asked = c .before .before .before .before .before .before .before .before .before .before .before .before .progress2 .given .1 in
     let nowhere = sym (c .before .before .locate-access .ensures) ∙ c .enum-told3 .given .1 in
-    sym (at-loop o .loop .inv .2 ∙ turn-nowhere (setting (at-start o)) _ _ (state (at-loop o)) _ (o .one-step .result) _ _ _ (array-has (now (at-start o .args .words)) (o .before .before .before .before .before .before .before .before .before .read-all .result) (at-loop o .loop .control .at .0) _ (o .before .before .before .before .before .before .before .before .before .read-all .ensures) (o .before .before .before .before .if1 .left)) (o .one-step .ensures _ _) (at-test o .loop-test .taken) _ _ _ (c .before .before .before .before .before .before .before .before .before .before .before .before .progress2 .given .1) nowhere)
+    sym (at-loop o .loop .inv .2 ∙ turn-nowhere (turned o) _ _ _ asked nowhere)
 
 due-requires : tie.Need-due-requires Inv-loop μ-loop
 due-requires c κs = c .before .before .before .before .before .before .before .before .before .before .before .before .before .before .before .before .before .before .before .before .before .before .before .before .before .before .before .before .if1 .left
@@ -159,24 +172,32 @@ enum-known-to : tie.Need-enum-known-to Inv-loop μ-loop
 enum-known-to c = search needs
 
 add-steps-2 : tie.Need-add-steps-2 Inv-loop μ-loop
-add-steps-2 c = omega (arith, at-test (c .before .before .before .before .before .before .before .before .before .before .before .before .before .before .before .before .before .before .before .before .before .before .before .before .before .before .before .before) .loop-test .taken, at-start (c .before .before .before .before .before .before .before .before .before .before .before .before .before .before .before .before .before .before .before .before .before .before .before .before .before .before .before .before) .fits .allowance)
+add-steps-2 c =
+    let o = c .before .before .before .before .before .before .before .before .before .before .before .before .before .before .before .before .before .before .before .before .before .before .before .before .before .before .before .before in
+    omega (arith, at-test o .loop-test .taken, at-start o .fits .allowance)
 
 loop-less-2 : tie.Need-loop-less-2 Inv-loop μ-loop
-loop-less-2 c = omega (arith, at-test (c .before .before .before .before .before .before .before .before .before .before .before .before .before .before .before .before .before .before .before .before .before .before .before .before .before .before .before .before) .loop-test .taken)
+loop-less-2 c =
+    let o = c .before .before .before .before .before .before .before .before .before .before .before .before .before .before .before .before .before .before .before .before .before .before .before .before .before .before .before .before in
+    omega (arith, at-test o .loop-test .taken)
 
 loop-again-2 : tie.Need-loop-again-2 Inv-loop μ-loop
 loop-again-2 c =
     let o = c .before .before .before .before .before .before .before .before .before .before .before .before .before .before .before .before .before .before .before .before .before .before .before .before .before .before .before .before in
-    let done = c .before .before .before .before .before .before .access-at in
+    let asked = c .before .before .before .before .before .before .before .before .before .before .before .before .before .before .before .before .before .before .before .before .before .before .before .before .before .progress2 .given .1 in
     let at = sym (c .before .before .before .before .before .before .before .before .before .before .before .before .before .before .before .locate-access .ensures) ∙ c .before .before .before .before .before .before .before .before .before .before .before .before .before .located .given .1 in
+    let done = c .before .before .before .before .before .before .access-at in
     let to = sym (c .before .before .before .due .ensures) ∙ c .before .to .given .1 in
-    (omega (arith, at-test o .loop-test .taken), done .kept .1 .1 .0 ∙ at-loop o .loop .inv .1, at-loop o .loop .inv .2 ∙ turn-moved (setting (at-start o)) _ _ (state (at-loop o)) _ (o .one-step .result) _ _ _ (array-has (now (at-start o .args .words)) (o .before .before .before .before .before .before .before .before .before .read-all .result) (at-loop o .loop .control .at .0) _ (o .before .before .before .before .before .before .before .before .before .read-all .ensures) (o .before .before .before .before .if1 .left)) (o .one-step .ensures _ _) (at-test o .loop-test .taken) _ _ _ (c .before .before .before .before .before .before .before .before .before .before .before .before .before .before .before .before .before .before .before .before .before .before .before .before .before .progress2 .given .1) _ _ _ _ at (done .ensures (o .one-step .result .codes)) to)
+    let run = at-loop o .loop .inv .2 ∙ turn-moved (turned o) _ _ _ asked _ _ _ _ at (done .ensures (o .one-step .result .codes)) to in
+    (omega (arith, at-test o .loop-test .taken), done .kept .1 .1 .0 ∙ at-loop o .loop .inv .1, run)
 
 enum-told-4 : tie.Need-enum-told-4 Inv-loop μ-loop
 enum-told-4 c = search needs
 
 add-t59 : tie.Need-add-t59 Inv-loop μ-loop
-add-t59 c = omega (arith, at-test (c .before .before .before .before .before .before .before .before .before .before .before .before .before .before .before .before .before .before .before .before .before .before .before .before .before .before .before) .loop-test .taken, at-start (c .before .before .before .before .before .before .before .before .before .before .before .before .before .before .before .before .before .before .before .before .before .before .before .before .before .before .before) .fits .allowance)
+add-t59 c =
+    let o = c .before .before .before .before .before .before .before .before .before .before .before .before .before .before .before .before .before .before .before .before .before .before .before .before .before .before .before in
+    omega (arith, at-test o .loop-test .taken, at-start o .fits .allowance)
 
 same-length-5 : tie.Need-same-length-5 Inv-loop μ-loop
 same-length-5 c = c .before .before .before .before .before .access-at .kept .1 .1 .0 ∙ at-loop (c .before .before .before .before .before .before .before .before .before .before .before .before .before .before .before .before .before .before .before .before .before .before .before .before .before .before .before) .loop .inv .1
@@ -184,10 +205,11 @@ same-length-5 c = c .before .before .before .before .before .access-at .kept .1 
 returns-5 : tie.Need-returns-5 Inv-loop μ-loop
 returns-5 c =
     let o = c .before .before .before .before .before .before .before .before .before .before .before .before .before .before .before .before .before .before .before .before .before .before .before .before .before .before .before in
-    let done = c .before .before .before .before .before .access-at in
+    let asked = c .before .before .before .before .before .before .before .before .before .before .before .before .before .before .before .before .before .before .before .before .before .before .before .before .progress2 .given .1 in
     let at = sym (c .before .before .before .before .before .before .before .before .before .before .before .before .before .before .locate-access .ensures) ∙ c .before .before .before .before .before .before .before .before .before .before .before .before .located .given .1 in
+    let done = c .before .before .before .before .before .access-at in
     let to = sym (c .before .before .due .ensures) ∙ c .enum-told4 .given .1 in
-    sym (at-loop o .loop .inv .2 ∙ turn-moved (setting (at-start o)) _ _ (state (at-loop o)) _ (o .one-step .result) _ _ _ (array-has (now (at-start o .args .words)) (o .before .before .before .before .before .before .before .before .before .read-all .result) (at-loop o .loop .control .at .0) _ (o .before .before .before .before .before .before .before .before .before .read-all .ensures) (o .before .before .before .before .if1 .left)) (o .one-step .ensures _ _) (at-test o .loop-test .taken) _ _ _ (c .before .before .before .before .before .before .before .before .before .before .before .before .before .before .before .before .before .before .before .before .before .before .before .before .progress2 .given .1) _ _ _ _ at (done .ensures (o .one-step .result .codes)) to)
+    sym (at-loop o .loop .inv .2 ∙ turn-moved (turned o) _ _ _ asked _ _ _ _ at (done .ensures (o .one-step .result .codes)) to)
 
 same-length-6 : tie.Need-same-length-6 Inv-loop μ-loop
 same-length-6 c = search needs

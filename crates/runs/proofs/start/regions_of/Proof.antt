@@ -5,55 +5,55 @@ use Rattle.runs.proofs.start.regions_of.Statement.{statement}
 use Rattle.runs.proofs.start.regions_of.Tie as tie
 
 abbrev Inv-loop : tie.InvT-loop
-Inv-loop numbers policy₀ r₀ policy r = r ≤ 8
+Inv-loop numbers empty regions₀ r₀ regions r = r ≤ 8
 
 abbrev μ-loop : tie.MeasureT-loop
-μ-loop numbers policy₀ r₀ policy r = 8 - r
+μ-loop numbers empty regions₀ r₀ regions r = 8 - r
 
 empty-requires : tie.Need-empty-requires Inv-loop μ-loop
 empty-requires c κs = search needs
 
-element-copy-out-policy : tie.Need-element-copy-out-policy Inv-loop μ-loop
-element-copy-out-policy c = search needs
+element-copy-out-regions : tie.Need-element-copy-out-regions Inv-loop μ-loop
+element-copy-out-regions c = search needs
 
-cast-policy : tie.Need-cast-policy Inv-loop μ-loop
-cast-policy c = search needs
+cast-regions : tie.Need-cast-regions Inv-loop μ-loop
+cast-regions c = search needs
 
 loop-holds : tie.Need-loop-holds Inv-loop μ-loop
 loop-holds c = search needs
 
-add-policy : tie.Need-add-policy Inv-loop μ-loop
-add-policy c = search needs
+add-regions : tie.Need-add-regions Inv-loop μ-loop
+add-regions c = search needs
 
-mul-policy : tie.Need-mul-policy Inv-loop μ-loop
-mul-policy c = search needs
+mul-regions : tie.Need-mul-regions Inv-loop μ-loop
+mul-regions c = search needs
 
-element-copy-out-policy-2 : tie.Need-element-copy-out-policy-2 Inv-loop μ-loop
-element-copy-out-policy-2 c = search needs
+element-copy-out-regions-2 : tie.Need-element-copy-out-regions-2 Inv-loop μ-loop
+element-copy-out-regions-2 c = search needs
 
-cast-policy-2 : tie.Need-cast-policy-2 Inv-loop μ-loop
-cast-policy-2 c = search needs
+cast-regions-2 : tie.Need-cast-regions-2 Inv-loop μ-loop
+cast-regions-2 c = search needs
 
-mul-policy-2 : tie.Need-mul-policy-2 Inv-loop μ-loop
-mul-policy-2 c = search needs
+mul-regions-2 : tie.Need-mul-regions-2 Inv-loop μ-loop
+mul-regions-2 c = search needs
 
-element-write-policy : tie.Need-element-write-policy Inv-loop μ-loop
-element-write-policy c = search needs
+element-write-regions : tie.Need-element-write-regions Inv-loop μ-loop
+element-write-regions c = search needs
 
-add-policy-2 : tie.Need-add-policy-2 Inv-loop μ-loop
-add-policy-2 c = search needs
+add-regions-2 : tie.Need-add-regions-2 Inv-loop μ-loop
+add-regions-2 c = search needs
 
-mul-policy-3 : tie.Need-mul-policy-3 Inv-loop μ-loop
-mul-policy-3 c = search needs
+mul-regions-3 : tie.Need-mul-regions-3 Inv-loop μ-loop
+mul-regions-3 c = search needs
 
-element-copy-out-policy-3 : tie.Need-element-copy-out-policy-3 Inv-loop μ-loop
-element-copy-out-policy-3 c = search needs
+element-copy-out-regions-3 : tie.Need-element-copy-out-regions-3 Inv-loop μ-loop
+element-copy-out-regions-3 c = search needs
 
-cast-policy-3 : tie.Need-cast-policy-3 Inv-loop μ-loop
-cast-policy-3 c = search needs
+cast-regions-3 : tie.Need-cast-regions-3 Inv-loop μ-loop
+cast-regions-3 c = search needs
 
-element-write-policy-2 : tie.Need-element-write-policy-2 Inv-loop μ-loop
-element-write-policy-2 c = search needs
+element-write-regions-2 : tie.Need-element-write-regions-2 Inv-loop μ-loop
+element-write-regions-2 c = search needs
 
 add-r : tie.Need-add-r Inv-loop μ-loop
 add-r c = search needs
@@ -74,20 +74,20 @@ regions-of-spec =
     Inv-loop
     μ-loop
     empty-requires
-    element-copy-out-policy
-    cast-policy
+    element-copy-out-regions
+    cast-regions
     loop-holds
-    add-policy
-    mul-policy
-    element-copy-out-policy-2
-    cast-policy-2
-    mul-policy-2
-    element-write-policy
-    add-policy-2
-    mul-policy-3
-    element-copy-out-policy-3
-    cast-policy-3
-    element-write-policy-2
+    add-regions
+    mul-regions
+    element-copy-out-regions-2
+    cast-regions-2
+    mul-regions-2
+    element-write-regions
+    add-regions-2
+    mul-regions-3
+    element-copy-out-regions-3
+    cast-regions-3
+    element-write-regions-2
     add-r
     loop-less
     loop-again

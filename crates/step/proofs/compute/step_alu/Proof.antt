@@ -17,7 +17,9 @@ stop-requires c κs = search needs
 
 returns : tie.Need-returns
 returns c = λ l memory.
-    let unset = rw (c .before .before .before .before .before .before .before .register .ensures, c .before .before .before .before .operand .ensures) at (not-true (c .before .before .before .before .before .before .before .register .result .set && c .before .before .before .before .operand .result .set) (c .before .if1 .taken)) in
+    let register = c .before .before .before .before .before .before .before .register in
+    let operand = c .before .before .before .before .operand in
+    let unset = rw (register .ensures, operand .ensures) at (not-true (register .result .set && operand .result .set) (c .before .if1 .taken)) in
     rw (c .stop .ensures, unset)
 
 alu-requires : tie.Need-alu-requires
@@ -34,17 +36,26 @@ move-on-requires c κs = search needs
 
 returns-2 : tie.Need-returns-2
 returns-2 c = λ l memory.
-    let ready = rw (c .before .before .before .before .before .before .before .before .before .before .before .before .before .register .ensures, c .before .before .before .before .before .before .before .before .before .before .operand .ensures) at (not-false (c .before .before .before .before .before .before .before .before .before .before .before .before .before .register .result .set && c .before .before .before .before .before .before .before .before .before .before .operand .result .set) (c .before .before .before .before .before .before .before .if1 .left)) in
-    let codes = rw (c .before .before .before .before .before .before .before .before .before .before .operand .ensures, c .before .before .before .before .before .before .before .before .before .before .before .before .before .register .ensures) at (c .before .codes-of .ensures) in
-    rw (ready, c .before .before .if2 .taken, c .before .before .before .write .ensures .0, c .before .before .before .write .ensures .1, c .before .before .before .before .alu .ensures, c .before .before .before .before .before .before .before .before .before .before .operand .ensures, c .before .before .before .before .before .before .before .before .before .before .before .before .before .register .ensures, ← codes) (arrived l _ _ _ _ (c .move-on .ensures) _ _ memory _)
+    let register = c .before .before .before .before .before .before .before .before .before .before .before .before .before .register in
+    let operand = c .before .before .before .before .before .before .before .before .before .before .operand in
+    let test = c .before .before .before .before .before .before .before .if1 in
+    let alu = c .before .before .before .before .alu in
+    let write = c .before .before .before .write in
+    let ready = rw (register .ensures, operand .ensures) at (not-false (register .result .set && operand .result .set) (test .left)) in
+    let codes = rw (operand .ensures, register .ensures) at (c .before .codes-of .ensures) in
+    rw (ready, c .before .before .if2 .taken, write .ensures .0, write .ensures .1, alu .ensures, operand .ensures, register .ensures, ← codes) (arrived l _ _ _ _ (c .move-on .ensures) _ _ memory _)
 
 move-on-requires-2 : tie.Need-move-on-requires-2
 move-on-requires-2 c κs = search needs
 
 returns-3 : tie.Need-returns-3
 returns-3 c = λ l memory.
-    let ready = rw (c .before .before .before .before .before .before .before .before .before .before .before .before .register .ensures, c .before .before .before .before .before .before .before .before .before .operand .ensures) at (not-false (c .before .before .before .before .before .before .before .before .before .before .before .before .register .result .set && c .before .before .before .before .before .before .before .before .before .operand .result .set) (c .before .before .before .before .before .before .if1 .left)) in
-    rw (ready, c .before .if2 .left, c .before .before .write .ensures .0, c .before .before .write .ensures .1, c .before .before .before .alu .ensures, c .before .before .before .before .before .before .before .before .before .operand .ensures, c .before .before .before .before .before .before .before .before .before .before .before .before .register .ensures) (arrived l _ _ _ _ (c .move-on2 .ensures) _ _ memory _)
+    let register = c .before .before .before .before .before .before .before .before .before .before .before .before .register in
+    let operand = c .before .before .before .before .before .before .before .before .before .operand in
+    let test = c .before .before .before .before .before .before .if1 in
+    let alu = c .before .before .before .alu in
+    let ready = rw (register .ensures, operand .ensures) at (not-false (register .result .set && operand .result .set) (test .left)) in
+    rw (ready, c .before .if2 .left, c .before .before .write .ensures .0, c .before .before .write .ensures .1, alu .ensures, operand .ensures, register .ensures) (arrived l _ _ _ _ (c .move-on2 .ensures) _ _ memory _)
 
 pub step-alu-spec : {M : Type 1} → statement M
 step-alu-spec =

@@ -17,7 +17,9 @@ stop-requires c κs = search needs
 
 returns : tie.Need-returns
 returns c = λ l memory.
-    let unset = rw (c .before .before .before .before .before .before .before .register .ensures, c .before .before .before .before .operand .ensures) at (not-true (c .before .before .before .before .before .before .before .register .result .set && c .before .before .before .before .operand .result .set) (c .before .if1 .taken)) in
+    let register = c .before .before .before .before .before .before .before .register in
+    let operand = c .before .before .before .before .operand in
+    let unset = rw (register .ensures, operand .ensures) at (not-true (register .result .set && operand .result .set) (c .before .if1 .taken)) in
     rw (c .stop .ensures, unset)
 
 shift-requires : tie.Need-shift-requires
@@ -31,8 +33,11 @@ move-on-requires c κs = search needs
 
 returns-2 : tie.Need-returns-2
 returns-2 c = λ l memory.
-    let ready = rw (c .before .before .before .before .before .before .before .before .before .before .before .register .ensures, c .before .before .before .before .before .before .before .before .operand .ensures) at (not-false (c .before .before .before .before .before .before .before .before .before .before .before .register .result .set && c .before .before .before .before .before .before .before .before .operand .result .set) (c .before .before .before .before .before .if1 .left)) in
-    rw (ready, c .before .write .ensures .0, c .before .write .ensures .1, c .before .before .shift .ensures, c .before .before .before .before .before .before .before .before .operand .ensures, c .before .before .before .before .before .before .before .before .before .before .before .register .ensures) (arrived l _ _ _ _ (c .move-on .ensures) _ _ memory _)
+    let register = c .before .before .before .before .before .before .before .before .before .before .before .register in
+    let operand = c .before .before .before .before .before .before .before .before .operand in
+    let test = c .before .before .before .before .before .if1 in
+    let ready = rw (register .ensures, operand .ensures) at (not-false (register .result .set && operand .result .set) (test .left)) in
+    rw (ready, c .before .write .ensures .0, c .before .write .ensures .1, c .before .before .shift .ensures, operand .ensures, register .ensures) (arrived l _ _ _ _ (c .move-on .ensures) _ _ memory _)
 
 pub step-shift-spec : {M : Type 1} → statement M
 step-shift-spec =

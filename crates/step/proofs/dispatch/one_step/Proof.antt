@@ -45,7 +45,10 @@ stop-requires : tie.Need-stop-requires
 stop-requires c κs = search needs
 
 returns : tie.Need-returns
-returns c = λ l memory. rw (c .before .before .before .before .before .before .before .x .given .1, c .before .before .before .before .instruction2 .given .1, ← c .before .before .in-slot .ensures, c .before .if1 .taken, c .stop .ensures)
+returns c = λ l memory.
+    let x = c .before .before .before .before .before .before .before .x in
+    let instruction2 = c .before .before .before .before .instruction2 in
+    rw (x .given .1, instruction2 .given .1, ← c .before .before .in-slot .ensures, c .before .if1 .taken, c .stop .ensures)
 
 branch-requires : tie.Need-branch-requires
 branch-requires c κs = search needs
@@ -60,7 +63,10 @@ stop-requires-2 : tie.Need-stop-requires-2
 stop-requires-2 c κs = search needs
 
 returns-2 : tie.Need-returns-2
-returns-2 c = λ l memory. rw (c .before .before .before .before .before .before .x .given .1, c .before .before .before .enum-told .given .1, ← c .before .before .in-slot2 .ensures, c .before .if2 .taken, c .stop2 .ensures)
+returns-2 c = λ l memory.
+    let x = c .before .before .before .before .before .before .x in
+    let enum-told = c .before .before .before .enum-told in
+    rw (x .given .1, enum-told .given .1, ← c .before .before .in-slot2 .ensures, c .before .if2 .taken, c .stop2 .ensures)
 
 leave-requires : tie.Need-leave-requires
 leave-requires c κs = search needs
@@ -72,22 +78,50 @@ stop-requires-3 : tie.Need-stop-requires-3
 stop-requires-3 c κs = search needs
 
 returns-3 : tie.Need-returns-3
-returns-3 c = λ l memory. rw (c .before .before .before .before .before .before .before .before .before .before .x .given .1, c .before .before .before .before .before .before .before .instruction .given .1, and-false (inSlot (c .before .before .before .before .before .before .before .before .before .before .before .before .args .control .pending)), c .before .before .before .before .operation .given .1) (c .step-sethi .ensures l memory)
+returns-3 c = λ l memory.
+    let start = c .before .before .before .before .before .before .before .before .before .before .before .before in
+    let x = c .before .before .before .before .before .before .before .before .before .before .x in
+    let instruction = c .before .before .before .before .before .before .before .instruction in
+    let operation = c .before .before .before .before .operation in
+    rw (x .given .1, instruction .given .1, and-false (inSlot (start .args .control .pending)), operation .given .1) (c .step-sethi .ensures l memory)
 
 returns-4 : tie.Need-returns-4
-returns-4 c = λ l memory. rw (c .before .before .before .before .before .before .before .before .before .before .x .given .1, c .before .before .before .before .before .before .before .instruction .given .1, and-false (inSlot (c .before .before .before .before .before .before .before .before .before .before .before .before .args .control .pending)), c .before .before .before .before .operation2 .given .1) (c .step-alu .ensures l memory)
+returns-4 c = λ l memory.
+    let start = c .before .before .before .before .before .before .before .before .before .before .before .before in
+    let x = c .before .before .before .before .before .before .before .before .before .before .x in
+    let instruction = c .before .before .before .before .before .before .before .instruction in
+    let operation2 = c .before .before .before .before .operation2 in
+    rw (x .given .1, instruction .given .1, and-false (inSlot (start .args .control .pending)), operation2 .given .1) (c .step-alu .ensures l memory)
 
 returns-5 : tie.Need-returns-5
-returns-5 c = λ l memory. rw (c .before .before .before .before .before .before .before .before .before .before .x .given .1, c .before .before .before .before .before .before .before .instruction .given .1, and-false (inSlot (c .before .before .before .before .before .before .before .before .before .before .before .before .args .control .pending)), c .before .before .before .before .operation3 .given .1) (c .step-shift .ensures l memory)
+returns-5 c = λ l memory.
+    let start = c .before .before .before .before .before .before .before .before .before .before .before .before in
+    let x = c .before .before .before .before .before .before .before .before .before .before .x in
+    let instruction = c .before .before .before .before .before .before .before .instruction in
+    let operation3 = c .before .before .before .before .operation3 in
+    rw (x .given .1, instruction .given .1, and-false (inSlot (start .args .control .pending)), operation3 .given .1) (c .step-shift .ensures l memory)
 
 returns-6 : tie.Need-returns-6
-returns-6 c = λ l memory. rw (c .before .before .before .before .before .before .before .before .before .before .x .given .1, c .before .before .before .before .before .before .before .instruction .given .1, and-false (inSlot (c .before .before .before .before .before .before .before .before .before .before .before .before .args .control .pending)), c .before .before .before .before .operation4 .given .1) (c .step-access .ensures l memory)
+returns-6 c = λ l memory.
+    let start = c .before .before .before .before .before .before .before .before .before .before .before .before in
+    let x = c .before .before .before .before .before .before .before .before .before .before .x in
+    let instruction = c .before .before .before .before .before .before .before .instruction in
+    let operation4 = c .before .before .before .before .operation4 in
+    rw (x .given .1, instruction .given .1, and-false (inSlot (start .args .control .pending)), operation4 .given .1) (c .step-access .ensures l memory)
 
 returns-7 : tie.Need-returns-7
-returns-7 c = λ l memory. rw (c .before .before .before .before .before .before .before .x .given .1, c .before .before .before .before .instruction2 .given .1, ← c .before .before .in-slot .ensures, c .before .if1 .left) (c .branch .ensures _ _ l memory)
+returns-7 c = λ l memory.
+    let x = c .before .before .before .before .before .before .before .x in
+    let instruction2 = c .before .before .before .before .instruction2 in
+    rw (x .given .1, instruction2 .given .1, ← c .before .before .in-slot .ensures, c .before .if1 .left) (c .branch .ensures _ _ l memory)
 
 returns-8 : tie.Need-returns-8
-returns-8 c = λ l memory. rw (c .before .before .before .before .before .before .before .before .x .given .1, c .before .before .before .before .before .enum-told .given .1, ← c .before .before .before .before .in-slot2 .ensures, c .before .before .before .if2 .left) (c .leave .ensures l memory)
+returns-8 c = λ l memory.
+    let x = c .before .before .before .before .before .before .before .before .x in
+    let enum-told = c .before .before .before .before .before .enum-told in
+    let in-slot2 = c .before .before .before .before .in-slot2 in
+    let test2 = c .before .before .before .if2 in
+    rw (x .given .1, enum-told .given .1, ← in-slot2 .ensures, test2 .left) (c .leave .ensures l memory)
 
 returns-9 : tie.Need-returns-9
 returns-9 c = λ l memory. rw (c .before .enum-told2 .given .1, c .stop3 .ensures)

@@ -17,7 +17,12 @@ operand-requires c κs = search needs
 
 returns : tie.Need-returns
 unfolding aimIn
-returns c = let unset = rw (c .before .before .before .before .before .register .ensures, c .before .before .before .operand .ensures, c .before .before .before .before .addend-of .ensures) at (not-true (c .before .before .before .before .before .register .result .set && c .before .before .before .operand .result .set && c .before .before .before .before .before .before .args .others) (c .if1 .taken)) in rw unset
+returns c =
+    let start = c .before .before .before .before .before .before in
+    let register = c .before .before .before .before .before .register in
+    let addend-of = c .before .before .before .before .addend-of in
+    let operand = c .before .before .before .operand in
+    let unset = rw (register .ensures, operand .ensures, addend-of .ensures) at (not-true (register .result .set && operand .result .set && start .args .others) (c .if1 .taken)) in rw unset
 
 sum-requires : tie.Need-sum-requires
 sum-requires c κs = search needs
@@ -27,14 +32,24 @@ rem-if2 c = search needs
 
 returns-2 : tie.Need-returns-2
 unfolding aimIn
-returns-2 c = let ready = rw (c .before .before .before .before .before .before .before .register .ensures, c .before .before .before .before .before .operand .ensures, c .before .before .before .before .before .before .addend-of .ensures) at (not-false (c .before .before .before .before .before .before .before .register .result .set && c .before .before .before .before .before .operand .result .set && c .before .before .before .before .before .before .before .before .args .others) (c .before .before .if1 .left)) in
-    let address = rw (c .before .before .before .before .before .before .before .register .ensures, c .before .before .before .before .before .operand .ensures, c .before .before .before .before .before .before .addend-of .ensures) at (c .before .sum .ensures) in
+returns-2 c =
+    let start = c .before .before .before .before .before .before .before .before in
+    let register = c .before .before .before .before .before .before .before .register in
+    let addend-of = c .before .before .before .before .before .before .addend-of in
+    let operand = c .before .before .before .before .before .operand in
+    let ready = rw (register .ensures, operand .ensures, addend-of .ensures) at (not-false (register .result .set && operand .result .set && start .args .others) (c .before .before .if1 .left)) in
+    let address = rw (register .ensures, operand .ensures, addend-of .ensures) at (c .before .sum .ensures) in
     rw (ready, ← address, eq-eqb _ 0 (c .if2 .taken))
 
 returns-3 : tie.Need-returns-3
 unfolding aimIn
-returns-3 c = let ready = rw (c .before .before .before .before .before .before .before .register .ensures, c .before .before .before .before .before .operand .ensures, c .before .before .before .before .before .before .addend-of .ensures) at (not-false (c .before .before .before .before .before .before .before .register .result .set && c .before .before .before .before .before .operand .result .set && c .before .before .before .before .before .before .before .before .args .others) (c .before .before .if1 .left)) in
-    let address = rw (c .before .before .before .before .before .before .before .register .ensures, c .before .before .before .before .before .operand .ensures, c .before .before .before .before .before .before .addend-of .ensures) at (c .before .sum .ensures) in
+returns-3 c =
+    let start = c .before .before .before .before .before .before .before .before in
+    let register = c .before .before .before .before .before .before .before .register in
+    let addend-of = c .before .before .before .before .before .before .addend-of in
+    let operand = c .before .before .before .before .before .operand in
+    let ready = rw (register .ensures, operand .ensures, addend-of .ensures) at (not-false (register .result .set && operand .result .set && start .args .others) (c .before .before .if1 .left)) in
+    let address = rw (register .ensures, operand .ensures, addend-of .ensures) at (c .before .sum .ensures) in
     rw (ready, ← address, ne-eqb _ 0 (c .if2 .left))
 
 pub aim-spec : {M : Type 1} → statement M

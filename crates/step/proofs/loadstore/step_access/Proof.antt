@@ -22,10 +22,18 @@ stop-requires : tie.Need-stop-requires
 stop-requires c κs = search needs
 
 returns : tie.Need-returns
-returns c = λ l memory. rw (← c .before .before .before .before .before .width-of .ensures .0, ← c .before .before .before .before .moved-set .ensures, ← c .before .before .before .aim .ensures, c .before .address .given .1)
+returns c = λ l memory.
+    let width-of = c .before .before .before .before .before .width-of in
+    let moved-set = c .before .before .before .before .moved-set in
+    let aim = c .before .before .before .aim in
+    rw (← width-of .ensures .0, ← moved-set .ensures, ← aim .ensures, c .before .address .given .1)
 
 returns-2 : tie.Need-returns-2
-returns-2 c = λ l memory. rw (← c .before .before .before .before .before .before .width-of .ensures .0, ← c .before .before .before .before .before .moved-set .ensures, ← c .before .before .before .before .aim .ensures, c .before .before .n .given .1) (rw (c .stop .ensures))
+returns-2 c = λ l memory.
+    let width-of = c .before .before .before .before .before .before .width-of in
+    let moved-set = c .before .before .before .before .before .moved-set in
+    let aim = c .before .before .before .before .aim in
+    rw (← width-of .ensures .0, ← moved-set .ensures, ← aim .ensures, c .before .before .n .given .1) (rw (c .stop .ensures))
 
 pub step-access-spec : {M : Type 1} → statement M
 step-access-spec =

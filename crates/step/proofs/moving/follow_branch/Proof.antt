@@ -13,7 +13,9 @@ add-t9 : tie.Need-add-t9
 add-t9 c = search needs
 
 returns : tie.Need-returns
-returns c = λ values marks l memory. rw (← c .before .before .slot-runs .ensures, c .before .if1 .taken, c .before .before .before .landing-of .ensures)
+returns c = λ values marks l memory.
+    let landing-of = c .before .before .before .landing-of in
+    rw (← c .before .before .slot-runs .ensures, c .before .if1 .taken, landing-of .ensures)
 
 returns-2 : tie.Need-returns-2
 returns-2 c = λ values marks l memory. rw (← c .before .slot-runs .ensures, c .if1 .left, c .before .before .landing-of .ensures)

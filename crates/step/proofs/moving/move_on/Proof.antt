@@ -15,7 +15,9 @@ enum-told c = search needs
 
 returns : tie.Need-returns
 unfolding arriving
-returns c = rw (← c .before .before .before .due .ensures, c .before .to .given .1)
+returns c =
+    let due = c .before .before .before .due in
+    rw (← due .ensures, c .before .to .given .1)
 
 returns-2 : tie.Need-returns-2
 unfolding arriving
