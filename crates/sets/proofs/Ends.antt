@@ -9,9 +9,9 @@ use native.Mathlib.Nat.{zero-mod}
 use lib.Dec.{ltb, leb, eqb}
 use borrow.Author.Tests.{ltb-false, leb-false, eqb-true, eqb-false}
 use Rattle.v8.specs.Choice.{cond-both}
-use Rattle.v8.specs.Signed.{excess}
-use Rattle.sets.specs.Sets.{numbers, single, full, ended, Step, s1, s8, SetRules, Member}
-use Rattle.sets.specs.Rules.{within}
+use Rattle.v8.specs.Signed.{excess, bias}
+use Rattle.sets.specs.Sets.{modulus, numbers, single, full, ended, Step, s1, s8, SetRules, Member}
+use Rattle.sets.specs.Rules.{lowest, beyond, within}
 use Rattle.sets.specs.declared.NumberSet.{NumberSet}
 use Rattle.sets.proofs.Steps.{difference-on}
 
@@ -25,13 +25,13 @@ from-top s n r m = rw (rest (m .low)) (difference-on (r .steps) _ _ (r .even) (m
 pub full-formed : SetRules full
 full-formed = record { steps = s1; order = omega arith; top = omega arith; even = omega arith; single = λ e. absurd (apart e) }
   where
-    apart : _≡_ {A = ℕ} 0 4294967295 → ⊥
+    apart : _≡_ {A = ℕ} 0 (modulus - 1) → ⊥
     apart e = omega arith
 
 pub full-holds : (x : ℕ) → Member full (excess x)
 full-holds x = omega arith
 
-pub single-formed : (n : ℕ) → n < 4294967296 → SetRules (single n)
+pub single-formed : (n : ℕ) → n < modulus → SetRules (single n)
 single-formed n h = record { steps = s8; order = omega arith; top = h; even = omega arith; single = λ _. refl }
 
 pub single-holds : (n : ℕ) → Member (single n) n
@@ -42,7 +42,7 @@ ended-both : (P : NumberSet → Type 0) (s l h : ℕ) → (l ≡ h → P (single
 unfolding ended
 ended-both P s l h f g = cond-both P (eqb l h) (λ e. f (eqb-true l h e)) (λ e. g (eqb-false l h e))
 
-pub ended-formed : (s l h : ℕ) → Step s → l ≤ h → h < 4294967296 → (h - l) % s ≡ 0 → SetRules (ended s l h)
+pub ended-formed : (s l h : ℕ) → Step s → l ≤ h → h < modulus → (h - l) % s ≡ 0 → SetRules (ended s l h)
 ended-formed s l h p k t g =
     ended-both SetRules s l h
     (λ e. single-formed l (omega arith))
@@ -75,18 +75,18 @@ neither false b e = (refl, e)
 
 -- what is so of the full set, and of the numbers where both ends are in the signed 32 bits, is so of a set with these ends
 pub within-both : (P : NumberSet → Type 0) (s l h : ℕ) → P full
-    → (2147483648 ≤ l → h < 6442450944 → P (numbers s (l - 2147483648) (h - 2147483648))) → P (within s l h)
+    → (lowest ≤ l → h < beyond → P (numbers s (l - lowest) (h - lowest))) → P (within s l h)
 unfolding within
 within-both P s l h f g =
     cond-both P _ (λ _. f)
     (λ e.
-    let a = neither _ (leb 6442450944 h) e in
-    let b = neither _ (leb 6442450944 l) (a .0) in
-    let c = neither (ltb l 2147483648) (ltb h 2147483648) (b .0) in
-    g (ltb-false l 2147483648 (c .0)) (leb-false 6442450944 h (a .1)))
+    let a = neither _ (leb beyond h) e in
+    let b = neither _ (leb beyond l) (a .0) in
+    let c = neither (ltb l lowest) (ltb h lowest) (b .0) in
+    g (ltb-false l lowest (c .0)) (leb-false beyond h (a .1)))
 
 -- 2^31 less on both sides of a distance
-less : (l n : ℕ) → 2147483648 ≤ l → n - 2147483648 - (l - 2147483648) ≡ n - l
+less : (l n : ℕ) → lowest ≤ l → n - lowest - (l - lowest) ≡ n - l
 less l n a = omega arith
 
 pub within-formed : (s l h : ℕ) → Step s → l ≤ h → (h - l) % s ≡ 0 → (l ≡ h → s ≡ 8) → SetRules (within s l h)
@@ -95,23 +95,23 @@ within-formed s l h p k g one =
     (λ a b. record { steps = p; order = omega arith; top = omega arith; even = rw (less l h a) g; single = λ e. one (omega arith) })
 
 module _ (s l h w : ℕ) (m : Member (numbers s l h) w) where
-  lowered : 2147483648 ≤ l → Member (numbers s (l - 2147483648) (h - 2147483648)) (w - 2147483648)
+  lowered : lowest ≤ l → Member (numbers s (l - lowest) (h - lowest)) (w - lowest)
   lowered a = record { low = omega (arith, m .low); high = omega (arith, m .high); grid = rw (less l w a) (m .grid) }
 
   -- a word whose excess form is w, less 2^31 and modulo 2^32
-  pub within-holds : (x : ℕ) → excess x ≡ (w + 2147483648) % 4294967296 → Member (within s l h) (excess x)
+  pub within-holds : (x : ℕ) → excess x ≡ (w + bias) % modulus → Member (within s l h) (excess x)
   within-holds x e =
       within-both (λ (r : NumberSet). Member r (excess x)) s l h (full-holds x) (λ a b. rw (e, folded a b) (lowered a))
     where
-      folded : 2147483648 ≤ l → h < 6442450944 → (w + 2147483648) % 4294967296 ≡ w - 2147483648
+      folded : lowest ≤ l → h < beyond → (w + bias) % modulus ≡ w - lowest
       folded a b = omega (arith, m .low, m .high)
 
   -- where no number of the set is negative, it is not the full set, and w itself is one of it
-  pub within-positive : 2147483648 ≤ within s l h .lo → (4294967296 ≤ w) × Member (within s l h) (w - 2147483648)
+  pub within-positive : bias ≤ within s l h .lo → (modulus ≤ w) × Member (within s l h) (w - lowest)
   within-positive =
-      within-both (λ (r : NumberSet). 2147483648 ≤ r .lo → (4294967296 ≤ w) × Member r (w - 2147483648)) s l h
+      within-both (λ (r : NumberSet). bias ≤ r .lo → (modulus ≤ w) × Member r (w - lowest)) s l h
       (λ k. absurd (none k))
       (λ a b k. (omega (arith, m .low), lowered a))
     where
-      none : 2147483648 ≤ 0 → ⊥
+      none : bias ≤ 0 → ⊥
       none k = omega arith

@@ -10,7 +10,7 @@ use Rattle.alu.specs.Result.{add32, sub32, aluOf, shiftOf}
 use Rattle.alu.specs.Condition.{compares}
 use Rattle.alu.specs.declared.condition.Narrowing.{Narrowing}
 use Rattle.alu.specs.declared.condition.Narrowing.the-variants.{NotEqualTo}
-use Rattle.sets.specs.Sets.{setOk, fitsSet, SetRules, Member}
+use Rattle.sets.specs.Sets.{modulus, setOk, fitsSet, SetRules, Member}
 use Rattle.sets.specs.Rules.{addSets, subSets, aluSets, shiftSet}
 use Rattle.sets.specs.Narrow.{narrowSet}
 use Rattle.sets.specs.declared.NumberSet.{NumberSet}
@@ -19,7 +19,7 @@ use Rattle.sets.specs.declared.SetLeft.the-variants.{Left, Nothing}
 
 -- The test of form passes the sets that obey the rules ..
 abbrev pub Obeys : Type 0
-Obeys = (s : NumberSet) → s .hi < 4294967296 → setOk s ≡ true → SetRules s
+Obeys = (s : NumberSet) → s .hi < modulus → setOk s ≡ true → SetRules s
 
 -- .. all of them.
 abbrev pub Passes : Type 0
@@ -40,7 +40,7 @@ AluFormed = (op : AluOp) (a b : NumberSet) → SetRules a → SetRules b → Set
 -- .. and has the operation's result on any two of their members.
 abbrev pub AluHolds : Type 0
 AluHolds =
-    (op : AluOp) (a b : NumberSet) (x y : ℕ) → SetRules a → SetRules b → x < 4294967296 → y < 4294967296
+    (op : AluOp) (a b : NumberSet) (x y : ℕ) → SetRules a → SetRules b → x < modulus → y < modulus
     → Member a (excess x) → Member b (excess y) → Member (aluSets op a b) (excess (aluOf op x y))
 
 -- So a shift by a count below 32.
@@ -49,7 +49,7 @@ ShiftFormed = (op : ShiftOp) (a : NumberSet) (s : ℕ) → s < 32 → SetRules a
 
 abbrev pub ShiftHolds : Type 0
 ShiftHolds =
-    (op : ShiftOp) (a : NumberSet) (x s : ℕ) → s < 32 → SetRules a → x < 4294967296
+    (op : ShiftOp) (a : NumberSet) (x s : ℕ) → s < 32 → SetRules a → x < modulus
     → Member a (excess x) → Member (shiftSet op a s) (excess (shiftOf op x s))
 
 -- the offset of an address from a base is one of the set
@@ -60,14 +60,14 @@ pub record Offset (base : ℕ) (s : NumberSet) (address : ℕ) : Type 0 where
 -- An address of a region of this size plus a number, where all the offsets stay in the region: the sum of the words is the sum.
 abbrev pub AddsOffset : Type 0
 AddsOffset =
-    (a b : NumberSet) (base size x y : ℕ) → SetRules a → SetRules b → y < 4294967296 → base + size < 4294967296
+    (a b : NumberSet) (base size x y : ℕ) → SetRules a → SetRules b → y < modulus → base + size < modulus
     → bias ≤ addSets a b .lo → addSets a b .hi ≤ bias + size
     → Offset base a x → Member b (excess y) → Offset base (addSets a b) (add32 x y)
 
 -- An address minus a number, likewise.
 abbrev pub SubsOffset : Type 0
 SubsOffset =
-    (a b : NumberSet) (base size x y : ℕ) → SetRules a → SetRules b → y < 4294967296 → base + size < 4294967296
+    (a b : NumberSet) (base size x y : ℕ) → SetRules a → SetRules b → y < modulus → base + size < modulus
     → bias ≤ subSets a b .lo → subSets a b .hi ≤ bias + size
     → Offset base a x → Member b (excess y) → Offset base (subSets a b) (sub32 x y)
 
