@@ -132,7 +132,7 @@ in-reach : (P : NumberSet → Type 0) (t l h p : ℕ) → P full
 in-reach P t l h p f g =
     elim (decLe (bias * p) (l * p + modulus)) [
       | yes k ↦ g k
-      | no k ↦ within-both P t (l * p + modulus - bias * p) h f (λ q. absurd (out k q))
+      | no k ↦ within-both P t (l * p + modulus - bias * p) h (λ _. f) (λ q _. absurd (out k (q .0)))
     ]
   where
     out : ¬ (bias * p ≤ l * p + modulus) → bias ≤ l * p + modulus - bias * p → ⊥
