@@ -12,7 +12,7 @@ use Rattle.v8.specs.Choice.{cond-both}
 use Rattle.v8.specs.Signed.{excess, bias}
 use Rattle.v8.specs.declared.AluOp.the-variants.{Add, And, Or, Xor, Sub, Andn, Orn, Xnor}
 use Rattle.alu.specs.Result.{add32, sub32}
-use Rattle.sets.specs.Sets.{numbers, ended, s1, SetRules, Member}
+use Rattle.sets.specs.Sets.{modulus, numbers, ended, s1, SetRules, Member}
 use Rattle.sets.specs.Rules.{addSets, subSets, andSets}
 use Rattle.sets.specs.Laws.{AluFormed, AluHolds}
 use Rattle.sets.specs.declared.NumberSet.{NumberSet}
@@ -34,7 +34,7 @@ module _ (a b : NumberSet) (ra : SetRules a) (rb : SetRules b) where
 
   -- so the difference, 2^32 more than it is
   pub difference-between : (m n : ℕ) → Member a m → Member b n
-      → Member (numbers (min (a .step) (b .step)) (a .lo + 4294967296 - b .hi) (a .hi + 4294967296 - b .lo)) (m + 4294967296 - n)
+      → Member (numbers (min (a .step) (b .step)) (a .lo + modulus - b .hi) (a .hi + modulus - b .lo)) (m + modulus - n)
   difference-between m n ma mb =
       record {
         low = omega (arith, ma .low, mb .high);
@@ -44,7 +44,7 @@ module _ (a b : NumberSet) (ra : SetRules a) (rb : SetRules b) where
             (both-on (ra .steps) (rb .steps) _ _ (ma .grid) (from-top b n rb mb));
       }
     where
-      spread : a .lo ≤ m → n ≤ b .hi → b .hi < 4294967296 → m + 4294967296 - n - (a .lo + 4294967296 - b .hi) ≡ (m - a .lo) + (b .hi - n)
+      spread : a .lo ≤ m → n ≤ b .hi → b .hi < modulus → m + modulus - n - (a .lo + modulus - b .hi) ≡ (m - a .lo) + (b .hi - n)
       spread p q t = omega arith
 
   -- where both sets have one member, the smaller step is 8
@@ -68,7 +68,7 @@ module _ (a b : NumberSet) (ra : SetRules a) (rb : SetRules b) where
       (rw apart (both-on (ra .steps) (rb .steps) _ _ (ra .even) (rb .even)))
       (λ e. one-member (omega (arith, ra .order, rb .order, rb .top)))
     where
-      apart : a .hi + 4294967296 - b .lo - (a .lo + 4294967296 - b .hi) ≡ (a .hi - a .lo) + (b .hi - b .lo)
+      apart : a .hi + modulus - b .lo - (a .lo + modulus - b .hi) ≡ (a .hi - a .lo) + (b .hi - b .lo)
       apart = omega (arith, ra .order, rb .order, rb .top)
 
   and-formed : SetRules (andSets a b)
@@ -93,37 +93,37 @@ alu-formed Orn a b ra rb = full-formed
 alu-formed Xnor a b ra rb = full-formed
 
 -- the excess form of a sum and of a difference, which is the sum's solved for one of its terms
-excess-sum : (x y : ℕ) → excess (add32 x y) ≡ (excess x + excess y + 2147483648) % 4294967296
+excess-sum : (x y : ℕ) → excess (add32 x y) ≡ (excess x + excess y + bias) % modulus
 excess-sum x y = omega arith
 
-excess-difference : (x y : ℕ) → x < 4294967296 → y < 4294967296 → excess (sub32 x y) ≡ (excess x + 4294967296 - excess y + 2147483648) % 4294967296
+excess-difference : (x y : ℕ) → x < modulus → y < modulus → excess (sub32 x y) ≡ (excess x + modulus - excess y + bias) % modulus
 excess-difference x y h k =
     solved (excess (sub32 x y)) (excess y) (excess x) (word (sub32 x y)) (word y) (ap excess (sym (back x y h k)) ∙ excess-sum (sub32 x y) y)
   where
-    word : (z : ℕ) → excess z < 4294967296
+    word : (z : ℕ) → excess z < modulus
     word z = omega arith
 
-    back : (x y : ℕ) → x < 4294967296 → y < 4294967296 → add32 (sub32 x y) y ≡ x
+    back : (x y : ℕ) → x < modulus → y < modulus → add32 (sub32 x y) y ≡ x
     back x y h k = omega arith
 
-    solved : (p q r : ℕ) → p < 4294967296 → q < 4294967296 → r ≡ (p + q + 2147483648) % 4294967296 → p ≡ (r + 4294967296 - q + 2147483648) % 4294967296
+    solved : (p q r : ℕ) → p < modulus → q < modulus → r ≡ (p + q + bias) % modulus → p ≡ (r + modulus - q + bias) % modulus
     solved p q r h k e = omega arith
 
 -- a word whose number lies from n on, where n is not negative
-pub positive : (n x : ℕ) → leb bias n ≡ true → x < 4294967296 → n ≤ excess x → (excess x ≡ x + 2147483648) × (x < 2147483648)
+pub positive : (n x : ℕ) → leb bias n ≡ true → x < modulus → n ≤ excess x → (excess x ≡ x + bias) × (x < bias)
 positive n x t h p = of (leb-true bias n t)
   where
-    of : 2147483648 ≤ n → (excess x ≡ x + 2147483648) × (x < 2147483648)
+    of : bias ≤ n → (excess x ≡ x + bias) × (x < bias)
     of q = omega arith
 
 -- a word from 0 to h
-up-to : (h z : ℕ) → z < 2147483648 → z + 2147483648 ≤ h → Member (ended 1 bias h) (excess z)
+up-to : (h z : ℕ) → z < bias → z + bias ≤ h → Member (ended 1 bias h) (excess z)
 up-to h z k p = ended-holds 1 bias h (excess z) (record { low = omega arith; high = rw (small z k) p; grid = mod-one _ })
   where
-    small : (z : ℕ) → z < 2147483648 → excess z ≡ z + 2147483648
+    small : (z : ℕ) → z < bias → excess z ≡ z + bias
     small z k = omega arith
 
-and-holds : (a b : NumberSet) (x y : ℕ) → x < 4294967296 → y < 4294967296
+and-holds : (a b : NumberSet) (x y : ℕ) → x < modulus → y < modulus
     → Member a (excess x) → Member b (excess y) → Member (andSets a b) (excess (bitAnd x y))
 unfolding andSets
 and-holds a b x y hx hy ma mb =
@@ -141,10 +141,10 @@ and-holds a b x y hx hy ma mb =
     Holds : NumberSet → Type 0
     Holds r = Member r (excess (bitAnd x y))
 
-    px : leb bias (a .lo) ≡ true → (excess x ≡ x + 2147483648) × (x < 2147483648)
+    px : leb bias (a .lo) ≡ true → (excess x ≡ x + bias) × (x < bias)
     px p = positive (a .lo) x p hx (ma .low)
 
-    py : leb bias (b .lo) ≡ true → (excess y ≡ y + 2147483648) × (y < 2147483648)
+    py : leb bias (b .lo) ≡ true → (excess y ≡ y + bias) × (y < bias)
     py p = positive (b .lo) y p hy (mb .low)
 
 pub alu-holds : AluHolds

@@ -1,17 +1,17 @@
 -- Sets by their ends: the full set, a set that takes step 8 if one member is left, and a set that is full if an end leaves the signed 32
 -- bits. Each is well formed, and holds the numbers between its ends that lie on its steps.
 use Prim.Native.Nat.{ℕ, _+_, _-_, _%_, _≤_, _<_}
-use mathlib.Core.Path.{_≡_, refl}
+use mathlib.Core.Path.{_≡_, refl, sym, _∙_}
 use mathlib.Core.Bool.{Bool, true, false, _||_, true≢false}
 use mathlib.Core.Logic.{_≢_}
 use native.Mathlib.Omega.{arith}
 use native.Mathlib.Nat.{zero-mod}
 use lib.Dec.{ltb, leb, eqb}
-use borrow.Author.Tests.{ltb-false, leb-false, eqb-true, eqb-false}
+use borrow.Author.Tests.{ltb-false, leb-false, le-ltb, lt-leb, eqb-true, eqb-false}
 use Rattle.v8.specs.Choice.{cond-both}
-use Rattle.v8.specs.Signed.{excess}
-use Rattle.sets.specs.Sets.{numbers, single, full, ended, Step, s1, s8, SetRules, Member}
-use Rattle.sets.specs.Rules.{within}
+use Rattle.v8.specs.Signed.{excess, bias}
+use Rattle.sets.specs.Sets.{modulus, numbers, single, full, ended, Step, s1, s8, SetRules, Member}
+use Rattle.sets.specs.Rules.{lowest, beyond, within}
 use Rattle.sets.specs.declared.NumberSet.{NumberSet}
 use Rattle.sets.proofs.Steps.{difference-on}
 
@@ -25,24 +25,24 @@ from-top s n r m = rw (rest (m .low)) (difference-on (r .steps) _ _ (r .even) (m
 pub full-formed : SetRules full
 full-formed = record { steps = s1; order = omega arith; top = omega arith; even = omega arith; single = λ e. absurd (apart e) }
   where
-    apart : _≡_ {A = ℕ} 0 4294967295 → ⊥
+    apart : _≡_ {A = ℕ} 0 (modulus - 1) → ⊥
     apart e = omega arith
 
 pub full-holds : (x : ℕ) → Member full (excess x)
 full-holds x = omega arith
 
-pub single-formed : (n : ℕ) → n < 4294967296 → SetRules (single n)
+pub single-formed : (n : ℕ) → n < modulus → SetRules (single n)
 single-formed n h = record { steps = s8; order = omega arith; top = h; even = omega arith; single = λ _. refl }
 
 pub single-holds : (n : ℕ) → Member (single n) n
 single-holds n = omega arith
 
 -- what is so of one number and of more is so of a set with these ends
-ended-both : (P : NumberSet → Type 0) (s l h : ℕ) → (l ≡ h → P (single l)) → (l ≢ h → P (numbers s l h)) → P (ended s l h)
+pub ended-both : (P : NumberSet → Type 0) (s l h : ℕ) → (l ≡ h → P (single l)) → (l ≢ h → P (numbers s l h)) → P (ended s l h)
 unfolding ended
 ended-both P s l h f g = cond-both P (eqb l h) (λ e. f (eqb-true l h e)) (λ e. g (eqb-false l h e))
 
-pub ended-formed : (s l h : ℕ) → Step s → l ≤ h → h < 4294967296 → (h - l) % s ≡ 0 → SetRules (ended s l h)
+pub ended-formed : (s l h : ℕ) → Step s → l ≤ h → h < modulus → (h - l) % s ≡ 0 → SetRules (ended s l h)
 ended-formed s l h p k t g =
     ended-both SetRules s l h
     (λ e. single-formed l (omega arith))
@@ -73,45 +73,54 @@ neither : (a b : Bool) → (a || b) ≡ false → (a ≡ false) × (b ≡ false)
 neither true b e = absurd (true≢false e)
 neither false b e = (refl, e)
 
--- what is so of the full set, and of the numbers where both ends are in the signed 32 bits, is so of a set with these ends
-pub within-both : (P : NumberSet → Type 0) (s l h : ℕ) → P full
-    → (2147483648 ≤ l → h < 6442450944 → P (numbers s (l - 2147483648) (h - 2147483648))) → P (within s l h)
+-- a number that is held 2^32 more than it is lies in the signed 32 bits
+abbrev pub Held : ℕ → Type 0
+Held w = (lowest ≤ w) × (w < beyond)
+
+-- what is so of the full set where an end leaves the signed 32 bits, and of the numbers where both stay, is so of a set with these ends
+pub within-both : (P : NumberSet → Type 0) (s l h : ℕ) → ((Held l → Held h → ⊥) → P full)
+    → (Held l → Held h → P (numbers s (l - lowest) (h - lowest))) → P (within s l h)
 unfolding within
 within-both P s l h f g =
-    cond-both P _ (λ _. f)
+    cond-both P _
+    (λ e. f (λ p q. true≢false (sym e ∙ stay p q)))
     (λ e.
-    let a = neither _ (leb 6442450944 h) e in
-    let b = neither _ (leb 6442450944 l) (a .0) in
-    let c = neither (ltb l 2147483648) (ltb h 2147483648) (b .0) in
-    g (ltb-false l 2147483648 (c .0)) (leb-false 6442450944 h (a .1)))
+    let a = neither _ (leb beyond h) e in
+    let b = neither _ (leb beyond l) (a .0) in
+    let c = neither (ltb l lowest) (ltb h lowest) (b .0) in
+    g (ltb-false l lowest (c .0), leb-false beyond l (b .1)) (ltb-false h lowest (c .1), leb-false beyond h (a .1)))
+  where
+    stay : Held l → Held h → (ltb l lowest || ltb h lowest || leb beyond l || leb beyond h) ≡ false
+    stay p q = rw (le-ltb l lowest (p .0), le-ltb h lowest (q .0), lt-leb beyond l (p .1), lt-leb beyond h (q .1))
 
--- 2^31 less on both sides of a distance
-less : (l n : ℕ) → 2147483648 ≤ l → n - 2147483648 - (l - 2147483648) ≡ n - l
+-- as much less on both sides of a distance
+less : (l n : ℕ) → lowest ≤ l → n - lowest - (l - lowest) ≡ n - l
 less l n a = omega arith
 
 pub within-formed : (s l h : ℕ) → Step s → l ≤ h → (h - l) % s ≡ 0 → (l ≡ h → s ≡ 8) → SetRules (within s l h)
 within-formed s l h p k g one =
-    within-both SetRules s l h full-formed
-    (λ a b. record { steps = p; order = omega arith; top = omega arith; even = rw (less l h a) g; single = λ e. one (omega arith) })
+    within-both SetRules s l h (λ _. full-formed)
+    (λ a b. record { steps = p; order = omega arith; top = omega arith; even = rw (less l h (a .0)) g; single = λ e. one (omega arith) })
 
 module _ (s l h w : ℕ) (m : Member (numbers s l h) w) where
-  lowered : 2147483648 ≤ l → Member (numbers s (l - 2147483648) (h - 2147483648)) (w - 2147483648)
+  lowered : lowest ≤ l → Member (numbers s (l - lowest) (h - lowest)) (w - lowest)
   lowered a = record { low = omega (arith, m .low); high = omega (arith, m .high); grid = rw (less l w a) (m .grid) }
 
   -- a word whose excess form is w, less 2^31 and modulo 2^32
-  pub within-holds : (x : ℕ) → excess x ≡ (w + 2147483648) % 4294967296 → Member (within s l h) (excess x)
+  pub within-holds : (x : ℕ) → excess x ≡ (w + bias) % modulus → Member (within s l h) (excess x)
   within-holds x e =
-      within-both (λ (r : NumberSet). Member r (excess x)) s l h (full-holds x) (λ a b. rw (e, folded a b) (lowered a))
+      within-both (λ (r : NumberSet). Member r (excess x)) s l h (λ _. full-holds x)
+      (λ a b. rw (e, folded (a .0) (b .1)) (lowered (a .0)))
     where
-      folded : 2147483648 ≤ l → h < 6442450944 → (w + 2147483648) % 4294967296 ≡ w - 2147483648
+      folded : lowest ≤ l → h < beyond → (w + bias) % modulus ≡ w - lowest
       folded a b = omega (arith, m .low, m .high)
 
   -- where no number of the set is negative, it is not the full set, and w itself is one of it
-  pub within-positive : 2147483648 ≤ within s l h .lo → (4294967296 ≤ w) × Member (within s l h) (w - 2147483648)
+  pub within-positive : bias ≤ within s l h .lo → (modulus ≤ w) × Member (within s l h) (w - lowest)
   within-positive =
-      within-both (λ (r : NumberSet). 2147483648 ≤ r .lo → (4294967296 ≤ w) × Member r (w - 2147483648)) s l h
-      (λ k. absurd (none k))
-      (λ a b k. (omega (arith, m .low), lowered a))
+      within-both (λ (r : NumberSet). bias ≤ r .lo → (modulus ≤ w) × Member r (w - lowest)) s l h
+      (λ _ k. absurd (none k))
+      (λ a b k. (omega (arith, m .low), lowered (a .0)))
     where
-      none : 2147483648 ≤ 0 → ⊥
+      none : bias ≤ 0 → ⊥
       none k = omega arith

@@ -1,5 +1,6 @@
 pub mod Steps
 pub mod Powers
+pub mod Differences
 pub mod Ends
 pub mod Formed
 pub mod Fits
@@ -7,3 +8,5 @@ pub mod Arithmetic
 pub mod Shifts
 pub mod Offsets
 pub mod Narrowing
+pub mod Exact
+pub mod Rounding

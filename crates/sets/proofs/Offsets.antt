@@ -9,7 +9,7 @@ use lib.Dec.{leb}
 use borrow.Author.Tests.{leb-true, leb-false}
 use Rattle.v8.specs.Signed.{excess, bias}
 use Rattle.alu.specs.Result.{add32, sub32}
-use Rattle.sets.specs.Sets.{Member}
+use Rattle.sets.specs.Sets.{modulus, Member}
 use Rattle.sets.specs.Rules.{addSets, subSets}
 use Rattle.sets.specs.Laws.{Offset, AddsOffset, SubsOffset}
 use Rattle.sets.specs.declared.NumberSet.{NumberSet}
@@ -17,46 +17,46 @@ use Rattle.sets.proofs.Ends.{within-positive}
 use Rattle.sets.proofs.Arithmetic.{sum-between, difference-between}
 
 -- the address with the offset v
-placed : (r : NumberSet) (base v t : ℕ) → 2147483648 ≤ v → t ≡ base + (v - 2147483648) → Member r v → Offset base r t
+placed : (r : NumberSet) (base v t : ℕ) → bias ≤ v → t ≡ base + (v - bias) → Member r v → Offset base r t
 placed r base v t p e m = rw e (record { above = omega arith; member = subst (Member r) (back base v p) m })
   where
-    back : (base v : ℕ) → 2147483648 ≤ v → v ≡ base + (v - 2147483648) - base + bias
+    back : (base v : ℕ) → bias ≤ v → v ≡ base + (v - bias) - base + bias
     back base v p = omega arith
 
 -- a word stands for itself or, from 2^31 on, for 2^32 less
-by-sign : (P : ℕ → Type 0) (y : ℕ) → y < 4294967296
-    → (y < 2147483648 → P (y + 2147483648)) → (2147483648 ≤ y → P (y - 2147483648)) → P (excess y)
-by-sign P y h f g = at (leb 2147483648 y) refl
+by-sign : (P : ℕ → Type 0) (y : ℕ) → y < modulus
+    → (y < bias → P (y + bias)) → (bias ≤ y → P (y - bias)) → P (excess y)
+by-sign P y h f g = at (leb bias y) refl
   where
-    low : y < 2147483648 → y + 2147483648 ≡ excess y
+    low : y < bias → y + bias ≡ excess y
     low p = omega arith
 
-    high : 2147483648 ≤ y → y - 2147483648 ≡ excess y
+    high : bias ≤ y → y - bias ≡ excess y
     high p = omega arith
 
-    at : (t : Bool) → leb 2147483648 y ≡ t → P (excess y)
-    at true t = let p = leb-true 2147483648 y t in subst P (high p) (g p)
-    at false t = let p = leb-false 2147483648 y t in subst P (low p) (f p)
+    at : (t : Bool) → leb bias y ≡ t → P (excess y)
+    at true t = let p = leb-true bias y t in subst P (high p) (g p)
+    at false t = let p = leb-false bias y t in subst P (low p) (f p)
 
 -- base, size, the address x, and the number's word y
-module _ (base size x y : ℕ) (hy : y < 4294967296) (fits : base + size < 4294967296) (above : base ≤ x) where
+module _ (base size x y : ℕ) (hy : y < modulus) (fits : base + size < modulus) (above : base ≤ x) where
   -- the sum of the words, where the sum w of the excess forms stays from 0 to the size
-  sum-is : 4294967296 ≤ x - base + 2147483648 + excess y → x - base + 2147483648 + excess y - 2147483648 ≤ 2147483648 + size
-      → add32 x y ≡ base + (x - base + 2147483648 + excess y - 2147483648 - 2147483648)
+  sum-is : modulus ≤ x - base + bias + excess y → x - base + bias + excess y - bias ≤ bias + size
+      → add32 x y ≡ base + (x - base + bias + excess y - bias - bias)
   sum-is =
       by-sign
-      (λ (v : ℕ). 4294967296 ≤ x - base + 2147483648 + v → x - base + 2147483648 + v - 2147483648 ≤ 2147483648 + size
-      → add32 x y ≡ base + (x - base + 2147483648 + v - 2147483648 - 2147483648))
+      (λ (v : ℕ). modulus ≤ x - base + bias + v → x - base + bias + v - bias ≤ bias + size
+      → add32 x y ≡ base + (x - base + bias + v - bias - bias))
       y hy (λ h p q. omega arith) (λ h p q. omega arith)
 
-  difference-is : 4294967296 ≤ x - base + 2147483648 + 4294967296 - excess y
-      → x - base + 2147483648 + 4294967296 - excess y - 2147483648 ≤ 2147483648 + size
-      → sub32 x y ≡ base + (x - base + 2147483648 + 4294967296 - excess y - 2147483648 - 2147483648)
+  difference-is : modulus ≤ x - base + bias + modulus - excess y
+      → x - base + bias + modulus - excess y - bias ≤ bias + size
+      → sub32 x y ≡ base + (x - base + bias + modulus - excess y - bias - bias)
   difference-is =
       by-sign
-      (λ (v : ℕ). 4294967296 ≤ x - base + 2147483648 + 4294967296 - v
-      → x - base + 2147483648 + 4294967296 - v - 2147483648 ≤ 2147483648 + size
-      → sub32 x y ≡ base + (x - base + 2147483648 + 4294967296 - v - 2147483648 - 2147483648))
+      (λ (v : ℕ). modulus ≤ x - base + bias + modulus - v
+      → x - base + bias + modulus - v - bias ≤ bias + size
+      → sub32 x y ≡ base + (x - base + bias + modulus - v - bias - bias))
       y hy (λ h p q. omega arith) (λ h p q. omega arith)
 
 pub adds-offset : AddsOffset

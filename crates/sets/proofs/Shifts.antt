@@ -13,7 +13,7 @@ use Rattle.v8.specs.Power.{twice}
 use Rattle.v8.specs.Signed.{excess, bias}
 use Rattle.v8.specs.declared.ShiftOp.the-variants.{Sll, Srl, Sra}
 use Rattle.alu.specs.Result.{sll32, srl32, sra32}
-use Rattle.sets.specs.Sets.{numbers, full, s1, SetRules, Member}
+use Rattle.sets.specs.Sets.{modulus, numbers, full, s1, SetRules, Member}
 use Rattle.sets.specs.Rules.{within, shiftedUp, shiftedDown, sllSet, sraSet, srlSet}
 use Rattle.sets.specs.Laws.{ShiftFormed, ShiftHolds}
 use Rattle.sets.specs.declared.NumberSet.{NumberSet}
@@ -27,39 +27,39 @@ unfolding sraSet
 sra-formed a s h r = ended-formed 1 _ _ s1 (omega (arith, shr-mono s (r .order))) (shr-fits (a .hi) s (r .top) h) (mod-one _)
 
 -- a word of either half divided by p, where p g is 2^31
-module _ (p g : ℕ) (pos : 0 < p) (pg : p * g ≡ 2147483648) where
-  low-half : (n : ℕ) → n < 2147483648 → excess (n / p) ≡ (n + 2147483648) / p + (2147483648 - 2147483648 / p)
+module _ (p g : ℕ) (pos : 0 < p) (pg : p * g ≡ bias) where
+  low-half : (n : ℕ) → n < bias → excess (n / p) ≡ (n + bias) / p + (bias - bias / p)
   low-half n h = rw (up-div p g pos pg n, half-div p g pos pg) (put (n / p) (div-lt p g pos pg n h) (half-le p g pos pg))
     where
-      put : (q : ℕ) → q < g → g ≤ 2147483648 → excess q ≡ q + g + (2147483648 - g)
+      put : (q : ℕ) → q < g → g ≤ bias → excess q ≡ q + g + (bias - g)
       put q h k = omega arith
 
-  high-half : (n : ℕ) → n < 2147483648 → excess ((n + 2147483648) / p + (4294967296 - 2 * g)) ≡ n / p + (2147483648 - 2147483648 / p)
+  high-half : (n : ℕ) → n < bias → excess ((n + bias) / p + (modulus - 2 * g)) ≡ n / p + (bias - bias / p)
   high-half n h = rw (up-div p g pos pg n, half-div p g pos pg) (put (n / p) (div-lt p g pos pg n h) (half-le p g pos pg))
     where
-      put : (q : ℕ) → q < g → g ≤ 2147483648 → excess (q + g + (4294967296 - 2 * g)) ≡ q + (2147483648 - g)
+      put : (q : ℕ) → q < g → g ≤ bias → excess (q + g + (modulus - 2 * g)) ≡ q + (bias - g)
       put q h k = omega arith
 
 -- the excess form of a shifted word is the shifted excess form
-excess-sra : (x s : ℕ) → x < 4294967296 → s < 32 → excess (sra32 x s) ≡ shiftedDown (excess x) s
+excess-sra : (x s : ℕ) → x < modulus → s < 32 → excess (sra32 x s) ≡ shiftedDown (excess x) s
 excess-sra x s h k =
-    cond-both (λ (r : ℕ). excess r ≡ shiftedDown (excess x) s) (leb 2147483648 x)
-    (λ t. let e = leb-true 2147483648 x t in
+    cond-both (λ (r : ℕ). excess r ≡ shiftedDown (excess x) s) (leb bias x)
+    (λ t. let e = leb-true bias x t in
     rw (above x e h, powers s k)
-    (rw (back x e) at (high-half (2 ^ s) (2 ^ (31 - s)) (pow-pos s) (parts s k) (x - 2147483648) (less x e h))))
-    (λ t. let e = leb-false 2147483648 x t in
+    (rw (back x e) at (high-half (2 ^ s) (2 ^ (31 - s)) (pow-pos s) (parts s k) (x - bias) (less x e h))))
+    (λ t. let e = leb-false bias x t in
     rw (below x e) (low-half (2 ^ s) (2 ^ (31 - s)) (pow-pos s) (parts s k) x e))
   where
-    above : (x : ℕ) → 2147483648 ≤ x → x < 4294967296 → excess x ≡ x - 2147483648
+    above : (x : ℕ) → bias ≤ x → x < modulus → excess x ≡ x - bias
     above x h k = omega arith
 
-    below : (x : ℕ) → x < 2147483648 → excess x ≡ x + 2147483648
+    below : (x : ℕ) → x < bias → excess x ≡ x + bias
     below x h = omega arith
 
-    back : (x : ℕ) → 2147483648 ≤ x → x - 2147483648 + 2147483648 ≡ x
+    back : (x : ℕ) → bias ≤ x → x - bias + bias ≡ x
     back x h = omega arith
 
-    less : (x : ℕ) → 2147483648 ≤ x → x < 4294967296 → x - 2147483648 < 2147483648
+    less : (x : ℕ) → bias ≤ x → x < modulus → x - bias < bias
     less x h k = omega arith
 
     powers : (s : ℕ) → s < 32 → 2 ^ (32 - s) ≡ 2 * 2 ^ (31 - s)
@@ -68,7 +68,7 @@ excess-sra x s h k =
         one : (s : ℕ) → s < 32 → 32 - s - 1 ≡ 31 - s
         one s h = omega arith
 
-sra-holds : (a : NumberSet) (x s : ℕ) → x < 4294967296 → s < 32 → Member a (excess x) → Member (sraSet a s) (excess (sra32 x s))
+sra-holds : (a : NumberSet) (x s : ℕ) → x < modulus → s < 32 → Member a (excess x) → Member (sraSet a s) (excess (sra32 x s))
 unfolding sraSet
 sra-holds a x s h k m =
     rw (excess-sra x s h k)
@@ -83,13 +83,13 @@ srl-formed a s h r =
     (λ _. cond-both SetRules (eqb s 0) (λ _. full-formed)
     (λ t. below (2 ^ (32 - s)) (pow-mono {i = 1} {j = 32 - s} (omega arith)) (pow-half s (eqb-false s 0 t))))
   where
-    below : (n : ℕ) → 2 ≤ n → n ≤ 2147483648 → SetRules (numbers 1 bias (2147483647 + n))
+    below : (n : ℕ) → 2 ≤ n → n ≤ bias → SetRules (numbers 1 bias (bias + (n - 1)))
     below n p q = record { steps = s1; order = omega arith; top = omega arith; even = mod-one _; single = λ e. absurd (apart e) }
       where
-        apart : 2147483648 ≡ 2147483647 + n → ⊥
+        apart : bias ≡ bias + (n - 1) → ⊥
         apart e = omega arith
 
-srl-holds : (a : NumberSet) (x s : ℕ) → x < 4294967296 → s < 32 → Member a (excess x) → Member (srlSet a s) (excess (srl32 x s))
+srl-holds : (a : NumberSet) (x s : ℕ) → x < modulus → s < 32 → Member a (excess x) → Member (srlSet a s) (excess (srl32 x s))
 unfolding srlSet
 srl-holds a x s h k m =
     cond-both Holds (leb bias (a .lo))
@@ -100,42 +100,42 @@ srl-holds a x s h k m =
     Holds : NumberSet → Type 0
     Holds r = Member r (excess (srl32 x s))
 
-    same : x < 2147483648 → sra32 x s ≡ srl32 x s
-    same p = rw (lt-leb 2147483648 x p)
+    same : x < bias → sra32 x s ≡ srl32 x s
+    same p = rw (lt-leb bias x p)
 
     whole : (s : ℕ) → s < 32 → 32 - s + s ≡ 32
     whole s h = omega arith
 
-    below : (n z : ℕ) → z < n → n ≤ 2147483648 → Member (numbers 1 bias (2147483647 + n)) (excess z)
+    below : (n z : ℕ) → z < n → n ≤ bias → Member (numbers 1 bias (bias + (n - 1))) (excess z)
     below n z p q = omega arith
 
 -- SLL: from l to v is (v - l) p, after both were shifted, where l stays in reach
-gap : (l v p : ℕ) → l ≤ v → 2147483648 * p ≤ l * p + 4294967296
-    → v * p + 4294967296 - 2147483648 * p - (l * p + 4294967296 - 2147483648 * p) ≡ (v - l) * p
+gap : (l v p : ℕ) → l ≤ v → bias * p ≤ l * p + modulus
+    → v * p + modulus - bias * p - (l * p + modulus - bias * p) ≡ (v - l) * p
 gap l v p k h = rw (on l v k) at (put l (v - l) p h)
   where
-    put : (l d p : ℕ) → 2147483648 * p ≤ l * p + 4294967296
-        → (l + d) * p + 4294967296 - 2147483648 * p - (l * p + 4294967296 - 2147483648 * p) ≡ d * p
+    put : (l d p : ℕ) → bias * p ≤ l * p + modulus
+        → (l + d) * p + modulus - bias * p - (l * p + modulus - bias * p) ≡ d * p
     put l d p h = omega arith
 
     on : (l v : ℕ) → l ≤ v → l + (v - l) ≡ v
     on l v k = omega arith
 
 -- the order stays
-order : (l v p : ℕ) → l ≤ v → l * p + 4294967296 - 2147483648 * p ≤ v * p + 4294967296 - 2147483648 * p
+order : (l v p : ℕ) → l ≤ v → l * p + modulus - bias * p ≤ v * p + modulus - bias * p
 order l v p k = omega (arith, mul-le-mul-right p k)
 
 -- what is so of the full set, and of the set where the lowest end is in reach, is so of the shifted set
 in-reach : (P : NumberSet → Type 0) (t l h p : ℕ) → P full
-    → (2147483648 * p ≤ l * p + 4294967296 → P (within t (l * p + 4294967296 - 2147483648 * p) h))
-    → P (within t (l * p + 4294967296 - 2147483648 * p) h)
+    → (bias * p ≤ l * p + modulus → P (within t (l * p + modulus - bias * p) h))
+    → P (within t (l * p + modulus - bias * p) h)
 in-reach P t l h p f g =
-    elim (decLe (2147483648 * p) (l * p + 4294967296)) [
+    elim (decLe (bias * p) (l * p + modulus)) [
       | yes k ↦ g k
-      | no k ↦ within-both P t (l * p + 4294967296 - 2147483648 * p) h f (λ q. absurd (out k q))
+      | no k ↦ within-both P t (l * p + modulus - bias * p) h (λ _. f) (λ q _. absurd (out k (q .0)))
     ]
   where
-    out : ¬ (2147483648 * p ≤ l * p + 4294967296) → 2147483648 ≤ l * p + 4294967296 - 2147483648 * p → ⊥
+    out : ¬ (bias * p ≤ l * p + modulus) → bias ≤ l * p + modulus - bias * p → ⊥
     out k q = omega arith
 
 sll-formed : (a : NumberSet) (s : ℕ) → SetRules a → SetRules (sllSet a s)
@@ -146,27 +146,27 @@ sll-formed a s r =
     (rw (gap (a .lo) (a .hi) (2 ^ s) (r .order) k) (shifted-on (r .steps) s (a .hi - a .lo) (r .even)))
     (λ e. rw (r .single (eq-of-mul-eq-mul-right (2 ^ s) (pow-pos s) (a .lo) (a .hi) (same e k))) (eight s)))
   where
-    same : shiftedUp (a .lo) s ≡ shiftedUp (a .hi) s → 2147483648 * 2 ^ s ≤ a .lo * 2 ^ s + 4294967296 → a .lo * 2 ^ s ≡ a .hi * 2 ^ s
+    same : shiftedUp (a .lo) s ≡ shiftedUp (a .hi) s → bias * 2 ^ s ≤ a .lo * 2 ^ s + modulus → a .lo * 2 ^ s ≡ a .hi * 2 ^ s
     same e k = omega (arith, mul-le-mul-right (2 ^ s) (r .order))
 
     eight : (s : ℕ) → min 8 (8 * 2 ^ s) ≡ 8
     eight s = omega (arith, pow-pos s)
 
 -- the excess form of a word times p
-excess-times : (x p : ℕ) → 2147483648 * p ≤ excess x * p + 4294967296
-    → excess (x * p % 4294967296) ≡ (excess x * p + 4294967296 - 2147483648 * p + 2147483648) % 4294967296
+excess-times : (x p : ℕ) → bias * p ≤ excess x * p + modulus
+    → excess (x * p % modulus) ≡ (excess x * p + modulus - bias * p + bias) % modulus
 excess-times x p h =
-    sym (same (excess x * p + 4294967296 - 2147483648 * p) ((x + 2147483648) / 4294967296 * p) (x * p)
-    (put (excess x) ((x + 2147483648) / 4294967296) h (parted x)))
+    sym (same (excess x * p + modulus - bias * p) ((x + bias) / modulus * p) (x * p)
+    (put (excess x) ((x + bias) / modulus) h (parted x)))
   where
-    same : (a k b : ℕ) → a + k * 4294967296 ≡ b + 4294967296 → (a + 2147483648) % 4294967296 ≡ (b % 4294967296 + 2147483648) % 4294967296
+    same : (a k b : ℕ) → a + k * modulus ≡ b + modulus → (a + bias) % modulus ≡ (b % modulus + bias) % modulus
     same a k b e = omega arith
 
-    parted : (x : ℕ) → excess x + (x + 2147483648) / 4294967296 * 4294967296 ≡ x + 2147483648
+    parted : (x : ℕ) → excess x + (x + bias) / modulus * modulus ≡ x + bias
     parted x = omega arith
 
-    put : (v q : ℕ) → 2147483648 * p ≤ v * p + 4294967296 → v + q * 4294967296 ≡ x + 2147483648
-        → v * p + 4294967296 - 2147483648 * p + q * p * 4294967296 ≡ x * p + 4294967296
+    put : (v q : ℕ) → bias * p ≤ v * p + modulus → v + q * modulus ≡ x + bias
+        → v * p + modulus - bias * p + q * p * modulus ≡ x * p + modulus
     put v q h e = omega (arith, ap (λ (n : ℕ). n * p) e)
 
 sll-holds : (a : NumberSet) (x s : ℕ) → SetRules a → Member a (excess x) → Member (sllSet a s) (excess (sll32 x s))

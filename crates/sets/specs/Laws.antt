@@ -1,25 +1,31 @@
 -- What later parts rest on: the test of form, the test of inclusion, and that what is made of sets is well formed and holds what V8's
--- operations make of their members. A word's signed number is its excess form (v8's Signed). The proofs are in proofs/.
-use Prim.Native.Nat.{ℕ, _+_, _-_, _≤_, _<_}
+-- operations make of their members. A word's signed number is its excess form (v8's Signed). And that what is made of sets has the ends
+-- that document 01 names, as integers. The proofs are in proofs/.
+use Prim.Native.Nat.{ℕ, _+_, _-_, _*_, _^_, _≤_, _<_, min}
 use mathlib.Core.Path.{_≡_}
 use mathlib.Core.Bool.{true}
+use mathlib.Core.Logic.{_≢_}
+use lib.IntN.{ℤ, pos, negℤ, _+ℤ_, _-ℤ_, _*ℤ_}
+use lib.Signed.{_≤ℤ_, _<ℤ_, shrZ}
 use Rattle.v8.specs.Signed.{excess, bias}
 use Rattle.v8.specs.declared.AluOp.{AluOp}
 use Rattle.v8.specs.declared.ShiftOp.{ShiftOp}
+use Rattle.v8.specs.declared.ShiftOp.the-variants.{Sll, Srl, Sra}
 use Rattle.alu.specs.Result.{add32, sub32, aluOf, shiftOf}
 use Rattle.alu.specs.Condition.{compares}
 use Rattle.alu.specs.declared.condition.Narrowing.{Narrowing}
 use Rattle.alu.specs.declared.condition.Narrowing.the-variants.{NotEqualTo}
-use Rattle.sets.specs.Sets.{setOk, fitsSet, SetRules, Member}
+use Rattle.sets.specs.Sets.{modulus, full, setOk, fitsSet, SetRules, Member}
 use Rattle.sets.specs.Rules.{addSets, subSets, aluSets, shiftSet}
 use Rattle.sets.specs.Narrow.{narrowSet}
+use Rattle.sets.specs.Integers.{integer, Ends, EndsOrFull, RoundedDown}
 use Rattle.sets.specs.declared.NumberSet.{NumberSet}
 use Rattle.sets.specs.declared.SetLeft.{SetLeft}
 use Rattle.sets.specs.declared.SetLeft.the-variants.{Left, Nothing}
 
 -- The test of form passes the sets that obey the rules ..
 abbrev pub Obeys : Type 0
-Obeys = (s : NumberSet) → s .hi < 4294967296 → setOk s ≡ true → SetRules s
+Obeys = (s : NumberSet) → s .hi < modulus → setOk s ≡ true → SetRules s
 
 -- .. all of them.
 abbrev pub Passes : Type 0
@@ -40,7 +46,7 @@ AluFormed = (op : AluOp) (a b : NumberSet) → SetRules a → SetRules b → Set
 -- .. and has the operation's result on any two of their members.
 abbrev pub AluHolds : Type 0
 AluHolds =
-    (op : AluOp) (a b : NumberSet) (x y : ℕ) → SetRules a → SetRules b → x < 4294967296 → y < 4294967296
+    (op : AluOp) (a b : NumberSet) (x y : ℕ) → SetRules a → SetRules b → x < modulus → y < modulus
     → Member a (excess x) → Member b (excess y) → Member (aluSets op a b) (excess (aluOf op x y))
 
 -- So a shift by a count below 32.
@@ -49,8 +55,54 @@ ShiftFormed = (op : ShiftOp) (a : NumberSet) (s : ℕ) → s < 32 → SetRules a
 
 abbrev pub ShiftHolds : Type 0
 ShiftHolds =
-    (op : ShiftOp) (a : NumberSet) (x s : ℕ) → s < 32 → SetRules a → x < 4294967296
+    (op : ShiftOp) (a : NumberSet) (x s : ℕ) → s < 32 → SetRules a → x < modulus
     → Member a (excess x) → Member (shiftSet op a s) (excess (shiftOf op x s))
+
+-- "Full number means all 32-bit values, step 1."
+abbrev pub FullEnds : Type 0
+FullEnds = Ends 1 (negℤ (pos bias)) (pos bias -ℤ pos 1) full
+
+-- Rule 3: "ADD on numbers: lo+lo', hi+hi', the smaller step; .. full if an end leaves signed 32 bits."
+abbrev pub AddEnds : Type 0
+AddEnds =
+    (a b : NumberSet) → SetRules a → SetRules b
+    → EndsOrFull (min (a .step) (b .step)) (integer (a .lo) +ℤ integer (b .lo)) (integer (a .hi) +ℤ integer (b .hi)) (addSets a b)
+
+-- "SUB: lo−hi', hi−lo', the smaller step; full if an end leaves signed 32 bits."
+abbrev pub SubEnds : Type 0
+SubEnds =
+    (a b : NumberSet) → SetRules a → SetRules b
+    → EndsOrFull (min (a .step) (b .step)) (integer (a .lo) -ℤ integer (b .hi)) (integer (a .hi) -ℤ integer (b .lo)) (subSets a b)
+
+-- Rule 6: "SLL multiplies the ends by 2^s, with step the smaller of 8 and step × 2^s, full if an end leaves the signed 32 bits"
+abbrev pub SllEnds : Type 0
+SllEnds =
+    (a : NumberSet) (s : ℕ) → s < 32 → SetRules a
+    → EndsOrFull (min 8 (a .step * 2 ^ s)) (integer (a .lo) *ℤ pos (2 ^ s)) (integer (a .hi) *ℤ pos (2 ^ s)) (shiftSet Sll a s)
+
+-- The library's shrZ divides rounding down.
+abbrev pub ShrRoundsDown : Type 0
+ShrRoundsDown = (z : ℤ) (p : ℕ) → 0 < p → RoundedDown z p (shrZ z p)
+
+-- "SRA divides the ends rounding down, step 1"
+abbrev pub SraEnds : Type 0
+SraEnds =
+    (a : NumberSet) (s : ℕ) → s < 32
+    → Ends 1 (shrZ (integer (a .lo)) (2 ^ s)) (shrZ (integer (a .hi)) (2 ^ s)) (shiftSet Sra a s)
+
+-- "SRL as SRA if lo ≥ 0 ..
+abbrev pub SrlAsSra : Type 0
+SrlAsSra = (a : NumberSet) (s : ℕ) → pos 0 ≤ℤ integer (a .lo) → shiftSet Srl a s ≡ shiftSet Sra a s
+
+-- .. else full for s = 0 ..
+abbrev pub SrlByNone : Type 0
+SrlByNone = (a : NumberSet) → integer (a .lo) <ℤ pos 0 → shiftSet Srl a 0 ≡ full
+
+-- .. else 0 to 2^(32−s)−1, step 1"
+abbrev pub SrlEnds : Type 0
+SrlEnds =
+    (a : NumberSet) (s : ℕ) → s < 32 → integer (a .lo) <ℤ pos 0 → s ≢ 0
+    → Ends 1 (pos 0) (pos (2 ^ (32 - s)) -ℤ pos 1) (shiftSet Srl a s)
 
 -- the offset of an address from a base is one of the set
 pub record Offset (base : ℕ) (s : NumberSet) (address : ℕ) : Type 0 where
@@ -60,14 +112,14 @@ pub record Offset (base : ℕ) (s : NumberSet) (address : ℕ) : Type 0 where
 -- An address of a region of this size plus a number, where all the offsets stay in the region: the sum of the words is the sum.
 abbrev pub AddsOffset : Type 0
 AddsOffset =
-    (a b : NumberSet) (base size x y : ℕ) → SetRules a → SetRules b → y < 4294967296 → base + size < 4294967296
+    (a b : NumberSet) (base size x y : ℕ) → SetRules a → SetRules b → y < modulus → base + size < modulus
     → bias ≤ addSets a b .lo → addSets a b .hi ≤ bias + size
     → Offset base a x → Member b (excess y) → Offset base (addSets a b) (add32 x y)
 
 -- An address minus a number, likewise.
 abbrev pub SubsOffset : Type 0
 SubsOffset =
-    (a b : NumberSet) (base size x y : ℕ) → SetRules a → SetRules b → y < 4294967296 → base + size < 4294967296
+    (a b : NumberSet) (base size x y : ℕ) → SetRules a → SetRules b → y < modulus → base + size < modulus
     → bias ≤ subSets a b .lo → subSets a b .hi ≤ bias + size
     → Offset base a x → Member b (excess y) → Offset base (subSets a b) (sub32 x y)
 

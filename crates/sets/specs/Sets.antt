@@ -6,6 +6,10 @@ use mathlib.Core.Bool.{Bool, cond, not, _&&_, _||_}
 use lib.Dec.{leb, eqb}
 use Rattle.sets.specs.declared.NumberSet.{NumberSet}
 
+-- 2^32: 32-bit words, and excess forms, lie below it
+abbrev pub modulus : ℕ
+modulus = 4294967296
+
 -- the numbers from lo to hi that lie on the steps from lo
 abbrev pub numbers : ℕ → ℕ → ℕ → NumberSet
 numbers step lo hi = record { step = step; lo = lo; hi = hi }
@@ -16,7 +20,7 @@ single n = numbers 8 n n
 
 -- "Full number means all 32-bit values, step 1."
 abbrev pub full : NumberSet
-full = numbers 1 0 4294967295
+full = numbers 1 0 (modulus - 1)
 
 -- the set has one member
 abbrev pub isSingle : NumberSet → Bool
@@ -53,7 +57,7 @@ pub data Step : ℕ → Type 0 where
 pub record SetRules (s : NumberSet) : Type 0 where
   pub steps : Step (s .step)
   pub order : s .lo ≤ s .hi
-  pub top : s .hi < 4294967296
+  pub top : s .hi < modulus
   pub even : (s .hi - s .lo) % s .step ≡ 0
   pub single : s .lo ≡ s .hi → s .step ≡ 8
 

@@ -2,6 +2,7 @@
 ghost use mathlib.Core.Path.{_≡_};
 ghost use Rattle.sets.specs.Sets.{single, full, ended, isStep, setOk, fitsSet};
 use crate::NumberSet;
+use crate::bounds::LAST;
 use crate::natural::minus;
 use crate::natural::remainder;
 
@@ -23,7 +24,7 @@ pub fn full() -> NumberSet
     NumberSet {
         step: 1,
         lo: 0,
-        hi: 4294967295,
+        hi: LAST,
     }
 }
 

@@ -2,6 +2,8 @@
 // them, and what a comparison leaves of one. (Document 01, "Rows" and "What each word does to a
 // row".)
 
+// The bounds of 32-bit numbers.
+mod bounds;
 // Operations on natural numbers.
 mod natural;
 // The form of a set, and inclusion.

@@ -4,6 +4,7 @@ ghost use mathlib.Core.Path.{_≡_};
 ghost use Rattle.sets.specs.Narrow.{atMost, atLeast, lessThan, greaterThan, isMember, only, without, narrowSet};
 use crate::NumberSet;
 use crate::SetLeft;
+use crate::bounds::LAST;
 use crate::form::ended;
 use crate::form::single;
 use crate::natural::larger;
@@ -49,7 +50,7 @@ fn less_than(a: NumberSet, n: u32) -> SetLeft
 fn greater_than(a: NumberSet, n: u32) -> SetLeft
     ensures { λ r. ⌜ r ≡ greaterThan a n ⌝ }
 {
-    if n == 4294967295 {
+    if n == LAST {
         return SetLeft::Nothing;
     }
     at_least(a, n + 1)

@@ -4,31 +4,35 @@ ghost use mathlib.Core.Path.{_≡_};
 ghost use Prim.Native.Nat.{_*_, _%_, _^_, _<_, min};
 ghost use Rattle.sets.specs.Rules.{within, addSets, subSets, andSets, aluSets, shiftedUp, sllSet, shiftedDown, sraSet, srlSet, shiftSet};
 use crate::NumberSet;
+use crate::bounds::BEYOND;
+use crate::bounds::LOWEST;
+use crate::bounds::MODULUS;
 use crate::form::ended;
 use crate::form::full;
 use crate::natural::smaller;
 use crate::natural::smaller_step;
 use v8::AluOp;
 use v8::ShiftOp;
+use v8::signed::BIAS;
 
-// The set with these ends, each 2^31 more than its excess form; full if one leaves signed 32 bits.
+// The set with these ends, each held 2^32 more than it is; full if one leaves signed 32 bits.
 fn within(step: u8, lo: u64, hi: u64) -> NumberSet
     ensures { λ r. ⌜ r ≡ within step lo hi ⌝ }
 {
-    if lo < 2147483648 {
+    if lo < LOWEST {
         return full();
     }
-    if hi < 2147483648 {
+    if hi < LOWEST {
         return full();
     }
-    if 6442450944 <= lo {
+    if BEYOND <= lo {
         return full();
     }
-    if 6442450944 <= hi {
+    if BEYOND <= hi {
         return full();
     }
-    let low = (lo - 2147483648) as u32;
-    let high = (hi - 2147483648) as u32;
+    let low = (lo - LOWEST) as u32;
+    let high = (hi - LOWEST) as u32;
     NumberSet {
         step,
         lo: low,
@@ -51,8 +55,8 @@ pub fn sub_sets(a: NumberSet, b: NumberSet) -> NumberSet
     ensures { λ r. ⌜ r ≡ subSets a b ⌝ }
 {
     let step = smaller_step(a.step, b.step);
-    let lo = a.lo as u64 + 4294967296 - b.hi as u64;
-    let hi = a.hi as u64 + 4294967296 - b.lo as u64;
+    let lo = a.lo as u64 + MODULUS - b.hi as u64;
+    let hi = a.hi as u64 + MODULUS - b.lo as u64;
     within(step, lo, hi)
 }
 
@@ -60,14 +64,14 @@ pub fn sub_sets(a: NumberSet, b: NumberSet) -> NumberSet
 fn and_sets(a: NumberSet, b: NumberSet) -> NumberSet
     ensures { λ r. ⌜ r ≡ andSets a b ⌝ }
 {
-    if 2147483648 <= a.lo {
-        if 2147483648 <= b.lo {
-            return ended(1, 2147483648, smaller(a.hi, b.hi));
+    if BIAS <= a.lo {
+        if BIAS <= b.lo {
+            return ended(1, BIAS, smaller(a.hi, b.hi));
         }
-        return ended(1, 2147483648, a.hi);
+        return ended(1, BIAS, a.hi);
     }
-    if 2147483648 <= b.lo {
-        return ended(1, 2147483648, b.hi);
+    if BIAS <= b.lo {
+        return ended(1, BIAS, b.hi);
     }
     full()
 }
@@ -88,13 +92,13 @@ pub fn alu_sets(op: AluOp, a: NumberSet, b: NumberSet) -> NumberSet
     }
 }
 
-// An end times 2^s, 2^31 more than its excess form; 0 if it lies below the signed 32 bits.
+// An end times 2^s, held 2^32 more than it is; 0 where that would be negative.
 fn shifted_up(n: u32, s: u32) -> u64
     requires { ⌜ s < 32 ⌝ }
     ensures { λ r. ⌜ r ≡ shiftedUp n s ⌝ }
 {
-    let top = ((n as u64) << s) + 4294967296;
-    let low = 2147483648u64 << s;
+    let top = ((n as u64) << s) + MODULUS;
+    let low = (BIAS as u64) << s;
     if top < low { 0 } else { top - low }
 }
 
@@ -124,7 +128,7 @@ fn shifted_down(n: u32, s: u32) -> u32
     requires { ⌜ s < 32 ⌝ }
     ensures { λ r. ⌜ r ≡ shiftedDown n s ⌝ }
 {
-    (n >> s) + (2147483648 - (2147483648 >> s))
+    (n >> s) + (BIAS - (BIAS >> s))
 }
 
 // SRA by `s`.
@@ -140,16 +144,16 @@ fn srl_set(a: NumberSet, s: u32) -> NumberSet
     requires { ⌜ s < 32 ⌝ }
     ensures { λ r. ⌜ r ≡ srlSet a s ⌝ }
 {
-    if 2147483648 <= a.lo {
+    if BIAS <= a.lo {
         return sra_set(a, s);
     }
     if s == 0 {
         return full();
     }
-    let hi = 2147483647 + (1 << (32 - s));
+    let hi = BIAS + ((1 << (32 - s)) - 1);
     NumberSet {
         step: 1,
-        lo: 2147483648,
+        lo: BIAS,
         hi,
     }
 }

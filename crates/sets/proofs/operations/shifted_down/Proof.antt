@@ -2,6 +2,7 @@
 use Prim.Native.Nat.{_^_}
 use native.Mathlib.Omega.{arith}
 use native.Mathlib.Nat.{div-le-self}
+use Rattle.v8.specs.Signed.{bias}
 use Rattle.sets.proofs.Powers.{shr-fits}
 use borrow.Author.Needs.{needs}
 use Rattle.sets.proofs.operations.shifted_down.Statement.{statement}
@@ -14,7 +15,7 @@ shr-result-2 : tie.Need-shr-result-2
 shr-result-2 c = search needs
 
 sub-result : tie.Need-sub-result
-sub-result c = div-le-self 2147483648 (2 ^ c .args .s)
+sub-result c = div-le-self bias (2 ^ c .args .s)
 
 add-result : tie.Need-add-result
 add-result c = record { fits = shr-fits (c .args .n) (c .args .s) (omega arith) (c .pre) }

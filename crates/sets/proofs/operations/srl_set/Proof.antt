@@ -2,6 +2,7 @@
 use Prim.Native.Nat.{_-_}
 use native.Mathlib.Omega.{arith}
 use borrow.Author.Tests.{lt-leb, ne-eqb}
+use lib.Pow.{pow-pos}
 use Rattle.v8.specs.Power.{shifted}
 use Rattle.v8.specs.Choice.{tests}
 use Rattle.sets.specs.Rules.{srlSet}
@@ -30,6 +31,9 @@ sub-hi c = search needs
 shl-hi : tie.Need-shl-hi
 shl-hi c = search needs
 
+sub-hi-2 : tie.Need-sub-hi-2
+sub-hi-2 c = omega (arith, shifted (32 - c .before .before .before .args .s) (omega arith), pow-pos (32 - c .before .before .before .args .s))
+
 add-hi : tie.Need-add-hi
 add-hi c = omega (arith, shifted (32 - c .before .before .before .args .s) (omega arith), pow-half (c .before .before .before .args .s) (c .if2 .left))
 
@@ -40,4 +44,4 @@ returns-3 c = search (lt-leb, ne-eqb, shifted (32 - c .before .before .before .a
 pub srl-set-spec : {M : Type 1} → statement M
 srl-set-spec =
     tie.close
-    (tie.spec sra-set-requires returns full-requires returns-2 sub-hi shl-hi add-hi returns-3)
+    (tie.spec sra-set-requires returns full-requires returns-2 sub-hi shl-hi sub-hi-2 add-hi returns-3)
