@@ -39,9 +39,8 @@ use Rattle.step.specs.Control.{goTo, atSlot, dueAt}
 use Rattle.step.specs.Effect.{Core, Effect, fault, done, effectOf}
 use Rattle.step.specs.Step.{State, Step, next, advance, follow, plainStep, branchStep, returnStep, stepWith, stepOf}
 use Rattle.rows.specs.declared.Row.{Row}
-use Rattle.rows.specs.Geometry.{rowBytes}
+use Rattle.rows.specs.Geometry.{rowBytes, noteName}
 use Rattle.rows.specs.Entry.{isUnset, isReturn}
-use Rattle.rows.specs.Geometry.{rowBytes}
 use Rattle.rows.specs.Row.{entryAt}
 use Rattle.rows.specs.Matches.{Host}
 use Rattle.rows.specs.Laws.{EntryRules, RowRules}
@@ -51,7 +50,7 @@ use Rattle.rows.proofs.RowFitting.{row-fits}
 use Rattle.rows.proofs.Obeying.{row-obeys}
 use Rattle.rules.specs.declared.Change.{Change}
 use Rattle.rules.specs.declared.Change.the-variants.{Writes, Keeps, Breaks}
-use Rattle.rules.specs.Change.{operationChange, branchChange, returnChange, codesName}
+use Rattle.rules.specs.Change.{operationChange, branchChange, returnChange}
 use Rattle.rules.specs.Narrow.{RowLeft, left, nothing, narrowRow}
 use Rattle.rules.specs.Laws.{Laid, LeftMatches}
 use Rattle.rows.proofs.ByKind.{held-return}
@@ -303,7 +302,7 @@ module _ (t : Routine) (bases : List ℕ) (returns : ℕ) (wf : WellFormed (t .p
 
       at : (k : Bool) → eqb (row .note .kind) 0 ≡ k → eqb (row .note .kind) 0 ≡ false
       at true k =
-          absurd (subst (λ (b : Bool). After row (cond b (Breaks unsetOperand codesName) Keeps) after)
+          absurd (subst (λ (b : Bool). After row (cond b (Breaks unsetOperand noteName) Keeps) after)
           (both (eqb (row .note .kind) 0) (readsCodes cnd) k r) a)
       at false k = k
 

@@ -9,6 +9,7 @@ use machine::Outcome;
 use machine::run;
 use policy::Policy;
 use step::Registers;
+use v8::numbers::ACCEPTED;
 
 // What the check answers, and what the run gives; where the check refuses, nothing is run.
 pub struct CheckedRun {
@@ -33,7 +34,7 @@ pub fn checked_run(
     ensures guaranteed { λ r. ⌜ HoldsTo policy (now (words .entry)) (now (entry .entry)) (now (result .entry)) (now (bases .entry)) returns registers allowance (now (memory .entry)) (checkedLeft r (now (memory .exit))) ⌝ }
 {
     let answer = check(policy, words, rows, entry, result);
-    if answer.number != 0 {
+    if answer.number != ACCEPTED {
         let number = answer.number;
         return CheckedRun {
             answer,

@@ -24,6 +24,7 @@ use Rattle.rows.specs.declared.Entry.{Entry}
 use Rattle.rows.specs.declared.Note.{Note}
 use Rattle.rows.specs.declared.Row.{Row}
 use Rattle.rows.specs.Entry.{isUnset, isConstant, isReturn, constant, fits, fieldEntry, isComparison, codesSet, comparison}
+use Rattle.rows.specs.Geometry.{noteName}
 use Rattle.rows.specs.Row.{entryAt}
 use Rattle.rules.specs.declared.Operands.{Operands}
 use Rattle.rules.specs.declared.Result.{Result}
@@ -34,10 +35,6 @@ use Rattle.rules.specs.declared.Change.{Change}
 use Rattle.rules.specs.declared.Change.the-variants.{Writes, Keeps, Breaks}
 use Rattle.rules.specs.Result.{isSub, aluResult, shiftResult}
 use Rattle.rules.specs.Reach.{reachOf}
-
--- "32 for codes"
-abbrev pub codesName : ℕ
-codesName = 32
 
 -- the entry of a second operand: an immediate is a single number
 abbrev pub operandEntry : Row → Operand → Entry
@@ -114,7 +111,7 @@ operationChange p row (Memory a rd rs1 d) = accessChange p (row .note) a rd (ent
 
 -- a branch reads the codes: "32 for codes, which always and never do not read"
 unfoldable pub branchChange : Note → ℕ → Change
-branchChange n cnd = cond (eqb (n .kind) 0 && readsCodes cnd) (Breaks unsetOperand codesName) Keeps
+branchChange n cnd = cond (eqb (n .kind) 0 && readsCodes cnd) (Breaks unsetOperand noteName) Keeps
 
 -- "For the return: 6 if r15 isn't kind 4."
 unfoldable pub returnChange : Entry → Change

@@ -23,6 +23,7 @@ use rows::entries::RETURN_ADDRESS;
 use rows::entries::UNSET;
 use rows::entries::constant;
 use rows::entry_at;
+use rows::geometry::NOTE_NAME;
 use rows::notes::NOTE_UNSET;
 use v8::AluOp;
 use v8::Instruction;
@@ -30,9 +31,6 @@ use v8::Operation;
 use v8::ShiftOp;
 use v8::numbers::NO_RULE;
 use v8::numbers::UNSET_OPERAND;
-
-// The number that names the codes among the registers.
-const CODES: u8 = 32;
 
 // A write of rd with a result, if there is one.
 fn writing(rd: u8, n: Note, rs1: u8, result: Result) -> Change
@@ -110,7 +108,7 @@ fn branch_change(n: Note, condition: u8) -> Change
     ensures { λ r. ⌜ r ≡ branchChange n condition ⌝ }
 {
     if (n.kind == NOTE_UNSET) & reads_codes(condition) {
-        return Change::Breaks(UNSET_OPERAND, CODES);
+        return Change::Breaks(UNSET_OPERAND, NOTE_NAME);
     }
     Change::Keeps
 }
