@@ -47,7 +47,11 @@ fn locate_in<'a>(
     offset: ByteOffset,
 ) -> Located
     requires { ⌜ (width ≡ accessWidth a) × (width ≤ 4) × (offset .0 ≤ 65535) ⌝ }
-    ensures { λ r. ⌜ r ≡ locateIn (now (fields .entry)) (fieldsFrom (now (elements .entry)) (now (permissions .entry)) (now (offsets .entry)) (now (counts .entry))) a region (offset .0) ⌝ }
+    ensures { λ r. ⌜
+        r
+        ≡ locateIn (now (fields .entry))
+        (fieldsFrom (now (elements .entry)) (now (permissions .entry)) (now (offsets .entry)) (now (counts .entry))) a region (offset .0)
+        ⌝ }
 {
     let end = ByteOffset(offset.0 + width);
     let search = find_in(fields, elements, offsets, counts, region, offset, end);
@@ -81,7 +85,11 @@ pub fn locate_access<'a>(
     address: u32,
 ) -> Located
     requires { ⌜ (regions ≤ 8) × (regions ≤ length (now bases)) × (width ≡ accessWidth a) × (width ≤ 4) ⌝ }
-    ensures { λ r. ⌜ r ≡ locate (layoutFrom regions (now (sizes .entry)) (now (fields .entry)) (fieldsFrom (now (elements .entry)) (now (permissions .entry)) (now (offsets .entry)) (now (counts .entry))) (now (bases .entry))) a address ⌝ }
+    ensures { λ r. ⌜
+        r
+        ≡ locate
+        (layoutFrom regions (now (sizes .entry)) (now (fields .entry)) (fieldsFrom (now (elements .entry)) (now (permissions .entry)) (now (offsets .entry)) (now (counts .entry))) (now (bases .entry))) a address
+        ⌝ }
 {
     let r = region_at(regions, sizes, bases, address);
     if r < regions {

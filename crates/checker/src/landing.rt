@@ -34,7 +34,11 @@ fn inside(words: &[u32], at: WordIndex) -> bool
 // Whether an edge may end at a word: it is of the code, and no slot if the edge is the taken one.
 fn lands_at(words: &[u32], marks: &[bool; MOST_WORDS], at: WordIndex, taken: bool) -> bool
     requires { ⌜ (length (now words) ≤ mostWords) × Examines (now marks) (now words) ⌝ }
-    ensures { λ r. ⌜ r ≡ cond taken (ltb (at .0) (length (readingsOf (now (words .entry)))) && examined (readingsOf (now (words .entry))) (at .0)) (ltb (at .0) (length (readingsOf (now (words .entry))))) ⌝ }
+    ensures { λ r. ⌜
+        r
+        ≡ cond taken (ltb (at .0) (length (readingsOf (now (words .entry)))) && examined (readingsOf (now (words .entry))) (at .0))
+        (ltb (at .0) (length (readingsOf (now (words .entry)))))
+        ⌝ }
 {
     let i = at.0 as usize;
     if words.len() <= i {

@@ -61,7 +61,12 @@ fn word_in(
     x: Reading,
     slot: Reading,
 ) -> Answer
-    requires { ⌜ (at .0 < mostWords) × (entryBytes ≤ length (now result)) × RowIn (at .0) (length (now rows)) × (examined ≡ true → ReadingIn (at .0) x (length (now rows))) ⌝ }
+    requires { ⌜
+        (at .0 < mostWords)
+        × (entryBytes ≤ length (now result))
+        × RowIn (at .0) (length (now rows))
+        × (examined ≡ true → ReadingIn (at .0) x (length (now rows)))
+        ⌝ }
     ensures { λ r. ⌜ r ≡ cond examined (look policy (now (rows .entry)) (now (result .entry)) (at .0) x slot) accepted ⌝ }
 {
     if !examined {
@@ -82,7 +87,14 @@ pub fn word_pass(
     rows: &[u8],
     result: &[u8],
 ) -> Answer
-    requires { ⌜ (length (now words) ≤ mostWords) × Reads readings (now words) × Examines (now marks) (now words) × (rowBytes * length (now words) ≡ length (now rows)) × (entryBytes ≤ length (now result)) × (passes (passOf (flowPass (readingsOf (now words))) (length (now words))) ≡ true) ⌝ }
+    requires { ⌜
+        (length (now words) ≤ mostWords)
+        × Reads readings (now words)
+        × Examines (now marks) (now words)
+        × (rowBytes * length (now words) ≡ length (now rows))
+        × (entryBytes ≤ length (now result))
+        × (passes (passOf (flowPass (readingsOf (now words))) (length (now words))) ≡ true)
+        ⌝ }
     ensures { λ r. ⌜ r ≡ passOf (wordPass policy (readingsOf (now (words .entry))) (now (rows .entry)) (now (result .entry))) (length (now (words .entry))) ⌝ }
 {
     let mut i: usize = 0;

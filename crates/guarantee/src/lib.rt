@@ -30,8 +30,15 @@ pub fn checked_run(
     allowance: u64,
     memory: &mut [u8],
 ) -> CheckedRun
-    ensures ran { λ r. ⌜ checkedLeft r (now (memory .exit)) ≡ checkedRunOf policy (now (words .entry)) (now (rows .entry)) (now (entry .entry)) (now (result .entry)) (now (bases .entry)) returns registers allowance (now (memory .entry)) ⌝ }
-    ensures guaranteed { λ r. ⌜ HoldsTo policy (now (words .entry)) (now (entry .entry)) (now (result .entry)) (now (bases .entry)) returns registers allowance (now (memory .entry)) (checkedLeft r (now (memory .exit))) ⌝ }
+    ensures ran { λ r. ⌜
+        checkedLeft r (now (memory .exit))
+        ≡ checkedRunOf policy (now (words .entry)) (now (rows .entry)) (now (entry .entry)) (now (result .entry))
+        (now (bases .entry)) returns registers allowance (now (memory .entry))
+        ⌝ }
+    ensures guaranteed { λ r. ⌜
+        HoldsTo policy (now (words .entry)) (now (entry .entry)) (now (result .entry)) (now (bases .entry)) returns registers allowance
+        (now (memory .entry)) (checkedLeft r (now (memory .exit)))
+        ⌝ }
 {
     let answer = check(policy, words, rows, entry, result);
     if answer.number != ACCEPTED {

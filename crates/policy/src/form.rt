@@ -81,7 +81,11 @@ pub fn field_in<'a>(
     place: usize,
 ) -> Field
     requires { ⌜ place < 128 ⌝ }
-    ensures { λ r. ⌜ r ≡ fieldIn (fieldsFrom (now (elements .entry)) (now (permissions .entry)) (now (offsets .entry)) (now (counts .entry))) (valuesFrom (now (targets .entry)) (now (lows .entry)) (now (highs .entry))) place ⌝ }
+    ensures { λ r. ⌜
+        r
+        ≡ fieldIn (fieldsFrom (now (elements .entry)) (now (permissions .entry)) (now (offsets .entry)) (now (counts .entry)))
+        (valuesFrom (now (targets .entry)) (now (lows .entry)) (now (highs .entry))) place
+        ⌝ }
 {
     let element = elements[place];
     let permission = permissions[place];

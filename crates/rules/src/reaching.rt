@@ -83,7 +83,11 @@ fn in_region<'a>(
     region: u8,
     s: NumberSet,
 ) -> Reach
-    ensures { λ r. ⌜ r ≡ inRegion (now (fields .entry)) (fieldsFrom (now (elements .entry)) (now (permissions .entry)) (now (offsets .entry)) (now (counts .entry))) a rs1 region s ⌝ }
+    ensures { λ r. ⌜
+        r
+        ≡ inRegion (now (fields .entry))
+        (fieldsFrom (now (elements .entry)) (now (permissions .entry)) (now (offsets .entry)) (now (counts .entry))) a rs1 region s
+        ⌝ }
 {
     if s.lo < BIAS {
         return Reach::Outside(OUTSIDE_FIELDS, rs1);
@@ -108,7 +112,12 @@ pub fn reach_of<'a>(
     a: Access,
     o: Operands,
 ) -> Reach
-    ensures { λ r. ⌜ r ≡ reachOf (now (fields .entry)) (fieldsFrom (now (elements .entry)) (now (permissions .entry)) (now (offsets .entry)) (now (counts .entry))) a (o .rs1) (o .first) (o .rs2) (o .second) ⌝ }
+    ensures { λ r. ⌜
+        r
+        ≡ reachOf (now (fields .entry))
+        (fieldsFrom (now (elements .entry)) (now (permissions .entry)) (now (offsets .entry)) (now (counts .entry))) a (o .rs1)
+        (o .first) (o .rs2) (o .second)
+        ⌝ }
 {
     let x = o.first;
     let y = o.second;
