@@ -1,60 +1,126 @@
 #!/usr/bin/env python3
-"""corpus.py: writes the data of the program crates/corpus to standard output.
+"""corpus.py: chooses the records of the program crates/corpus and writes its data, stdin and stdout.
 
-    tools/corpus.py BUNDLES ANSWERS
+    tools/corpus.py                       from the bundles that the repository has
+    tools/corpus.py BUNDLES ANSWERS       with other bundles of the independent implementation
 
-BUNDLES has bundles one after another, each after its length as a 32-bit big-endian number; line n of
-ANSWERS is the answer to bundle n: number, word and register in decimal. After them come the bundles of
-examples/, in the order of their names, with the answers that stand beside them.
+BUNDLES has bundles one after another, each after its length as a 32-bit big-endian number; line n of ANSWERS is
+the answer to bundle n: number, word and register in decimal.
 
-A record of the data: number (a byte), register (a byte), word (16 bits), the bundle's length (32 bits),
-big-endian, and then the bundle.
+There are three sources: the independent implementation's bundles (without BUNDLES those that stand in the data
+already), the bundles of cases.py, and those of examples/ with the answers that stand beside them. Of the
+first two only those are taken that are needed: every wrong version of tools/plain/mutants.txt is told apart by
+a record, and every number is the answer to EACH bundles of the independent implementation, if it has so many.
+The choice is the same at each run. It takes some minutes: each version is compiled and answers every bundle.
+
+The records stand in the order of the sources. The first made bundle is that of the program crates/answer, so that what
+stands before it is the independent implementation's. A record: number (a byte), register (a byte), word (16
+bits), the bundle's length (32 bits), big-endian, and then the bundle.
 """
 import os
 import struct
 import sys
+from collections import Counter
 
-sys.dont_write_bytecode = True
-import script
+import cases
+import mutants
 
-EXAMPLES = os.path.join(os.path.dirname(os.path.abspath(__file__)), "..", "examples")
+TOOLS = os.path.dirname(os.path.abspath(__file__))
+EXAMPLES = os.path.join(TOOLS, "..", "examples")
+CRATE = os.path.join(TOOLS, "..", "crates", "corpus")
+EACH = 3
+# What a record costs beside its bytes, in bytes.
+BEGINNING = 400
 
 
 def record(bundle, answer):
-    try:
-        number, word, register = (int(part) for part in answer.split())
-        return struct.pack(">BBHI", number, register, word, len(bundle)) + bundle
-    except (ValueError, struct.error):
-        raise script.Problem(f"an answer is a number, a word and a register, not `{answer.strip()}`") from None
+    number, word, register = (int(part) for part in answer.split())
+    return struct.pack(">BBHI", number, register, word, len(bundle)) + bundle
 
 
 def stream(bundles, answers):
-    at = 0
+    at, found = 0, []
     for answer in answers.splitlines():
-        length = int.from_bytes(bundles[at:at + 4], "big")
-        yield record(bundles[at + 4:at + 4 + length], answer)
+        (length,) = struct.unpack_from(">I", bundles, at)
+        found.append((bundles[at + 4:at + 4 + length], answer))
         at += 4 + length
     if at != len(bundles):
-        raise script.Problem("as many answers as bundles are needed")
+        raise mutants.Problem("as many answers as bundles are needed")
+    return found
 
 
 def examples():
+    found = []
     for name in sorted(os.listdir(EXAMPLES)):
         folder = os.path.join(EXAMPLES, name)
         if os.path.isdir(folder):
-            answer = script.read_lines(os.path.join(folder, "answer.txt"))
-            yield record(script.read_bytes(os.path.join(folder, "bundle.bin")), answer[0])
+            with open(os.path.join(folder, "bundle.bin"), "rb") as bundle, open(os.path.join(folder, "answer.txt")) as answer:
+                found.append((bundle.read(), answer.read().strip()))
+    return found
+
+
+def standing(first_made):
+    """The independent implementation's bundles in the data."""
+    with open(os.path.join(CRATE, "stdin"), "rb") as file:
+        there = mutants.records(file.read())
+    places = [at for at, (bundle, _) in enumerate(there) if bundle == first_made]
+    return there[:places[0]] if places else []
+
+
+def chosen(stock, told, others, always):
+    """The places of the records to take, those at `always` among them: one after another the one that serves most for
+    its length. `told` has the places of the records that tell each version apart. The first `others` are the
+    independent implementation's."""
+    wants = Counter()
+    serves = [[] for _ in stock]
+    for version, places in told:
+        for at in places:
+            serves[at].append(version.name)
+        wants[version.name] = min(1, len(places))
+    numbers = Counter(answer.split()[0] for _, answer in stock[:others])
+    for at, (_, answer) in enumerate(stock[:others]):
+        serves[at].append("number " + answer.split()[0])
+    wants.update({"number " + number: min(EACH, count) for number, count in numbers.items()})
+    taken = set()
+
+    def take(at):
+        taken.add(at)
+        wants.subtract(serves[at])
+
+    for at in always:
+        take(at)
+    while any(count > 0 for count in wants.values()):
+        served = {at: sum(wants[want] > 0 for want in serves[at]) for at in range(len(stock)) if at not in taken}
+        take(max(served, key=lambda at: (served[at] / (BEGINNING + len(stock[at][0])), -at)))
+    return sorted(taken)
 
 
 def main(arguments):
-    if len(arguments) != 2:
-        raise script.Problem("call it as `corpus.py BUNDLES ANSWERS`; `corpus.py --help` says more")
-    with open(arguments[0], "rb") as bundles, open(arguments[1], encoding="utf-8", errors="replace") as answers:
-        for each in stream(bundles.read(), answers.read()):
-            sys.stdout.buffer.write(each)
-    for each in examples():
-        sys.stdout.buffer.write(each)
+    made = [(case.bundle, case.answer) for case in cases.cases() if len(case.bundle) <= mutants.ROOM]
+    if arguments in (["-h"], ["--help"]):
+        print(__doc__.strip())
+        return
+    if len(arguments) == 2:
+        with open(arguments[0], "rb") as bundles, open(arguments[1]) as answers:
+            other = stream(bundles.read(), answers.read())
+    elif not arguments:
+        other = standing(made[0][0])
+    else:
+        raise mutants.Problem("call it as `corpus.py` or `corpus.py BUNDLES ANSWERS`")
+    shown = examples()
+    stock = [one for one in dict.fromkeys(other) if len(one[0]) <= mutants.ROOM] + made + shown
+    first = len(stock) - len(made) - len(shown)
+    places = chosen(stock, mutants.all_wrong(stock), first, [first, *range(len(stock) - len(shown), len(stock))])
+    with open(os.path.join(CRATE, "stdin"), "wb") as file:
+        file.write(b"".join(record(*stock[at]) for at in places))
+    with open(os.path.join(CRATE, "stdout"), "w") as file:
+        file.write(f"{len(places)} bundles, 0 wrong\n")
+    others, mine = sum(at < first for at in places), sum(first <= at < first + len(made) for at in places)
+    print(f"{others} of {first} of the independent implementation, {mine} of {len(made)} made, {len(shown)} examples")
 
 
 if __name__ == "__main__":
-    script.run(main, __doc__)
+    try:
+        main(sys.argv[1:])
+    except (mutants.Problem, OSError) as problem:
+        sys.exit(f"corpus.py: {problem}")

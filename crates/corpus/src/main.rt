@@ -1,6 +1,6 @@
-// Holds the answers to bundles against those of an independent implementation, and against those
-// that the examples give. Standard input has a record for each bundle. Prints each bundle that is
-// answered otherwise, then counts.
+// Holds the answers to bundles against those of an independent implementation, those that document
+// 01 gives, and those of the examples. Standard input has a record for each bundle. Prints each
+// bundle that is answered otherwise, then counts.
 mod record;
 mod report;
 

@@ -1,0 +1,162 @@
+#!/usr/bin/env python3
+"""mutants.py: holds wrong versions of the plain checker against the records of crates/corpus.
+
+    tools/mutants.py            makes every wrong version and lists those that answer each record right
+    tools/mutants.py -v         lists for each version the record that it answers wrong first, too
+
+The wrong versions are listed in tools/plain/mutants.txt, each a line of tools/plain/answer.c replaced by
+another. They are compiled with gcc (-O1, one after another) and answer all the records, and the bundles of
+cases.py that are too long for the program. A version that answers each of them right survives: a record that
+tells it apart is missing, or it is no wrong version, and then the list has the reason. The status is 0 if
+the right program answers each right and exactly those versions survive that have a reason.
+"""
+import os
+import re
+import struct
+import subprocess
+import sys
+import tempfile
+
+import cases
+
+TOOLS = os.path.dirname(os.path.abspath(__file__))
+SOURCE = os.path.join(TOOLS, "plain", "answer.c")
+LIST = os.path.join(TOOLS, "plain", "mutants.txt")
+DATA = os.path.join(TOOLS, "..", "crates", "corpus", "stdin")
+SECONDS = 20
+# The longest bundle that the program reads.
+ROOM = 53181
+
+
+class Problem(Exception):
+    """What is wrong, for the user."""
+
+
+class Version:
+    """A wrong version: the line sought from a place on, what replaces it, and why it is none if it is none."""
+
+    def __init__(self, name, lines):
+        self.name = name
+        parts = {line[0]: line[2:] for line in lines}
+        if set(parts) - set("@-+=") or len(parts) != len(lines) or not {"-", "+"} <= set(parts):
+            raise Problem(f"{name}: expected lines `-` and `+`, and perhaps `@` and `=`, each once")
+        self.old, self.new = parts["-"], parts["+"]
+        self.after, self.reason = parts.get("@"), parts.get("=")
+
+    def source(self, lines):
+        """The program's text with the line replaced."""
+        first = 0
+        if self.after is not None:
+            first = next((at for at, line in enumerate(lines) if self.after in line), len(lines))
+        places = [at for at in range(first, len(lines)) if lines[at].strip() == self.old]
+        if not places or (self.after is None and len(places) > 1):
+            raise Problem(f"{self.name}: {len(places)} lines of answer.c read `{self.old}`")
+        return "\n".join(lines[:places[0]] + [self.new] + lines[places[0] + 1:])
+
+
+def versions():
+    with open(LIST, encoding="utf-8") as file:
+        text = file.read()
+    blocks = [block.strip("\n").split("\n") for block in text.split("\n\n")[1:] if block.strip()]
+    listed = [Version(block[0], block[1:]) for block in blocks if not block[0].startswith("#")]
+    names = [version.name for version in listed]
+    for name in names:
+        if not re.fullmatch(r"[a-z0-9-]+", name) or names.count(name) > 1:
+            raise Problem(f"`{name}` is no name, or stands twice")
+    return listed
+
+
+def records(data):
+    """(bundle, answer) of each record; an answer is a line as the program prints it."""
+    at, found = 0, []
+    while at < len(data):
+        number, register, word, length = struct.unpack_from(">BBHI", data, at)
+        found.append((data[at + 8:at + 8 + length], f"{number} {word} {register}"))
+        at += 8 + length
+    return found
+
+
+def compiled(source, folder):
+    path = os.path.join(folder, "answer")
+    subprocess.run(["gcc", "-O1", "-w", "-o", path, "-x", "c", "-"], input=source.encode(), check=True)
+    return path
+
+
+def answers(program, bundles):
+    """The answer to each bundle, None where the program stops or does not end."""
+    stream = b"".join(struct.pack(">I", len(bundle)) + bundle for bundle in bundles)
+    try:
+        done = subprocess.run([program, "-s"], input=stream, capture_output=True, timeout=SECONDS)
+        lines = done.stdout.decode().splitlines()
+        if done.returncode == 0 and len(lines) == len(bundles):
+            return lines
+    except subprocess.TimeoutExpired:
+        pass
+    return [answer(program, bundle) for bundle in bundles]
+
+
+def answer(program, bundle):
+    try:
+        done = subprocess.run([program], input=bundle, capture_output=True, timeout=SECONDS)
+    except subprocess.TimeoutExpired:
+        return None
+    return done.stdout.decode().strip() if done.returncode == 0 else None
+
+
+def wrong(source, held, folder):
+    """The places of the records that a program answers wrong."""
+    given = answers(compiled(source, folder), [bundle for bundle, _ in held])
+    return [at for at, (line, (_, expected)) in enumerate(zip(given, held)) if line != expected]
+
+
+def all_wrong(held):
+    """Each wrong version with the places of the records that tell it apart, after the right program was seen to be right."""
+    with open(SOURCE, encoding="utf-8") as file:
+        text = file.read()
+    with tempfile.TemporaryDirectory() as folder:
+        amiss = wrong(text, held, folder)
+        if amiss:
+            raise Problem(f"answer.c itself answers record {amiss[0] + 1} otherwise")
+        for version in versions():
+            yield version, wrong(version.source(text.split("\n")), held, folder)
+
+
+def report(held, verbose):
+    """Prints what survives; whether only versions with a reason do."""
+    caught, equal, bad = 0, 0, 0
+    for version, places in all_wrong(held):
+        if places and version.reason is None:
+            caught += 1
+            if verbose:
+                print(f"{version.name}: record {places[0] + 1}, {len(places)} in all")
+        elif places:
+            bad += 1
+            print(f"{version.name}: has a reason, but answers record {places[0] + 1} otherwise")
+        elif version.reason is None:
+            bad += 1
+            print(f"{version.name}: survives")
+        else:
+            equal += 1
+            if verbose:
+                print(f"{version.name}: no wrong version: {version.reason}")
+    print(f"{len(held)} bundles; {caught + equal + bad} versions: {caught} caught, {equal} shown to be none, {bad} amiss")
+    return bad == 0
+
+
+def main(arguments):
+    if arguments in (["-h"], ["--help"]):
+        print(__doc__.strip())
+        return 0
+    if arguments not in ([], ["-v"]):
+        raise Problem("call it as `mutants.py`, `mutants.py -v` or `mutants.py --help`")
+    with open(DATA, "rb") as file:
+        held = records(file.read())
+    held += [(case.bundle, case.answer) for case in cases.cases() if len(case.bundle) > ROOM]
+    return 0 if report(held, arguments == ["-v"]) else 1
+
+
+if __name__ == "__main__":
+    try:
+        sys.exit(main(sys.argv[1:]))
+    except (Problem, OSError, subprocess.CalledProcessError) as problem:
+        sys.exit(f"mutants.py: {problem}")
