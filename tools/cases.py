@@ -7,13 +7,50 @@ and the rest is a return with a nop in its slot.
 import struct
 from collections import namedtuple
 
+import layout
 import parts
-from parts import ADDRESS, NOP, RETURN, RETURN_ADDRESS, START_OR_NULL, UNSET, bundle, entry, field, number, row
+from layout import ADDRESS, BOTH, OR_NULL, READ, UNSET, WRITE
+from parts import NOP, RETURN
 
 Case = namedtuple("Case", "name bundle answer")
 
-READ, WRITE, BOTH = parts.READ, parts.WRITE, parts.BOTH
+RETURN_ADDRESS, START_OR_NULL = layout.RETURN, OR_NULL
 LEAST, MOST = -2**31, 2**31 - 1
+
+
+# The parts of a bundle as bytes, so that any of them can be wrong
+
+def field(element, permission, offset, count, lo=0, hi=0, target=0):
+    return layout.field_bytes((element, permission, target, offset, count, lo, hi))
+
+
+def entry(kind, region=0, step=0, lo=0, hi=0):
+    return layout.entry_bytes((kind, region, step, lo, hi))
+
+
+def number(lo, hi, step=1):
+    """A number from lo to hi; a single one has step 8."""
+    return layout.entry_bytes(layout.number(lo, hi, step))
+
+
+def row(known, note=bytes(layout.NOTE.size)):
+    """A row of the entries that are known, by register. r0 is 0, all others are unset."""
+    plain = layout.row_bytes(layout.row({}))
+    entries = [plain[at:at + layout.ENTRY.size] for at in range(0, layout.REGISTERS * layout.ENTRY.size, layout.ENTRY.size)]
+    for register, e in known.items():
+        entries[register] = e
+    return b"".join(entries) + note
+
+
+def bundle(regions, entry_row, result, words, rows):
+    """A bundle. A region is its size and the list of its fields."""
+    head = layout.HEAD.pack(layout.MARK, layout.VERSION, len(regions), len(words))
+    sizes = b"".join(layout.REGION.pack(size, len(fields), 0) for size, fields in regions)
+    fields = b"".join(f for _, of_region in regions for f in of_region)
+    code = b"".join(layout.WORD.pack(w) for w in words)
+    return head + sizes + fields + entry_row + result + code + b"".join(rows)
+
+
 FULL = number(LEAST, MOST)
 NONE, BACK = entry(UNSET), entry(RETURN_ADDRESS)
 

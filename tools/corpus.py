@@ -22,8 +22,10 @@ import struct
 import sys
 from collections import Counter
 
+sys.dont_write_bytecode = True
 import cases
 import mutants
+import script
 
 TOOLS = os.path.dirname(os.path.abspath(__file__))
 EXAMPLES = os.path.join(TOOLS, "..", "examples")
@@ -45,7 +47,7 @@ def stream(bundles, answers):
         found.append((bundles[at + 4:at + 4 + length], answer))
         at += 4 + length
     if at != len(bundles):
-        raise mutants.Problem("as many answers as bundles are needed")
+        raise script.Problem("as many answers as bundles are needed")
     return found
 
 
@@ -97,16 +99,13 @@ def chosen(stock, told, others, always):
 
 def main(arguments):
     made = [(case.bundle, case.answer) for case in cases.cases() if len(case.bundle) <= mutants.ROOM]
-    if arguments in (["-h"], ["--help"]):
-        print(__doc__.strip())
-        return
     if len(arguments) == 2:
         with open(arguments[0], "rb") as bundles, open(arguments[1]) as answers:
             other = stream(bundles.read(), answers.read())
     elif not arguments:
         other = standing(made[0][0])
     else:
-        raise mutants.Problem("call it as `corpus.py` or `corpus.py BUNDLES ANSWERS`")
+        raise script.Problem("call it as `corpus.py` or `corpus.py BUNDLES ANSWERS`")
     shown = examples()
     stock = [one for one in dict.fromkeys(other) if len(one[0]) <= mutants.ROOM] + made + shown
     first = len(stock) - len(made) - len(shown)
@@ -120,7 +119,4 @@ def main(arguments):
 
 
 if __name__ == "__main__":
-    try:
-        main(sys.argv[1:])
-    except (mutants.Problem, OSError) as problem:
-        sys.exit(f"corpus.py: {problem}")
+    script.run(main, __doc__)

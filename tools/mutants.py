@@ -17,7 +17,10 @@ import subprocess
 import sys
 import tempfile
 
+sys.dont_write_bytecode = True
 import cases
+import script
+from script import Problem
 
 TOOLS = os.path.dirname(os.path.abspath(__file__))
 SOURCE = os.path.join(TOOLS, "plain", "answer.c")
@@ -26,10 +29,6 @@ DATA = os.path.join(TOOLS, "..", "crates", "corpus", "stdin")
 SECONDS = 20
 # The longest bundle that the program reads.
 ROOM = 53181
-
-
-class Problem(Exception):
-    """What is wrong, for the user."""
 
 
 class Version:
@@ -144,19 +143,14 @@ def report(held, verbose):
 
 
 def main(arguments):
-    if arguments in (["-h"], ["--help"]):
-        print(__doc__.strip())
-        return 0
     if arguments not in ([], ["-v"]):
         raise Problem("call it as `mutants.py`, `mutants.py -v` or `mutants.py --help`")
     with open(DATA, "rb") as file:
         held = records(file.read())
     held += [(case.bundle, case.answer) for case in cases.cases() if len(case.bundle) > ROOM]
-    return 0 if report(held, arguments == ["-v"]) else 1
+    if not report(held, arguments == ["-v"]):
+        raise Problem("a wrong version survives, or one that is none is caught")
 
 
 if __name__ == "__main__":
-    try:
-        sys.exit(main(sys.argv[1:]))
-    except (Problem, OSError, subprocess.CalledProcessError) as problem:
-        sys.exit(f"mutants.py: {problem}")
+    script.run(main, __doc__)
