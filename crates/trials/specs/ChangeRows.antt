@@ -101,6 +101,20 @@ unsetOperandRows =
     ∷ on (three (at 0 16) (just bias) (just (above 9))) 0xC6204002 gives keeps
     -- bl, ba and bn with the codes unset; bl with the codes set, and after a comparison
     ∷ on bare 0x06800002 gives breaks 4 32
+    -- each of the fourteen conditions that read the codes, from be to bvc
+    ∷ on bare 0x02800002 gives breaks 4 32
+    ∷ on bare 0x04800002 gives breaks 4 32
+    ∷ on bare 0x08800002 gives breaks 4 32
+    ∷ on bare 0x0A800002 gives breaks 4 32
+    ∷ on bare 0x0C800002 gives breaks 4 32
+    ∷ on bare 0x0E800002 gives breaks 4 32
+    ∷ on bare 0x12800002 gives breaks 4 32
+    ∷ on bare 0x14800002 gives breaks 4 32
+    ∷ on bare 0x16800002 gives breaks 4 32
+    ∷ on bare 0x18800002 gives breaks 4 32
+    ∷ on bare 0x1A800002 gives breaks 4 32
+    ∷ on bare 0x1C800002 gives breaks 4 32
+    ∷ on bare 0x1E800002 gives breaks 4 32
     ∷ on bare 0x10800002 gives keeps
     ∷ on bare 0x00800002 gives keeps
     ∷ on (noted someCodes bare) 0x06800002 gives keeps

@@ -182,8 +182,21 @@ unsetRows =
     ∷ one 0xCA090000 gives faults 102
     ∷ one 0xCA084004 gives faults 102
     ∷ one 0xC8284000 gives faults 102
-    -- be with the codes unset; a return with r15 unset
+    -- each of the fourteen conditions that read the codes, with the codes unset; a return with r15 unset
     ∷ one 0x02800003 gives faults 102
+    ∷ one 0x04800003 gives faults 102
+    ∷ one 0x06800003 gives faults 102
+    ∷ one 0x08800003 gives faults 102
+    ∷ one 0x0A800003 gives faults 102
+    ∷ one 0x0C800003 gives faults 102
+    ∷ one 0x0E800003 gives faults 102
+    ∷ one 0x12800003 gives faults 102
+    ∷ one 0x14800003 gives faults 102
+    ∷ one 0x16800003 gives faults 102
+    ∷ one 0x18800003 gives faults 102
+    ∷ one 0x1A800003 gives faults 102
+    ∷ one 0x1C800003 gives faults 102
+    ∷ one 0x1E800003 gives faults 102
     ∷ back 0x1000 false gives faults 102
     -- what is written need not be set, and is set then: add %g1,1,%g4; ldub [%g1+1],%g4
     ∷ one 0x88006001 gives ends Spent 1 (0 ∷ 0x3000 ∷ 0x2000 ∷ 0x12345678 ∷ 0x3001 ∷ 0 ∷ 0 ∷ 0 ∷ []) (replicate 8 true) 4 sixteenBytes
