@@ -1,18 +1,18 @@
--- `words_from` meets its contract. Invariant: the words below i stand in the array. Measure: the words left.
+-- `words_from` meets its contract. Invariant: the array holds the first i words. Measure: the words left.
 use Prim.Native.Nat.{_≤_, _-_}
 use mathlib.Core.Path.{_≡_, refl, sym, _∙_}
 use native.Mathlib.Nat.{le-antisymm}
 use native.Mathlib.Omega.{arith}
-use lib.ListN.{length, take, length-set}
+use lib.ListN.{length, length-set}
 use borrow.Author.Needs.{needs}
 use Rattle.bundle.specs.Layout.{mostGiven}
-use Rattle.bundle.specs.Bundle.{wordsFrom}
-use Rattle.bundle.proofs.Words.{words-more}
-use Rattle.bundle.proofs.answering.words_from.Statement.{statement}
-use Rattle.bundle.proofs.answering.words_from.Tie as tie
+use Rattle.bundle.specs.Open.{wordsHeld}
+use Rattle.bundle.proofs.Words.{held-more}
+use Rattle.bundle.proofs.opening.words_from.Statement.{statement}
+use Rattle.bundle.proofs.opening.words_from.Tie as tie
 
 abbrev Inv-loop : tie.InvT-loop
-Inv-loop bytes at count words₀ i₀ words i = (i ≤ count) × (mostGiven ≡ length words) × (take i words ≡ wordsFrom bytes at i)
+Inv-loop bytes at count words₀ i₀ words i = (i ≤ count) × (mostGiven ≡ length words) × (words ≡ wordsHeld bytes at i)
 
 abbrev μ-loop : tie.MeasureT-loop
 μ-loop bytes at count words₀ i₀ words i = count - i
@@ -47,11 +47,11 @@ loop-again c = let ws = c .before .before .loop .words in
     let inv = c .before .before .loop .inv in (
       search needs,
       inv .1 ∙ sym (length-set ws i _),
-      words-more _ _ i _ ws (omega arith) (inv .2) (c .word-at .ensures),
+      held-more _ _ i _ ws (omega arith) (inv .2) (c .word-at .ensures),
     )
 
 returns : tie.Need-returns Inv-loop μ-loop
-returns c = let inv = c .before .loop .inv in (inv .1, rw (← le-antisymm (inv .0) (c .loop-test .left)) (inv .2))
+returns c = let inv = c .before .loop .inv in rw (← le-antisymm (inv .0) (c .loop-test .left)) (inv .2)
 
 pub words-from-spec : {M : Type 1} → statement M
 words-from-spec =
