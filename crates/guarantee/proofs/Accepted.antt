@@ -37,7 +37,7 @@ holds-to p words rows entry result bases returns g allowance memory c q a start 
     let e : checkOf p words rows entry result ≡ accepted = sym (ap (λ (x : Checked). x .answer) q) ∙ a in
     let r : c .run ≡ runOf p words bases returns g allowance memory =
     ap (λ (x : Checked). x .run) q ∙ accepted-run (checkOf p words rows entry result) (runOf p words bases returns g allowance memory) g memory e in
-    subst (λ (x : Run). Guaranteed p (entryOf result 0) (settingOf p words bases returns) (hostOf bases returns) (startState g memory) x
+    subst (λ (x : Run). Guaranteed p (entryOf result 0) (settingOf p words bases returns) (hostOf bases returns) (startState g memory) allowance x
     (traceFrom (settingOf p words bases returns) allowance (startState g memory)))
     (sym r) (running-guarantee p words rows entry result e bases returns g memory start allowance)
 

@@ -148,7 +148,7 @@ module _ (p : Policy) (words rows entry result : List ℕ) (e : checkOf p words 
     unfolding runOf
     runs allowance = rw not-refused
 
-    whole : (allowance : ℕ) → Guaranteed p (entryOf result 0) (settingOf p words bases returns) (hostOf bases returns) (startState g memory)
+    whole : (allowance : ℕ) → Guaranteed p (entryOf result 0) (settingOf p words bases returns) (hostOf bases returns) (startState g memory) allowance
         (runFrom (settingOf p words bases returns) allowance 0 (startState g memory)) (traceFrom (settingOf p words bases returns) allowance (startState g memory))
     whole allowance =
         guaranteed (routineOf p words rows entry result) bases returns wf is-laid (return-aligned (p .regions .count) (p .regions .sizes) bases returns memory (start .placed)) checked
@@ -156,6 +156,6 @@ module _ (p : Policy) (words rows entry result : List ℕ) (e : checkOf p words 
 
 pub running-guarantee : RunningGuarantee
 running-guarantee p words rows entry result e bases returns g memory start allowance =
-    subst (λ (r : Run). Guaranteed p (entryOf result 0) (settingOf p words bases returns) (hostOf bases returns) (startState g memory) r
+    subst (λ (r : Run). Guaranteed p (entryOf result 0) (settingOf p words bases returns) (hostOf bases returns) (startState g memory) allowance r
     (traceFrom (settingOf p words bases returns) allowance (startState g memory)))
     (sym (runs p words rows entry result e bases returns g memory start allowance)) (whole p words rows entry result e bases returns g memory start allowance)

@@ -35,5 +35,5 @@ checkedLeft r memory = record { answer = r .answer; run = leftBy (r .outcome) me
 abbrev pub HoldsTo : Policy → List ℕ → List ℕ → List ℕ → List ℕ → ℕ → Registers → ℕ → List ℕ → Checked → Type 0
 HoldsTo p words entry result bases returns g allowance memory c =
     c .answer ≡ accepted → Start p entry bases returns g memory
-    → Guaranteed p (entryOf result 0) (settingOf p words bases returns) (hostOf bases returns) (startState g memory) (c .run)
+    → Guaranteed p (entryOf result 0) (settingOf p words bases returns) (hostOf bases returns) (startState g memory) allowance (c .run)
     (traceFrom (settingOf p words bases returns) allowance (startState g memory))

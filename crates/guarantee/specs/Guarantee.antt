@@ -1,21 +1,19 @@
 -- Demand 3, the running guarantee: "one claim about the whole run, not one for each step: for every input that demand 2's check answers with
 -- 0 0 0, every matching start and every allowance, 0 too". `RunningGuarantee`, at the end, is the claim; its proof is
 -- proofs/Whole.antt's `running-guarantee`.
-use Prim.Native.Nat.{ℕ, suc, _-_, _<_}
+use Prim.Native.Nat.{ℕ, _<_}
 use mathlib.Core.Path.{_≡_}
-use mathlib.Core.Bool.{true, false}
-use mathlib.Core.List.{List, []}
+use mathlib.Core.Bool.{true}
+use mathlib.Core.List.{List, [], _∷_}
 use lib.ListN.{length, getD}
 use Rattle.policy.specs.declared.Policy.{Policy}
-use Rattle.alu.specs.declared.codes.Codes.{Codes}
 use Rattle.memory.specs.Memory.{Bytes}
 use Rattle.step.specs.declared.Registers.{Registers}
 use Rattle.step.specs.Registers.{markCount, valueOf, isSet}
 use Rattle.flow.specs.Readings.{readingAt}
 use Rattle.step.specs.Setting.{Setting}
-use Rattle.step.specs.Control.{goTo}
 use Rattle.step.specs.Effect.{Core}
-use Rattle.step.specs.Step.{State, Step, stopped, next, returned, stepOf}
+use Rattle.step.specs.Step.{State, next, returned, stepOf}
 use Rattle.machine.specs.declared.End.{End}
 use Rattle.machine.specs.declared.End.the-variants.{Returned, Spent, Fault, Refused}
 use Rattle.machine.specs.Placement.{placedIn}
@@ -51,17 +49,6 @@ pub record Start (p : Policy) (entry bases : List ℕ) (returns : ℕ) (g : Regi
   pub row : RowMatches (hostOf bases returns) (rowOf entry 0) (heldOf g)
   pub fields : Declared p (hostOf bases returns) memory
 
--- a default for looking states up
-abbrev pub noState : State
-noState =
-    record {
-      control = goTo 0;
-      core = record { registers = record { values = []; marks = []; codes = record { value = noCodes; set = false } }; memory = [] };
-    }
-  where
-    noCodes : Codes
-    noCodes = record { n = false; z = false; v = false; c = false }
-
 -- "isn't refused and ends at no fault"; "if it returned, r8 matches the result entry"
 abbrev pub EndsWell : Host → Entry → Registers → End → Type 0
 EndsWell h result g Returned = Matches h result (isSet g resultRegister) (valueOf g resultRegister)
@@ -69,30 +56,41 @@ EndsWell h result g Spent = Unit {0}
 EndsWell h result g (Fault n) = ⊥
 EndsWell h result g (Refused n) = ⊥
 
--- a run ends with what a step left
-abbrev pub EndsWith : Run → End → Core → Type 0
-EndsWith run end c = (run .outcome .end ≡ end) × (run .outcome .registers ≡ c .registers) × (run .memory ≡ c .memory)
+-- "Each of its steps is demand 2's step on what the one before left": a run from a state over the states whose steps are run, to its end and
+-- what it leaves
+pub data Follows (s : Setting) : State → List State → End → Core → Type 0 where
+  -- it is spent where it stands
+  halts : {st : State} → Follows s st [] Spent (st .core)
+  -- a step, and the rest from what that left
+  goes : {st t : State} {rest : List State} {end : End} {c : Core} → stepOf s st ≡ next t → Follows s t rest end c → Follows s st (st ∷ rest) end c
+  -- the step that returns
+  leaves : {st : State} {c : Core} → stepOf s st ≡ returned c → Follows s st (st ∷ []) Returned c
 
--- the step that was the last one left what the run ends with
-abbrev pub LastStep : Run → Step → Type 0
-LastStep run (stopped n) = ⊥
-LastStep run (next st) = EndsWith run Spent (st .core)
-LastStep run (returned c) = EndsWith run Returned c
+-- what a run leaves
+abbrev pub coreLeft : Run → Core
+coreLeft run = record { registers = run .outcome .registers; memory = run .memory }
 
--- one claim about a whole run from a state, with the states whose steps were run
-pub record Guaranteed (p : Policy) (result : Entry) (s : Setting) (h : Host) (start : State) (run : Run) (trace : List State) : Type 0 where
+-- of each state
+abbrev pub Each : (State → Type 0) → List State → Type 0
+Each P [] = Unit {0}
+Each P (st ∷ rest) = P st × Each P rest
+
+-- the step of a state is safe
+abbrev pub StepSafe : Policy → Host → Setting → State → Type 0
+StepSafe p h s st = ReadingSafe p h (st .core .registers) (readingAt (s .readings) (st .control .at .0))
+
+-- one claim about a whole run from a state with an allowance, and the states whose steps were run
+pub record Guaranteed (p : Policy) (result : Entry) (s : Setting) (h : Host) (start : State) (allowance : ℕ) (run : Run) (trace : List State) : Type 0 where
   -- not refused, at no fault, and the result matches if it returned
   pub ends : EndsWell h result (run .outcome .registers) (run .outcome .end)
   -- the steps counted are exactly those of the trace
   pub steps : run .outcome .steps ≡ length trace
+  -- "spent (exactly the allowance run)"
+  pub spent : run .outcome .end ≡ Spent → run .outcome .steps ≡ allowance
   -- "Each of its steps is demand 2's step on what the one before left"
-  pub first : 0 < length trace → getD trace 0 noState ≡ start
-  pub linked : (i : ℕ) → suc i < length trace → stepOf s (getD trace i noState) ≡ next (getD trace (suc i) noState)
-  pub last : 0 < length trace → LastStep run (stepOf s (getD trace (length trace - 1) noState))
-  pub none : length trace ≡ 0 → EndsWith run Spent (start .core)
+  pub follows : Follows s start trace (run .outcome .end) (coreLeft run)
   -- no step reads anything unset, uses a null or unaligned address, or leaves the fields that its policy allows
-  pub safe : (i : ℕ) → i < length trace
-      → ReadingSafe p h (getD trace i noState .core .registers) (readingAt (s .readings) (getD trace i noState .control .at .0))
+  pub safe : Each (StepSafe p h s) trace
   -- "every readable field still holds declared values"
   pub declared : Declared p h (run .memory)
   -- "every byte of the lent memory outside writable fields is as it was at the start"
@@ -104,6 +102,6 @@ RunningGuarantee =
     (p : Policy) (words rows entry result : List ℕ) → checkOf p words rows entry result ≡ accepted
     → (bases : List ℕ) (returns : ℕ) (g : Registers) (memory : List ℕ) → Start p entry bases returns g memory
     → (allowance : ℕ)
-    → Guaranteed p (entryOf result 0) (settingOf p words bases returns) (hostOf bases returns) (startState g memory)
+    → Guaranteed p (entryOf result 0) (settingOf p words bases returns) (hostOf bases returns) (startState g memory) allowance
     (runOf p words bases returns g allowance memory)
     (traceFrom (settingOf p words bases returns) allowance (startState g memory))

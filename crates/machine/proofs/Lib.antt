@@ -1,4 +1,5 @@
 pub mod RunLaws
+pub mod Numbered
 pub mod Loop
 pub mod Covered
 pub mod Begun

@@ -26,6 +26,14 @@ pub record Run : Type 0 where
   pub outcome : Outcome
   pub memory : List ℕ
 
+-- the number of an end: at a fault 101 to 105, refused "20, 21 (word count), 22"; document 01 gives a run that returned or is spent none, and
+-- 0 stands for that
+abbrev pub endNumber : End → ℕ
+endNumber Returned = acceptance
+endNumber Spent = acceptance
+endNumber (Fault n) = n
+endNumber (Refused n) = n
+
 -- a run that ended, after k steps
 abbrev pub ended : End → ℕ → Core → Run
 ended e k c = record { outcome = record { end = e; steps = k; registers = c .registers }; memory = c .memory }

@@ -1,6 +1,6 @@
 // How a run begins: what refuses it, and the run itself.
 ghost use mathlib.Core.Path.{_≡_};
-ghost use Rattle.machine.specs.Run.{refusalOf, runOf};
+ghost use Rattle.machine.specs.Run.{endNumber, refusalOf, runOf};
 ghost use Rattle.machine.specs.Ended.{leftBy};
 use crate::End;
 use crate::Outcome;
@@ -50,7 +50,8 @@ pub fn run(
     allowance: u64,
     memory: &mut [u8],
 ) -> Outcome
-    ensures { λ r. ⌜ leftBy r (now (memory .exit)) ≡ runOf policy (now (words .entry)) (now (bases .entry)) returns registers allowance (now (memory .entry)) ⌝ }
+    ensures ran { λ r. ⌜ leftBy r (now (memory .exit)) ≡ runOf policy (now (words .entry)) (now (bases .entry)) returns registers allowance (now (memory .entry)) ⌝ }
+    ensures number { λ r. ⌜ endNumber (r .end) ≡ endNumber (runOf policy (now (words .entry)) (now (bases .entry)) returns registers allowance (now (memory .entry)) .outcome .end) ⌝ }
 {
     let number = refusal(policy, words, bases, returns, memory);
     if number != ACCEPTED {

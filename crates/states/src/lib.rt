@@ -1,4 +1,6 @@
 // Ends, registers and codes as data made outside gives them, for the programs that compare.
+ghost use mathlib.Core.Path.{_≡_};
+ghost use Rattle.states.specs.Told.{toldNumber};
 use alu::Codes;
 use machine::End;
 use step::MARKS;
@@ -6,7 +8,9 @@ use step::MarkedCodes;
 use step::Registers;
 
 // How a run ended, as a number: 0 returned, 1 spent, else the fault's or the refusal's.
-pub fn end_number(end: End) -> u64 {
+pub fn end_number(end: End) -> u64
+    ensures { λ r. ⌜ r ≡ toldNumber end ⌝ }
+{
     match end {
         End::Returned => 0,
         End::Spent => 1,

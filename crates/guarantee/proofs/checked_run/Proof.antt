@@ -20,7 +20,7 @@ same-length c = search needs
 returns-2 : tie.Need-returns-2
 returns-2 c =
     given-checked _ _ _ _ _ _ _ _ _ _ _
-    (accepted-left _ _ _ _ _ _ (c .before .before .before .before .before .before .check .ensures) (c .before .before .run .ensures) (c .before .before .before .before .if1 .left))
+    (accepted-left _ _ _ _ _ _ (c .before .before .before .before .before .before .check .ensures) (c .before .before .run .ensures .0) (c .before .before .before .before .if1 .left))
 
 pub checked-run-spec : {M : Type 1} → statement M
 checked-run-spec = tie.close (tie.spec check-requires returns run-requires same-length returns-2)

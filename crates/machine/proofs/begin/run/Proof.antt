@@ -1,13 +1,21 @@
 -- A run that is not refused has a policy that obeys the rules and is laid right, so that its steps can be run; refused, it changes nothing.
-use mathlib.Core.Path.{sym, _∙_}
+use Prim.Native.Nat.{ℕ}
+use mathlib.Core.Path.{_≡_, sym, ap, _∙_}
+use mathlib.Core.List.{List}
 use native.Mathlib.Omega.{arith}
 use borrow.Author.Needs.{needs}
 use Rattle.policy.proofs.WellFormed.{obeys}
-use Rattle.machine.specs.Run.{runOf}
+use Rattle.machine.specs.declared.Outcome.{Outcome}
+use Rattle.machine.specs.Run.{Run, endNumber, runOf}
+use Rattle.machine.specs.Ended.{leftBy}
 use Rattle.machine.proofs.Begun.{begun, refused-run}
 use Rattle.machine.proofs.Covered.{based, covers}
 use Rattle.machine.proofs.begin.run.Statement.{statement}
 use Rattle.machine.proofs.begin.run.Tie as tie
+
+-- the same run has the same number
+with-number : (o : Outcome) (memory : List ℕ) (run : Run) → leftBy o memory ≡ run → (leftBy o memory ≡ run) × (endNumber (o .end) ≡ endNumber (run .outcome .end))
+with-number o memory run e = (e, ap (λ (r : Run). endNumber (r .outcome .end)) e)
 
 refusal-requires : tie.Need-refusal-requires
 refusal-requires c κs = search needs
@@ -17,7 +25,7 @@ same-length c = search needs
 
 returns : tie.Need-returns
 unfolding runOf
-returns c = rw (← c .before .refusal .ensures) (sym (refused-run (c .before .refusal .result) _ _ _ (c .if1 .taken)))
+returns c = with-number _ _ _ (rw (← c .before .refusal .ensures) (sym (refused-run (c .before .refusal .result) _ _ _ (c .if1 .taken))))
 
 array-write-values : tie.Need-array-write-values
 array-write-values c = search needs
@@ -44,7 +52,7 @@ returns-2 c =
     let refusal = c .before .before .before .before .before .before .before .before .before .before .before .refusal in
     let test = c .before .before .before .before .before .before .before .before .before .before .if1 in
     let run-steps = c .before .before .before .run-steps in
-    rw (sym (refusal .ensures) ∙ test .left) (run-steps .ensures)
+    with-number _ _ _ (rw (sym (refusal .ensures) ∙ test .left) (run-steps .ensures))
 
 pub run-spec : {M : Type 1} → statement M
 run-spec =
