@@ -4,7 +4,7 @@ use mathlib.Core.Bool.{cond}
 use mathlib.Core.List.{List, [], _∷_}
 use lib.Dec.{eqb}
 use lib.ListN.{take, drop}
-use Rattle.v8.specs.Numbers.{badBundle}
+use Rattle.v8.specs.Numbers.{acceptance, badBundle}
 use Rattle.memory.specs.Memory.{wordAt}
 use Rattle.policy.specs.declared.Policy.{Policy}
 use Rattle.policy.specs.declared.Field.{Field}
@@ -18,10 +18,10 @@ use Rattle.bundle.specs.Layout.{regionCount, wordCount, regionSize, fiel
 
 -- an add, unless an earlier one was refused
 unfoldable pub regionTo : Built → ℕ → Built
-regionTo built size = cond (eqb (built .number) 0) (addRegionOf (built .policy) size) built
+regionTo built size = cond (eqb (built .number) acceptance) (addRegionOf (built .policy) size) built
 
 unfoldable pub fieldTo : Built → ℕ → Field → Built
-fieldTo built r f = cond (eqb (built .number) 0) (addFieldOf (built .policy) r f) built
+fieldTo built r f = cond (eqb (built .number) acceptance) (addFieldOf (built .policy) r f) built
 
 -- the n words from a place on
 abbrev pub wordsFrom : List ℕ → ℕ → ℕ → List ℕ
@@ -35,7 +35,7 @@ part b at n = take n (drop at b)
 module _ (b : List ℕ) where
   -- what the adds of the first n regions give
   unfoldable pub withRegions : ℕ → Built
-  withRegions zero = record { policy = emptyPolicy; number = 0 }
+  withRegions zero = record { policy = emptyPolicy; number = acceptance }
   withRegions (suc n) = regionTo (withRegions n) (regionSize b n)
 
   -- what the adds of region r's first n fields give, after others
@@ -59,7 +59,7 @@ module _ (b : List ℕ) where
       (part b (resultPlace b) entryBytes)
 
   abbrev pub afterBuilt : Built → Answer
-  afterBuilt built = cond (eqb (built .number) 0) (checkedWith (built .policy)) (refuse (built .number) 0 0)
+  afterBuilt built = cond (eqb (built .number) acceptance) (checkedWith (built .policy)) (refuse (built .number) 0 0)
 
   -- the answer
   unfoldable pub bundleAnswer : Answer

@@ -6,7 +6,7 @@ use mathlib.Core.List.{List, _++_}
 use mathlib.Core.Path.{_≡_}
 use lib.Dec.{eqb}
 use lib.ListN.{length, replicate}
-use Rattle.v8.specs.Numbers.{badBundle}
+use Rattle.v8.specs.Numbers.{acceptance, badBundle}
 use Rattle.policy.specs.declared.Policy.{Policy}
 use Rattle.policy.specs.declared.Built.{Built}
 use Rattle.policy.specs.Build.{emptyPolicy}
@@ -38,7 +38,7 @@ module _ (b : List ℕ) where
   abbrev pub openedWith : Policy → Opened
   openedWith p =
       record {
-        number = 0;
+        number = acceptance;
         policy = p;
         count = wordCount b;
         words = wordsHeld b (wordsPlace b) (wordCount b);
@@ -50,7 +50,7 @@ module _ (b : List ℕ) where
       }
 
   abbrev pub openedBuilt : Built → Opened
-  openedBuilt built = cond (eqb (built .number) 0) (openedWith (built .policy)) (closed (built .number))
+  openedBuilt built = cond (eqb (built .number) acceptance) (openedWith (built .policy)) (closed (built .number))
 
   -- the bundle opened
   unfoldable pub openedOf : Opened

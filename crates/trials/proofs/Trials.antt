@@ -34,10 +34,12 @@ use Rattle.rules.specs.Change.{noteAfter, codesNote, aluChange, shiftChange, ac
 use Rattle.rules.specs.Narrow.{narrowEntry, narrowRow}
 use Rattle.checker.specs.Answer.{passOf}
 use Rattle.checker.specs.Passes.{shapeOk, rowPass, readPass, flowPass, entryPass, cross, narrowedEdge, wordPass, answerOf, checkOf}
+use Rattle.bundle.specs.Layout.{fieldsBefore, fieldRead, bundleOk}
+use Rattle.bundle.specs.Bundle.{regionTo, fieldTo, withRegions, withFieldsOf, withFields, bundleAnswer}
 use Rattle.trials.specs.Case.{Row, Outcome, outcome, given, expected}
 use Rattle.claims.proofs.Answered.{return-then-nop, one-nop, loop-accepted}
 use Rattle.claims.proofs.Looped.{loop-never-returns}
-use Rattle.trials.specs.Table.{machineTable, rowTable, passTable, edgeTable, table, Claim, returnThenNop, oneNop, loopAccepted, loopNeverReturns, Says, TableHolds}
+use Rattle.trials.specs.Table.{machineTable, rowTable, passTable, edgeTable, bundleTable, table, Claim, returnThenNop, oneNop, loopAccepted, loopNeverReturns, Says, TableHolds}
 
 -- what the definitions give for a row
 abbrev found : Row → Outcome
@@ -67,6 +69,10 @@ edge-rows-hold : Holds edgeTable
 unfolding readingOf format00 format10 memoryOf operandOf countOf signExtend conditionOf lowest first all widthOf leastOf mostOf fieldAt valuesOk fieldOk endBefore fieldFits fieldAtOk regionOk policyOk holdsIn stopOf findIn slotRuns targetOf ended setOk fitsSet within addSets subSets andSets sllSet sraSet srlSet atMost atLeast lessThan isMember only without sizeIn entryOk fits noteOk fitsNote fieldEntry entryAt entriesWith entryOf noteOf formedAt flawFrom formFault fitsAt misfit rowOf offsetsGive addressSum addressDifference aluResult shiftResult inField inRegion reachOf noteAfter codesNote aluChange shiftChange accessChange branchChange returnChange narrowEntry narrowRow passOf isSlot shapeOk rowPass readPass flowPass entryPass cross narrowedEdge wordPass answerOf checkOf
 edge-rows-hold = refl
 
+bundle-rows-hold : Holds bundleTable
+unfolding readingOf format00 format10 memoryOf operandOf countOf signExtend lowest first all widthOf leastOf mostOf fieldAt valuesOk fieldOk endBefore fieldFits fieldAtOk regionOk policyOk regionNumber fieldNumber built targetOf setOk fitsSet sizeIn entryOk fits noteOk fitsNote entryAt entriesWith entryOf noteOf rowOf formedAt flawFrom formFault fitsAt misfit branchChange returnChange narrowEntry narrowRow noteAfter passOf isSlot shapeOk rowPass readPass flowPass entryPass cross narrowedEdge wordPass answerOf checkOf fieldsBefore fieldRead bundleOk regionTo fieldTo withRegions withFieldsOf withFields bundleAnswer
+bundle-rows-hold = refl
+
 every-claim-holds : (c : Claim) → Says c
 every-claim-holds returnThenNop = return-then-nop
 every-claim-holds oneNop = one-nop
@@ -75,9 +81,11 @@ every-claim-holds loopNeverReturns = loop-never-returns
 
 every-row-holds : Holds table
 every-row-holds =
-    both (machineTable ++ rowTable ++ passTable) edgeTable
+    both (machineTable ++ rowTable ++ passTable ++ edgeTable) bundleTable
+    (both (machineTable ++ rowTable ++ passTable) edgeTable
     (both (machineTable ++ rowTable) passTable (both machineTable rowTable machine-rows-hold row-rows-hold) pass-rows-hold)
-    edge-rows-hold
+    edge-rows-hold)
+    bundle-rows-hold
 
 pub table-holds : TableHolds
 table-holds = record { rows = every-row-holds; claims = every-claim-holds }

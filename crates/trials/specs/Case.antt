@@ -45,6 +45,7 @@ use Rattle.rules.specs.Result.{aluResult, shiftResult}
 use Rattle.rules.specs.Change.{changeOf}
 use Rattle.rules.specs.Narrow.{RowLeft, narrowEntry, narrowRow}
 use Rattle.checker.specs.Passes.{checkOf}
+use Rattle.bundle.specs.Bundle.{bundleAnswer}
 
 -- what is added to a policy
 pub data Addition : Type 0 where
@@ -100,6 +101,8 @@ pub data Given : Type 0 where
   narrowingRow : ℕ → Rows·.Row → Given
   -- a check: policy, words, the rows' bytes, the entry row's, the result entry's
   check : Policy → List ℕ → List ℕ → List ℕ → List ℕ → Given
+  -- the bytes of a bundle
+  bundle : List ℕ → Given
 
 -- what comes of it
 pub data Outcome : Type 0 where
@@ -223,3 +226,4 @@ outcome (narrowing k e n) = remains (narrowEntry (conditionOf k .narrowing) e n)
 outcome (narrowingRow k row) = rowRemains (narrowRow (conditionOf k .narrowing) row)
 outcome (check p words rows entry result) =
     let a = checkOf p words rows entry result in answers (a .number) (a .word .0) (a .register)
+outcome (bundle b) = let a = bundleAnswer b in answers (a .number) (a .word .0) (a .register)

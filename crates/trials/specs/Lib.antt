@@ -12,4 +12,5 @@ pub mod ResultRows
 pub mod ChangeRows
 pub mod NarrowRows
 pub mod CheckRows
+pub mod BundleRows
 pub mod Table

@@ -16,6 +16,7 @@ use Rattle.trials.specs.ResultRows.{resultRows}
 use Rattle.trials.specs.ChangeRows.{changeRows}
 use Rattle.trials.specs.NarrowRows.{narrowRows}
 use Rattle.trials.specs.CheckRows.{passRows, edgePassRows}
+use Rattle.trials.specs.BundleRows.{bundleRows}
 
 -- words, arithmetic, flow, policies, memories and runs
 abbrev pub machineTable : List Row
@@ -35,8 +36,12 @@ passTable = passRows
 abbrev pub edgeTable : List Row
 edgeTable = edgePassRows
 
+-- bundles
+abbrev pub bundleTable : List Row
+bundleTable = bundleRows
+
 abbrev pub table : List Row
-table = machineTable ++ rowTable ++ passTable ++ edgeTable
+table = machineTable ++ rowTable ++ passTable ++ edgeTable ++ bundleTable
 
 -- the cases of every row: "Return then nop ..", "One nop alone", "10800000 .. then nop .., accepted, never returns"
 pub data Claim : Type 0 where
