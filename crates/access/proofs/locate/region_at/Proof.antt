@@ -51,9 +51,9 @@ returns c =
     let at-loop = c .before .before .before .before .before in
     let at-args = at-loop .before .before in
     let e = c .if1 .taken in (
-  sym (at-loop .loop .inv .1 ∙ first-here (insideRegion (now (at-args .args .sizes)) (now (at-args .args .bases)) (at-args .args .address)) _ _ (c .before .before .before .before .loop-test .taken) (rw (c .before .extent .ensures .0) at e)),
-  λ h. near _ _ _ (c .before .extent .ensures .1) e,
-)
+      sym (at-loop .loop .inv .1 ∙ first-here (insideRegion (now (at-args .args .sizes)) (now (at-args .args .bases)) (at-args .args .address)) _ _ (c .before .before .before .before .loop-test .taken) (rw (c .before .extent .ensures .0) at e)),
+      λ h. near _ _ _ (c .before .extent .ensures .1) e,
+    )
 
 add-r : tie.Need-add-r Inv-loop μ-loop
 add-r c = search needs

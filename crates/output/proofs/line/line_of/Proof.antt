@@ -55,9 +55,9 @@ returns c =
     let at-put-byte2 = c .before .before .before .before .before .before .before in
     let at-put-byte = at-put-byte2 .before .before .before .before .before .before in
     let third = c .before .before .before .before in let second = third .before .before .before .before .before .before in let first = second .before .before .before .before .before .before in (
-  counted _ _ (search needs),
-  lined _ _ _ _ _ _ _ _ _ (first .put-number .ensures .1) (at-put-byte .put-byte .ensures .1) (second .put-number2 .ensures .1) (at-put-byte2 .put-byte2 .ensures .1) (third .put-number3 .ensures .1) (c .before .put-byte3 .ensures .1),
-)
+      counted _ _ (search needs),
+      lined _ _ _ _ _ _ _ _ _ (first .put-number .ensures .1) (at-put-byte .put-byte .ensures .1) (second .put-number2 .ensures .1) (at-put-byte2 .put-byte2 .ensures .1) (third .put-number3 .ensures .1) (c .before .put-byte3 .ensures .1),
+    )
 
 pub line-of-spec : {M : Type 1} → statement M
 line-of-spec =

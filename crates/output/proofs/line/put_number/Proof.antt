@@ -44,12 +44,12 @@ loop-again : tie.Need-loop-again Inv-loop μ-loop
 loop-again c =
     let at-args = c .before .before .before .before .before in
     let a = at-args .args in (
-  search needs,
-  search needs,
-  search needs,
-  search needs,
-  spelled-on (c .before .loop .text) (take (a .at) (now (a .text))) (c .before .before .decimal .last .1 .0) (a .at) (c .before .loop .i) (c .before .loop .inv .4) (slice-write-text c) (lt-of-lt-of-le (c .loop-test .taken) (c .before .loop .inv .2)),
-)
+      search needs,
+      search needs,
+      search needs,
+      search needs,
+      spelled-on (c .before .loop .text) (take (a .at) (now (a .text))) (c .before .before .decimal .last .1 .0) (a .at) (c .before .loop .i) (c .before .loop .inv .4) (slice-write-text c) (lt-of-lt-of-le (c .loop-test .taken) (c .before .loop .inv .2)),
+    )
 
 add-result : tie.Need-add-result Inv-loop μ-loop
 add-result c = search needs

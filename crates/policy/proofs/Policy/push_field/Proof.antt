@@ -65,12 +65,12 @@ returns-3 c =
     let at-if1 = at-if2 .before .before .before in
     let at-pre = at-if1 .before in
     simp (
-  at-pre .pre,
-  lt-leb _ _ (at-if1 .if1 .left),
-  lt-leb _ _ (at-if2 .if2 .left),
-  ← c .before .before .before .end-before .ensures,
-  sym (c .before .field-follows .ensures) ∙ not-true _ (c .if3 .taken),
-)
+      at-pre .pre,
+      lt-leb _ _ (at-if1 .if1 .left),
+      lt-leb _ _ (at-if2 .if2 .left),
+      ← c .before .before .before .end-before .ensures,
+      sym (c .before .field-follows .ensures) ∙ not-true _ (c .if3 .taken),
+    )
 
 mul-place : tie.Need-mul-place
 mul-place c = search needs
