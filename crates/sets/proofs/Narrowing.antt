@@ -132,7 +132,7 @@ greater-than : (s : NumberSet) (n : ℕ) → SetRules s → Exactly s (λ (m : �
 greater-than s n r = leaves-by (λ m _ q. omega arith) (λ m q. omega arith) (at-least s (n + 1) r)
 
 -- n is one of the set exactly if its tests say so
-is-member : (s : NumberSet) (n : ℕ) → isMember s n ≡ true → Member s n
+pub is-member : (s : NumberSet) (n : ℕ) → isMember s n ≡ true → Member s n
 unfolding isMember
 is-member s n e =
     record {
