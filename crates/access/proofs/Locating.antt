@@ -8,8 +8,9 @@ use native.Mathlib.Omega.{arith}
 use lib.Dec.{leb, ltb}
 use lib.ListN.{getD}
 use borrow.Author.Tests.{leb-true, le-leb, ltb-true, ltb-false, lt-ltb}
-use Rattle.v8.specs.Choice.{cond-went}
-use Rattle.v8.specs.Search.{first, first-passes, first-least}
+use Rattle.v8.proofs.Choice.{cond-went}
+use Rattle.v8.specs.Search.{first}
+use Rattle.v8.proofs.Search.{first-passes, first-least}
 use Rattle.v8.specs.declared.LoadOp.the-variants.{Ld, Ldub, Lduh, Ldsb, Ldsh}
 use Rattle.v8.specs.declared.StoreOp.the-variants.{St, Stb, Sth}
 use Rattle.v8.specs.declared.Access.{Access}

@@ -2,7 +2,7 @@
 use Prim.Native.Nat.{ℕ, zero, suc, _+_}
 use mathlib.Core.List.{List}
 use lib.Dec.{eqb}
-use Rattle.v8.specs.Choice.{cond-both}
+use Rattle.v8.proofs.Choice.{cond-both}
 use Rattle.policy.specs.declared.Field.{Field}
 use Rattle.policy.specs.declared.Built.{Built}
 use Rattle.policy.specs.Laws.{Sound}

@@ -4,7 +4,7 @@ use mathlib.Core.Bool.{true, and-false}
 use mathlib.Core.List.{List}
 use mathlib.Core.Path.{_≡_}
 use lib.ListN.{length}
-use Rattle.v8.specs.Search.{needed-le, needed-eq}
+use Rattle.v8.proofs.Search.{needed-le, needed-eq}
 use Rattle.bundle.specs.Layout.{most, lengthGiven, bundleOk}
 
 module _ (b : List ℕ) where

@@ -6,7 +6,8 @@ use native.Mathlib.Omega.{arith}
 use lib.Dec.{ltb, eqb}
 use borrow.Author.Tests.{ltb-true, ltb-false, not-false}
 use Rattle.v8.specs.Numbers.{badPolicy, badShape, badRow, badFlow, entryMisfit, mostWords}
-use Rattle.v8.specs.Search.{first, first-passes, first-least, needed, needed-le}
+use Rattle.v8.specs.Search.{first}
+use Rattle.v8.proofs.Search.{first-passes, first-least, needed, needed-le}
 use Rattle.flow.specs.Readings.{readingAt, examined}
 use Rattle.policy.specs.Policy.{policyOk}
 use Rattle.rows.specs.declared.Flaw.{Flaw}

@@ -14,7 +14,8 @@ use Rattle.v8.specs.declared.Reading.{Reading}
 use Rattle.v8.specs.declared.Reading.the-variants.{Read}
 use Rattle.flow.specs.Readings.{readingsOf, readingAt, Reads, Examines}
 use Rattle.flow.proofs.Fetched.{array-has}
-use Rattle.v8.specs.Search.{first, first-here, first-next, first-end}
+use Rattle.v8.specs.Search.{first}
+use Rattle.v8.proofs.Search.{first-here, first-next, first-end}
 use Rattle.policy.specs.declared.Policy.{Policy}
 use Rattle.rows.specs.declared.Flaw.the-variants.{None, At}
 use Rattle.rows.specs.Geometry.{rowBytes}

@@ -6,7 +6,7 @@ use lib.ListN.{length}
 use borrow.Author.Tests.{eq-eqb, ne-eqb}
 use Rattle.v8.specs.Numbers.{badPolicy, badShape, mostWords}
 use Rattle.flow.proofs.Fetched.{read-count}
-use Rattle.v8.specs.Search.{needed-le, needed-eq}
+use Rattle.v8.proofs.Search.{needed-le, needed-eq}
 use Rattle.policy.specs.Policy.{policyOk}
 use Rattle.rows.specs.Geometry.{rowBytes, entryBytes}
 use Rattle.checker.specs.declared.Answer.{Answer}

@@ -7,8 +7,8 @@ use mathlib.Core.List.{List}
 use native.Mathlib.Omega.{arith}
 use lib.Dec.{eqb}
 use borrow.Author.Tests.{eqb-true, eq-eqb}
-use Rattle.v8.specs.Choice.{cond-both}
-use Rattle.v8.specs.Search.{needed, needed-le}
+use Rattle.v8.proofs.Choice.{cond-both}
+use Rattle.v8.proofs.Search.{needed, needed-le}
 use Rattle.rows.specs.declared.Entry.{Entry}
 use Rattle.rows.specs.declared.Flaw.the-variants.{None}
 use Rattle.rows.specs.declared.Note.{Note}

@@ -3,3 +3,5 @@ pub mod Passing
 pub mod Keeping
 pub mod Answered
 pub mod Looped
+pub mod Matching
+pub mod Unlinked

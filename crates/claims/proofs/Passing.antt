@@ -6,7 +6,8 @@ use mathlib.Core.Bool.{Bool, true, false, not}
 use mathlib.Core.List.{List}
 use lib.Dec.{ltb}
 use borrow.Author.Tests.{ltb-true, ltb-false, le-ltb}
-use Rattle.v8.specs.Search.{first, first-passes}
+use Rattle.v8.specs.Search.{first}
+use Rattle.v8.proofs.Search.{first-passes}
 use Rattle.policy.specs.Policy.{policyOk}
 use Rattle.rows.specs.declared.Flaw.{Flaw}
 use Rattle.rows.specs.declared.Flaw.the-variants.{None}

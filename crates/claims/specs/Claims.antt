@@ -1,5 +1,6 @@
 -- What document 01's trial words say of every row ("Trial words"): stated for every policy, entry row and result entry, not for single ones.
 -- Their proofs are `return-then-nop`, `one-nop` and `loop-accepted` in proofs/Answered.antt, and `loop-never-returns` in proofs/Looped.antt.
+-- And, of one routine, that the running guarantee is about something: `start-exists` in proofs/Unlinked.antt.
 use Prim.Native.Nat.{ℕ, _+_, _*_, _<_}
 use mathlib.Core.Path.{_≡_}
 use mathlib.Core.Bool.{true}
@@ -9,15 +10,17 @@ use Rattle.policy.specs.declared.Policy.{Policy}
 use Rattle.policy.specs.Policy.{policyOk}
 use Rattle.memory.specs.Memory.{byteAt}
 use Rattle.step.specs.declared.Registers.{Registers}
-use Rattle.machine.specs.declared.End.the-variants.{Spent}
-use Rattle.machine.specs.Run.{runOf}
+use Rattle.step.specs.Registers.{valueOf}
+use Rattle.machine.specs.declared.End.the-variants.{Returned, Spent}
+use Rattle.machine.specs.Run.{Run, runOf}
 use Rattle.rows.specs.Entry.{isReturn, fits}
 use Rattle.rows.specs.declared.Flaw.the-variants.{None}
 use Rattle.rows.specs.Geometry.{rowBytes, entryBytes}
 use Rattle.rows.specs.Row.{entryAt, entryOf, entryFormed, rowOf, formFault}
 use Rattle.checker.specs.Answer.{accepted, refuse}
-use Rattle.checker.specs.Passes.{checkOf}
+use Rattle.checker.specs.Passes.{checkOf, resultRegister}
 use Rattle.guarantee.specs.Guarantee.{Start}
+use Rattle.claims.specs.Unlink as Unlink
 
 -- the words: the leaf return, the nop (SETHI 0 to r0), and the branch that is always taken, to itself
 abbrev pub returnWord : ℕ
@@ -70,3 +73,16 @@ LoopNeverReturns =
     → (allowance : ℕ)
     → (runOf p (alwaysHere ∷ nop ∷ []) bases returns g allowance memory .outcome .end ≡ Spent)
     × (runOf p (alwaysHere ∷ nop ∷ []) bases returns g allowance memory .outcome .steps ≡ allowance)
+
+-- "every matching start": there is one. The check accepts the routine of Unlink.antt, the start there matches its entry row, and from it the run
+-- returns "where that was the last step allowed": the branch was taken once, through the link that it then made null, and once not.
+abbrev pub unlinking : Run
+unlinking = runOf Unlink.policy Unlink.words Unlink.bases Unlink.returns Unlink.registers 9 Unlink.memory
+
+pub record StartExists : Type 0 where
+  pub checked : checkOf Unlink.policy Unlink.words Unlink.rows Unlink.entry Unlink.digits ≡ accepted
+  pub matches : Start Unlink.policy Unlink.entry Unlink.bases Unlink.returns Unlink.registers Unlink.memory
+  pub returned : unlinking .outcome .end ≡ Returned
+  pub counted : unlinking .outcome .steps ≡ 9
+  pub gives : valueOf (unlinking .outcome .registers) resultRegister ≡ 7
+  pub leaves : unlinking .memory ≡ Unlink.cleared

@@ -8,8 +8,9 @@ use native.Mathlib.Omega.{arith}
 use lib.Dec.{leb, ltb, eqb}
 use lib.ListN.{getD}
 use borrow.Author.Tests.{leb-true, ltb-true, ltb-false, lt-ltb, le-leb, eq-eqb}
-use Rattle.v8.specs.Choice.{cond-both}
-use Rattle.v8.specs.Search.{first, first-passes, first-least}
+use Rattle.v8.proofs.Choice.{cond-both}
+use Rattle.v8.specs.Search.{first}
+use Rattle.v8.proofs.Search.{first-passes, first-least}
 use Rattle.v8.specs.declared.StoreOp.{StoreOp}
 use Rattle.v8.specs.declared.Access.{Access}
 use Rattle.v8.specs.declared.Access.the-variants.{Loads, Stores}

@@ -9,7 +9,7 @@ use lib.Dec.{ltb, eqb}
 use lib.ListN.{length, getD, set, length-set}
 use lib.Seq.{getD-set-same, getD-set-other}
 use borrow.Author.Tests.{eqb-true, eqb-false, ltb-true, lt-ltb, ne-eqb}
-use Rattle.v8.specs.Choice.{cond-both}
+use Rattle.v8.proofs.Choice.{cond-both}
 use Rattle.alu.specs.declared.codes.Codes.{Codes}
 use Rattle.step.specs.declared.Registers.{Registers}
 use Rattle.step.specs.Registers.{valueIn, setIn, valuesWith, marksWith, valueOf, written, withCodes}

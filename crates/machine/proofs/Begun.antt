@@ -7,7 +7,7 @@ use native.Mathlib.Omega.{arith}
 use lib.Dec.{ltb}
 use lib.ListN.{length}
 use borrow.Author.Tests.{ltb-false}
-use Rattle.v8.specs.Choice.{cond-went}
+use Rattle.v8.proofs.Choice.{cond-went}
 use Rattle.v8.specs.Numbers.{mostWords}
 use Rattle.policy.specs.declared.Policy.{Policy}
 use Rattle.policy.specs.Policy.{policyOk}

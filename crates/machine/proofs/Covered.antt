@@ -8,8 +8,8 @@ use native.Mathlib.Nat.{le-trans}
 use lib.Dec.{ltb}
 use lib.ListN.{length}
 use borrow.Author.Tests.{ltb-true}
-use Rattle.v8.specs.Choice.{cond-both}
-use Rattle.v8.specs.Search.{needed-eq}
+use Rattle.v8.proofs.Choice.{cond-both}
+use Rattle.v8.proofs.Search.{needed-eq}
 use Rattle.policy.specs.declared.Policy.{Policy}
 use Rattle.policy.specs.declared.Found.{Found}
 use Rattle.policy.specs.declared.Found.the-variants as Found·

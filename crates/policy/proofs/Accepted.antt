@@ -1,7 +1,7 @@
 -- What an accepted add obeys: the way through the chain of refusals that ends in 0.
 use native.Mathlib.Omega.{arith}
 use borrow.Author.Tests.{leb-false}
-use Rattle.v8.specs.Choice.{cond-went}
+use Rattle.v8.proofs.Choice.{cond-went}
 use Rattle.policy.specs.Build.{regionNumber, fieldNumber}
 use Rattle.policy.specs.Laws.{AcceptsRegion, AcceptsField}
 

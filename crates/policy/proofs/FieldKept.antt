@@ -9,7 +9,7 @@ use borrow.Author.Tests.{eqb-true, eqb-false}
 use lib.Dec.{eqb}
 use lib.ListN.{length, getD, set, length-set}
 use lib.Seq.{getD-set-same, getD-set-other}
-use Rattle.v8.specs.Choice.{cond-both}
+use Rattle.v8.proofs.Choice.{cond-both}
 use Rattle.policy.specs.Policy.{sizeOf, countOf, placeOf, fieldAt, fieldEnd}
 use Rattle.v8.specs.Numbers.{acceptance}
 use Rattle.policy.specs.Build.{withField, fieldNumber, built}

@@ -7,8 +7,9 @@ use native.Mathlib.Omega.{arith}
 use borrow.Author.Tests.{ltb-true, ltb-false, lt-ltb, le-leb}
 use lib.Dec.{ltb}
 use lib.ListN.{getD}
-use Rattle.v8.specs.Choice.{cond-went, cond-both}
-use Rattle.v8.specs.Search.{first, first-from, first-passes, first-least, needed-le}
+use Rattle.v8.proofs.Choice.{cond-went, cond-both}
+use Rattle.v8.specs.Search.{first}
+use Rattle.v8.proofs.Search.{first-from, first-passes, first-least, needed-le}
 use Rattle.policy.specs.Policy.{countOf, placeOf, elementsEnd, fieldAt}
 use Rattle.policy.specs.Find.{holdsIn, stopOf, findIn, findField}
 use Rattle.policy.specs.Laws.{Holds, FoundHere, FoundHolds, NoneHolds, Finds}

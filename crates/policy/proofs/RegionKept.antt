@@ -9,7 +9,7 @@ use borrow.Author.Tests.{eqb-true}
 use lib.Dec.{eqb}
 use lib.ListN.{length-set}
 use lib.Seq.{getD-set-same, getD-set-other}
-use Rattle.v8.specs.Choice.{cond-both}
+use Rattle.v8.proofs.Choice.{cond-both}
 use Rattle.v8.specs.Search.{all}
 use Rattle.policy.specs.Policy.{sizeOf, countOf, placeOf, fieldAt, fieldEnd, policyOk}
 use Rattle.v8.specs.Numbers.{acceptance}

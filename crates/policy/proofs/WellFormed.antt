@@ -7,8 +7,9 @@ use native.Mathlib.Omega.{arith}
 use borrow.Author.Tests.{ltb-true, ltb-false, lt-ltb, le-ltb, le-leb, eq-eqb, ne-eqb}
 use lib.Dec.{ltb}
 use Rattle.v8.specs.Signed.{bias}
-use Rattle.v8.specs.Choice.{cond-both}
-use Rattle.v8.specs.Search.{all, all-at, all-each, needed, needed-le, needed-lt, needed-eq, and-both}
+use Rattle.v8.proofs.Choice.{cond-both}
+use Rattle.v8.specs.Search.{all}
+use Rattle.v8.proofs.Search.{all-at, all-each, needed, needed-le, needed-lt, needed-eq, and-both}
 use Rattle.policy.specs.Element.{widthOf, leastOf, mostOf}
 use Rattle.policy.specs.Policy.{sizeOf, countOf, placeOf, fieldAt, fieldEnd, sizeOk, valuesOk, fieldOk, endBefore, fieldFits, fieldAtOk, regionOk, policyOk}
 use Rattle.policy.specs.Laws.{SizeRules, NumberRules, AddressRules, FieldRules, WellFormed, Obeys, Passes}

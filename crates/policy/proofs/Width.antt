@@ -4,8 +4,8 @@ use mathlib.Core.Path.{_≡_, refl}
 use mathlib.Core.Bool.{Bool, true, false, _&&_, and-false}
 use lib.Dec.{T, leb}
 use lib.ListN.{getD}
-use Rattle.v8.specs.Search.{needed-le}
-use Rattle.v8.specs.Table.{at}
+use Rattle.v8.proofs.Search.{needed-le}
+use Rattle.v8.proofs.Table.{at}
 use Rattle.policy.specs.Element.{widths}
 use Rattle.policy.specs.Laws.{Wide}
 

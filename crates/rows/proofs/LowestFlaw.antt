@@ -5,7 +5,8 @@ use mathlib.Core.Bool.{Bool, true, false, cond}
 use native.Mathlib.Omega.{arith, by-contra}
 use lib.Dec.{ltb}
 use borrow.Author.Tests.{lt-ltb, le-ltb, ltb-false}
-use Rattle.v8.specs.Search.{first, first-here, first-next, first-end, first-passes, first-least}
+use Rattle.v8.specs.Search.{first}
+use Rattle.v8.proofs.Search.{first-here, first-next, first-end, first-passes, first-least}
 use Rattle.rows.specs.declared.Flaw.{Flaw}
 use Rattle.rows.specs.declared.Flaw.the-variants.{None, At}
 use Rattle.rows.specs.Geometry.{places}

@@ -10,9 +10,9 @@ use lib.ListN.{getD}
 use native.Mathlib.Nat.{mod-one}
 use borrow.Author.Tests.{ltb-true, ltb-false, leb-true, not-false}
 use Rattle.v8.specs.Signed.{bias}
-use Rattle.v8.specs.Search.{needed}
-use Rattle.v8.specs.Table.{at}
-use Rattle.v8.specs.Choice.{cond-went, cond-both}
+use Rattle.v8.proofs.Search.{needed}
+use Rattle.v8.proofs.Table.{at}
+use Rattle.v8.proofs.Choice.{cond-went, cond-both}
 use Rattle.policy.specs.Element.{mosts, mostOf}
 use Rattle.sets.specs.Sets.{setOk, s1, numbers, ended}
 use Rattle.sets.proofs.Formed.{obeys}

@@ -5,7 +5,7 @@ use mathlib.Core.Bool.{not, _&&_}
 use mathlib.Core.List.{List}
 use lib.Dec.{ltb}
 use Rattle.v8.specs.Signed.{bias}
-use Rattle.v8.specs.Choice.{cond-both}
+use Rattle.v8.proofs.Choice.{cond-both}
 use Rattle.v8.specs.declared.Access.{Access}
 use Rattle.policy.specs.declared.Fields.{Fields}
 use Rattle.policy.specs.declared.Found.{Found}

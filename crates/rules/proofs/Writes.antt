@@ -9,7 +9,7 @@ use lib.Dec.{leb, ltb, eqb}
 use lib.ListN.{length, getD, set, length-set, List·getD-eq-default}
 use lib.Seq.{getD-set-same, getD-set-other}
 use borrow.Author.Tests.{eqb-true, eqb-false, ltb-true, ltb-false, eq-eqb, ne-eqb}
-use Rattle.v8.specs.Choice.{cond-both}
+use Rattle.v8.proofs.Choice.{cond-both}
 use Rattle.v8.specs.Signed.{excess}
 use Rattle.v8.specs.declared.AluOp.{AluOp}
 use Rattle.v8.specs.declared.AluOp.the-variants.{Add, And, Or, Xor, Sub, Andn, Orn, Xnor}

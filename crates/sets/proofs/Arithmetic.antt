@@ -8,7 +8,7 @@ use native.Mathlib.Nat.{mod-one}
 use lib.Dec.{leb}
 use lib.Bits.{bitAnd, and-le-l, and-le-r}
 use borrow.Author.Tests.{leb-true}
-use Rattle.v8.specs.Choice.{cond-both}
+use Rattle.v8.proofs.Choice.{cond-both}
 use Rattle.v8.specs.Signed.{excess, bias}
 use Rattle.v8.specs.declared.AluOp.the-variants.{Add, And, Or, Xor, Sub, Andn, Orn, Xnor}
 use Rattle.alu.specs.Result.{add32, sub32}

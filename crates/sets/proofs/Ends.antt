@@ -8,7 +8,7 @@ use native.Mathlib.Omega.{arith}
 use native.Mathlib.Nat.{zero-mod}
 use lib.Dec.{ltb, leb, eqb}
 use borrow.Author.Tests.{ltb-false, leb-false, le-ltb, lt-leb, eqb-true, eqb-false}
-use Rattle.v8.specs.Choice.{cond-both}
+use Rattle.v8.proofs.Choice.{cond-both}
 use Rattle.v8.specs.Signed.{excess, bias}
 use Rattle.sets.specs.Sets.{modulus, numbers, single, full, ended, Step, s1, s8, SetRules, Member}
 use Rattle.sets.specs.Rules.{lowest, beyond, within}

@@ -8,7 +8,7 @@ use mathlib.Core.Logic.{⊎-elim}
 use native.Mathlib.Omega.{arith}
 use native.Mathlib.Nat.{le-trans, zero-mod, mod-self, eq-or-lt-of-le}
 use borrow.Author.Tests.{le-leb, eq-eqb}
-use Rattle.v8.specs.Search.{needed-le, needed-eq}
+use Rattle.v8.proofs.Search.{needed-le, needed-eq}
 use Rattle.sets.specs.Sets.{fitsSet, Member}
 use Rattle.sets.specs.Laws.{FitsHolds, HoldsFits}
 use Rattle.sets.specs.declared.NumberSet.{NumberSet}

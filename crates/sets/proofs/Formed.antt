@@ -4,7 +4,7 @@ use mathlib.Core.Path.{_≡_, refl, sym, subst}
 use mathlib.Core.Bool.{Bool, true, false, not, _||_, and-false}
 use lib.Dec.{eqb}
 use borrow.Author.Tests.{eqb-true, le-leb, eq-eqb}
-use Rattle.v8.specs.Search.{needed, needed-le, needed-eq}
+use Rattle.v8.proofs.Search.{needed, needed-le, needed-eq}
 use Rattle.sets.specs.Sets.{Step, s1, s2, s4, s8, isStep, isSingle, setOk}
 use Rattle.sets.specs.Laws.{Obeys, Passes}
 use Rattle.sets.specs.declared.NumberSet.{NumberSet}

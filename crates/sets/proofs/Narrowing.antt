@@ -8,8 +8,8 @@ use native.Mathlib.Omega.{arith}
 use native.Mathlib.Nat.{add-sub-cancel-left}
 use lib.Dec.{ltb, eqb}
 use borrow.Author.Tests.{ltb-true, ltb-false, leb-true, eqb-true, eqb-false, lt-ltb, le-leb, eq-eqb, not-true}
-use Rattle.v8.specs.Choice.{cond-both}
-use Rattle.v8.specs.Search.{needed-le, needed-eq}
+use Rattle.v8.proofs.Choice.{cond-both}
+use Rattle.v8.proofs.Search.{needed-le, needed-eq}
 use Rattle.alu.specs.Condition.{compares}
 use Rattle.alu.specs.declared.condition.Narrowing.{Narrowing}
 use Rattle.alu.specs.declared.condition.Narrowing.the-variants.{Unrelated, EqualTo, NotEqualTo, LessThan, AtLeast, AtMost, GreaterThan}
@@ -132,7 +132,7 @@ greater-than : (s : NumberSet) (n : ℕ) → SetRules s → Exactly s (λ (m : �
 greater-than s n r = leaves-by (λ m _ q. omega arith) (λ m q. omega arith) (at-least s (n + 1) r)
 
 -- n is one of the set exactly if its tests say so
-is-member : (s : NumberSet) (n : ℕ) → isMember s n ≡ true → Member s n
+pub is-member : (s : NumberSet) (n : ℕ) → isMember s n ≡ true → Member s n
 unfolding isMember
 is-member s n e =
     record {

@@ -8,8 +8,8 @@ use native.Mathlib.Decide.{decLe}
 use lib.Dec.{leb, eqb}
 use lib.Pow.{pow-pos, pow-mono, shr-mono, shr-lt}
 use borrow.Author.Tests.{leb-true, leb-false, eqb-false, lt-leb}
-use Rattle.v8.specs.Choice.{cond-both}
-use Rattle.v8.specs.Power.{twice}
+use Rattle.v8.proofs.Choice.{cond-both}
+use Rattle.v8.proofs.Power.{twice}
 use Rattle.v8.specs.Signed.{excess, bias}
 use Rattle.v8.specs.declared.ShiftOp.the-variants.{Sll, Srl, Sra}
 use Rattle.alu.specs.Result.{sll32, srl32, sra32}

@@ -39,7 +39,8 @@ use Rattle.bundle.specs.Bundle.{regionTo, fieldTo, withRegions, withFieldsOf, w
 use Rattle.trials.specs.Case.{Row, Outcome, outcome, given, expected}
 use Rattle.claims.proofs.Answered.{return-then-nop, one-nop, loop-accepted}
 use Rattle.claims.proofs.Looped.{loop-never-returns}
-use Rattle.trials.specs.Table.{machineTable, rowTable, passTable, edgeTable, bundleTable, table, Claim, returnThenNop, oneNop, loopAccepted, loopNeverReturns, Says, TableHolds}
+use Rattle.claims.proofs.Unlinked.{start-exists}
+use Rattle.trials.specs.Table.{machineTable, rowTable, passTable, edgeTable, bundleTable, table, Claim, returnThenNop, oneNop, loopAccepted, loopNeverReturns, startExists, Says, TableHolds}
 
 -- what the definitions give for a row
 abbrev found : Row → Outcome
@@ -78,6 +79,7 @@ every-claim-holds returnThenNop = return-then-nop
 every-claim-holds oneNop = one-nop
 every-claim-holds loopAccepted = loop-accepted
 every-claim-holds loopNeverReturns = loop-never-returns
+every-claim-holds startExists = start-exists
 
 every-row-holds : Holds table
 every-row-holds =

@@ -1,8 +1,8 @@
 -- The one shared table of worked cases, by subject: rows that are computed, in parts small enough for one proof each, and the cases that
--- document 01 states of every row, which are claims.
+-- document 01 states of every row or that say more than an outcome, which are claims.
 use mathlib.Core.Path.{_≡_}
 use mathlib.Core.List.{List, _++_, map}
-use Rattle.claims.specs.Claims.{ReturnThenNop, OneNop, LoopAccepted, LoopNeverReturns}
+use Rattle.claims.specs.Claims.{ReturnThenNop, OneNop, LoopAccepted, LoopNeverReturns, StartExists}
 use Rattle.trials.specs.Case.{Row, outcome, given, expected}
 use Rattle.trials.specs.Words.{wordRows, writeRows, answerRows}
 use Rattle.trials.specs.Arithmetic.{additionRows, subtractionRows, logicRows, shiftRows, conditionRows}
@@ -43,12 +43,14 @@ bundleTable = bundleRows
 abbrev pub table : List Row
 table = machineTable ++ rowTable ++ passTable ++ edgeTable ++ bundleTable
 
--- the cases of every row: "Return then nop ..", "One nop alone", "10800000 .. then nop .., accepted, never returns"
+-- the cases of every row: "Return then nop ..", "One nop alone", "10800000 .. then nop .., accepted, never returns"; and a whole routine, with a
+-- start that matches and its run
 pub data Claim : Type 0 where
   returnThenNop : Claim
   oneNop : Claim
   loopAccepted : Claim
   loopNeverReturns : Claim
+  startExists : Claim
 
 -- what each says
 abbrev pub Says : Claim → Type 0
@@ -56,6 +58,7 @@ Says returnThenNop = ReturnThenNop
 Says oneNop = OneNop
 Says loopAccepted = LoopAccepted
 Says loopNeverReturns = LoopNeverReturns
+Says startExists = StartExists
 
 -- the whole table holds: each row has the outcome that it expects, and each claim is so
 pub record TableHolds : Type 0 where

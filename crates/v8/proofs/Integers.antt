@@ -10,7 +10,7 @@ use lib.Pow.{pow-mono}
 use mir.Syntax.{w32}
 use mir.Val.{sel, toZ}
 use borrow.Author.Tests.{ltb-true, ltb-false, lt-ltb, le-ltb}
-use Rattle.v8.specs.Power.{twice}
+use Rattle.v8.proofs.Power.{twice}
 use Rattle.v8.specs.Signed.{signed, signExtend, excess, SignExtends, ExcessIs, ExcessOrder}
 
 -- a word below 2^31 stands for itself, another for 2^32 less

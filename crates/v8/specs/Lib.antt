@@ -1,8 +1,6 @@
-pub mod Choice
 pub mod Table
 pub mod Search
 pub mod Numbers
-pub mod Power
 pub mod Signed
 pub mod Field
 pub mod Read

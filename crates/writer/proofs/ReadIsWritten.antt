@@ -10,8 +10,8 @@ use lib.Dec.{leb, ltb, eqb, eqb→eq}
 use borrow.Author.Tests.{ltb-false, leb-true, eqb-true, eqb-false, lt-ltb, eq-eqb}
 use native.Mathlib.Nat.{add-comm, mod-eq-of-lt}
 use lib.Pow.{low, high-ones}
-use Rattle.v8.specs.Choice.{cond-went, cond-both}
-use Rattle.v8.specs.Table.{at}
+use Rattle.v8.proofs.Choice.{cond-went, cond-both}
+use Rattle.v8.proofs.Table.{at}
 use Rattle.v8.specs.Signed.{signExtend}
 use Rattle.v8.specs.Field.{opOf, rdOf, annulOf, condOf, op2Of, low22Of, op3Of, rs1Of, iOf, unusedOf, rs2Of, simm13Of}
 use Rattle.v8.specs.Read.{readingOf, format00, format10, memoryOf, memoryWith, operandOf, countOf, displacementOf, aluOps, aluOpOf, aluWith, shiftWith, accessOf, leafReturn}

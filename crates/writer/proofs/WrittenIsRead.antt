@@ -8,7 +8,7 @@ use mathlib.Core.Bool.{Bool, true, false, cond}
 use native.Mathlib.Omega.{arith}
 use lib.Dec.{ltb, eqb}
 use borrow.Author.Tests.{ltb-true, eqb-true}
-use Rattle.v8.specs.Choice.{cond-went}
+use Rattle.v8.proofs.Choice.{cond-went}
 use Rattle.v8.specs.Signed.{signExtend}
 use Rattle.v8.specs.Field.{opOf, rdOf, annulOf, condOf, op2Of, low22Of, op3Of, rs1Of, iOf, unusedOf, rs2Of, simm13Of}
 use Rattle.v8.specs.Read.{readingOf, format00, format10, memoryOf, memoryWith, operandOf, countOf, displacementOf, aluWith, shiftWith, accessOf}

@@ -1,6 +1,6 @@
 -- A signed number fits if sign extension gives it back; its bits are the remainder by 2^n, which the code writes as 1 << n.
 use lib.Pow.{pow-pos, pow-mono}
-use Rattle.v8.specs.Power.{shifted}
+use Rattle.v8.proofs.Power.{shifted}
 use Rattle.writer.specs.Write.{signedBits}
 use native.Mathlib.Nat.{mod-lt}
 use native.Mathlib.Omega.{arith}

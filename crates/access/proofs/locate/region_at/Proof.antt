@@ -2,7 +2,8 @@
 -- regions left. A region that is found ends within 2^16 bytes of its base, since a size is a number of 16 bits.
 use Rattle.access.proofs.Places.{near}
 use Rattle.access.specs.Locate.{insideRegion, regionIn}
-use Rattle.v8.specs.Search.{first, first-here, first-next, first-end}
+use Rattle.v8.specs.Search.{first}
+use Rattle.v8.proofs.Search.{first-here, first-next, first-end}
 use denote.Ref.{now}
 use borrow.Author.Needs.{needs}
 use native.Mathlib.Omega.{arith}

@@ -1,5 +1,5 @@
 -- An add follows only an add that was accepted.
-use Rattle.v8.specs.Choice.{tests}
+use Rattle.v8.proofs.Choice.{tests}
 use Rattle.bundle.specs.Bundle.{regionTo}
 use Rattle.bundle.proofs.building.region_to.Statement.{statement}
 use Rattle.bundle.proofs.building.region_to.Tie as tie

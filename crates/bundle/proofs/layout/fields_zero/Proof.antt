@@ -5,7 +5,8 @@ use mathlib.Core.Path.{_≡_, sym, ap, _∙_}
 use native.Mathlib.Nat.{le-antisymm}
 use borrow.Author.Needs.{needs}
 use borrow.Author.Tests.{not-true, not-false}
-use Rattle.v8.specs.Search.{all, all-none, all-more, all-not}
+use Rattle.v8.specs.Search.{all}
+use Rattle.v8.proofs.Search.{all-none, all-more, all-not}
 use Rattle.bundle.specs.Layout.{fieldZero}
 use Rattle.bundle.proofs.layout.fields_zero.Statement.{statement}
 use Rattle.bundle.proofs.layout.fields_zero.Tie as tie

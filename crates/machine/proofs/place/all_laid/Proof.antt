@@ -5,7 +5,8 @@ use mathlib.Core.Bool.{true, and-false}
 use native.Mathlib.Nat.{le-antisymm}
 use borrow.Author.Needs.{needs}
 use borrow.Author.Tests.{not-true, not-false}
-use Rattle.v8.specs.Search.{all, all-none, all-more, all-not}
+use Rattle.v8.specs.Search.{all}
+use Rattle.v8.proofs.Search.{all-none, all-more, all-not}
 use Rattle.machine.specs.Placement.{basePlacedAt, disjointIn}
 use Rattle.machine.proofs.place.all_laid.Statement.{statement}
 use Rattle.machine.proofs.place.all_laid.Tie as tie

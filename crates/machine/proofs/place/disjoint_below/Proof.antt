@@ -5,7 +5,8 @@ use mathlib.Core.Bool.{true}
 use native.Mathlib.Nat.{le-antisymm}
 use borrow.Author.Needs.{needs}
 use borrow.Author.Tests.{not-true, not-false}
-use Rattle.v8.specs.Search.{all, all-none, all-more, all-not}
+use Rattle.v8.specs.Search.{all}
+use Rattle.v8.proofs.Search.{all-none, all-more, all-not}
 use Rattle.machine.specs.Placement.{apartIn, disjointIn}
 use Rattle.machine.proofs.place.disjoint_below.Statement.{statement}
 use Rattle.machine.proofs.place.disjoint_below.Tie as tie

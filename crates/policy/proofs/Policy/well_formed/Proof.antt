@@ -6,7 +6,8 @@ use native.Mathlib.Omega.{arith}
 use native.Mathlib.Nat.{le-antisymm}
 use borrow.Author.Tests.{not-true, not-false, lt-leb, le-leb}
 use borrow.Author.Needs.{needs}
-use Rattle.v8.specs.Search.{all, all-none, all-more, all-not}
+use Rattle.v8.specs.Search.{all}
+use Rattle.v8.proofs.Search.{all-none, all-more, all-not}
 use Rattle.policy.specs.Policy.{regionOk, policyOk}
 use Rattle.policy.proofs.Policy.well_formed.Statement.{statement}
 use Rattle.policy.proofs.Policy.well_formed.Tie as tie

@@ -2,7 +2,7 @@
 use native.Mathlib.Omega.{arith}
 use borrow.Author.Tests.{lt-ltb}
 use borrow.Author.Needs.{needs}
-use Rattle.v8.specs.Choice.{tests}
+use Rattle.v8.proofs.Choice.{tests}
 use Rattle.policy.specs.Element.{widthOf}
 use Rattle.policy.proofs.Width.{listed}
 use Rattle.policy.proofs.element.width_of.Statement.{statement}

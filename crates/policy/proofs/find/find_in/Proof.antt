@@ -9,8 +9,9 @@ use native.Mathlib.Omega.{arith}
 use borrow.Author.Tests.{lt-ltb, le-ltb}
 use borrow.Author.Needs.{needs}
 use lib.ListN.{getD}
-use Rattle.v8.specs.Search.{first, first-here, first-next, first-end}
-use Rattle.v8.specs.Choice.{tests}
+use Rattle.v8.specs.Search.{first}
+use Rattle.v8.proofs.Search.{first-here, first-next, first-end}
+use Rattle.v8.proofs.Choice.{tests}
 use Rattle.policy.specs.declared.Search.{Search}
 use Rattle.policy.specs.declared.Found.{Found}
 use Rattle.policy.specs.declared.Found.the-variants.{At, Nothing}

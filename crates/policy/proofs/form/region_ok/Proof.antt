@@ -6,7 +6,8 @@ use mathlib.Core.Path.{_≡_, sym, _∙_}
 use native.Mathlib.Omega.{arith}
 use native.Mathlib.Nat.{le-antisymm}
 use borrow.Author.Tests.{not-true, not-false, lt-leb, le-leb}
-use Rattle.v8.specs.Search.{all, all-none, all-more, all-not}
+use Rattle.v8.specs.Search.{all}
+use Rattle.v8.proofs.Search.{all-none, all-more, all-not}
 use Rattle.policy.specs.Policy.{fieldAt, fieldAtOk, endBefore, regionOk}
 use Rattle.policy.proofs.Ending.{end-first, end-next, follows-is}
 use borrow.Author.Needs.{needs}

@@ -1,7 +1,7 @@
 -- An element below 6 is looked up in the tables of least and greatest numbers; the others name a region.
 use borrow.Author.Tests.{lt-ltb}
 use borrow.Author.Needs.{needs}
-use Rattle.v8.specs.Choice.{tests}
+use Rattle.v8.proofs.Choice.{tests}
 use Rattle.policy.specs.Element.{leastOf, mostOf}
 use Rattle.policy.specs.Policy.{valuesOk}
 use Rattle.policy.proofs.form.values_ok.Statement.{statement}

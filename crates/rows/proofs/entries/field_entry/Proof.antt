@@ -1,6 +1,6 @@
 -- The elements below 6 hold numbers, 6 a region's start, the last that or null.
 use borrow.Author.Needs.{needs}
-use Rattle.v8.specs.Choice.{tests}
+use Rattle.v8.proofs.Choice.{tests}
 use Rattle.rows.specs.Entry.{fieldEntry}
 use Rattle.rows.proofs.entries.field_entry.Statement.{statement}
 use Rattle.rows.proofs.entries.field_entry.Tie as tie

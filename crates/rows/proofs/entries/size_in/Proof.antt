@@ -2,7 +2,7 @@
 use native.Mathlib.Omega.{arith}
 use borrow.Author.Needs.{needs}
 use borrow.Author.Tests.{lt-ltb}
-use Rattle.v8.specs.Choice.{tests}
+use Rattle.v8.proofs.Choice.{tests}
 use Rattle.rows.specs.Entry.{sizeIn}
 use Rattle.rows.proofs.entries.size_in.Statement.{statement}
 use Rattle.rows.proofs.entries.size_in.Tie as tie

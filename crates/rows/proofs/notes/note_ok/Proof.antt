@@ -1,5 +1,5 @@
 -- The tests are those of the definition, by whether the note is a comparison.
-use Rattle.v8.specs.Choice.{tests}
+use Rattle.v8.proofs.Choice.{tests}
 use Rattle.rows.specs.Entry.{noteOk}
 use Rattle.rows.proofs.notes.note_ok.Statement.{statement}
 use Rattle.rows.proofs.notes.note_ok.Tie as tie

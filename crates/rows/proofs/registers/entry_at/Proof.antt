@@ -1,6 +1,6 @@
 -- An index below the entries' count is looked up; any other has no entry.
 use borrow.Author.Needs.{needs}
-use Rattle.v8.specs.Choice.{tests}
+use Rattle.v8.proofs.Choice.{tests}
 use Rattle.rows.specs.Row.{entryAt}
 use Rattle.rows.proofs.registers.entry_at.Statement.{statement}
 use Rattle.rows.proofs.registers.entry_at.Tie as tie

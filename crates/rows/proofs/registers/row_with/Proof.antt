@@ -1,6 +1,6 @@
 -- r0 and numbers that name no entry keep the entries; any other has its entry set.
 use borrow.Author.Needs.{needs}
-use Rattle.v8.specs.Choice.{tests}
+use Rattle.v8.proofs.Choice.{tests}
 use Rattle.rows.specs.Row.{entriesWith}
 use Rattle.rows.proofs.registers.row_with.Statement.{statement}
 use Rattle.rows.proofs.registers.row_with.Tie as tie

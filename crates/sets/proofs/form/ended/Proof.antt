@@ -1,5 +1,5 @@
 -- With equal ends the set is the single number.
-use Rattle.v8.specs.Choice.{tests}
+use Rattle.v8.proofs.Choice.{tests}
 use Rattle.sets.specs.Sets.{ended}
 use borrow.Author.Needs.{needs}
 use Rattle.sets.proofs.form.ended.Statement.{statement}

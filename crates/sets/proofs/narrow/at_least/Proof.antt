@@ -1,6 +1,6 @@
 -- From n on: the span from the larger of lo and n up to hi, rounded down to the step, is taken off hi.
 use borrow.Author.Tests.{le-ltb}
-use Rattle.v8.specs.Choice.{tests}
+use Rattle.v8.proofs.Choice.{tests}
 use Rattle.sets.specs.Narrow.{atLeast}
 use borrow.Author.Needs.{needs}
 use Rattle.sets.proofs.narrow.at_least.Statement.{statement}

@@ -1,6 +1,6 @@
 -- Up to n: the span from lo up to the smaller of hi and n, rounded down to the step, is added to lo.
 use borrow.Author.Tests.{le-ltb}
-use Rattle.v8.specs.Choice.{tests}
+use Rattle.v8.proofs.Choice.{tests}
 use Rattle.sets.specs.Narrow.{atMost}
 use borrow.Author.Needs.{needs}
 use Rattle.sets.proofs.narrow.at_most.Statement.{statement}

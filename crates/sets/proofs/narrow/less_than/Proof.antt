@@ -1,5 +1,5 @@
 -- Nothing lies below the least number; else the members up to the one before n are those below it.
-use Rattle.v8.specs.Choice.{tests}
+use Rattle.v8.proofs.Choice.{tests}
 use Rattle.sets.specs.Narrow.{lessThan}
 use borrow.Author.Needs.{needs}
 use Rattle.sets.proofs.narrow.less_than.Statement.{statement}

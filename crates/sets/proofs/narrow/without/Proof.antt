@@ -1,5 +1,5 @@
 -- A dropped end leaves the members above it or below it; a number that is no end leaves all.
-use Rattle.v8.specs.Choice.{tests}
+use Rattle.v8.proofs.Choice.{tests}
 use Rattle.sets.specs.Narrow.{without}
 use borrow.Author.Needs.{needs}
 use Rattle.sets.proofs.narrow.without.Statement.{statement}

@@ -1,5 +1,5 @@
 -- Which of the two operands is never negative decides the greatest member.
-use Rattle.v8.specs.Choice.{tests}
+use Rattle.v8.proofs.Choice.{tests}
 use Rattle.sets.specs.Rules.{andSets}
 use borrow.Author.Needs.{needs}
 use Rattle.sets.proofs.operations.and_sets.Statement.{statement}

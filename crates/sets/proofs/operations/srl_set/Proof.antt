@@ -3,8 +3,8 @@ use Prim.Native.Nat.{_-_}
 use native.Mathlib.Omega.{arith}
 use borrow.Author.Tests.{lt-leb, ne-eqb}
 use lib.Pow.{pow-pos}
-use Rattle.v8.specs.Power.{shifted}
-use Rattle.v8.specs.Choice.{tests}
+use Rattle.v8.proofs.Power.{shifted}
+use Rattle.v8.proofs.Choice.{tests}
 use Rattle.sets.specs.Rules.{srlSet}
 use Rattle.sets.proofs.Powers.{pow-half}
 use borrow.Author.Needs.{needs}

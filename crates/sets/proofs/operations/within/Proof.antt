@@ -1,5 +1,5 @@
 -- Each end is tested against both bounds; past the tests, what is taken off leaves 32 bits.
-use Rattle.v8.specs.Choice.{tests}
+use Rattle.v8.proofs.Choice.{tests}
 use Rattle.sets.specs.Rules.{within}
 use borrow.Author.Needs.{needs}
 use Rattle.sets.proofs.operations.within.Statement.{statement}

@@ -1,5 +1,5 @@
 -- A field of n bits is sign-extended: below half of 2^n it stays, else 2^32 - 2^n is added, which the code writes with the half.
-use Rattle.v8.specs.Power.{half}
+use Rattle.v8.proofs.Power.{half}
 use native.Mathlib.Omega.{arith}
 use Rattle.v8.specs.Signed.{signExtend}
 use borrow.Author.Tests.{lt-ltb, le-ltb}

@@ -1,0 +1,74 @@
+-- The routine that makes a link null: the check's passes, the start's tests and the run's nine steps are computed from the definitions.
+use mathlib.Core.Path.{_≡_, refl, sym}
+use mathlib.Core.Bool.{xor}
+use native.Mathlib.Omega.{arith}
+use Rattle.v8.specs.Signed.{signExtend}
+use Rattle.v8.specs.Search.{all, lowest, first}
+use Rattle.v8.specs.Read.{readingOf, format00, format10, memoryOf, operandOf, countOf}
+use Rattle.alu.specs.Codes.{codesOf}
+use Rattle.alu.specs.Condition.{condHolds, conditionOf}
+use Rattle.flow.specs.Transfer.{slotRuns, targetOf}
+use Rattle.flow.specs.Readings.{isSlot}
+use Rattle.policy.specs.Element.{widthOf, leastOf, mostOf}
+use Rattle.policy.specs.Policy.{fieldAt, valuesOk, fieldOk, endBefore, fieldFits, fieldAtOk, regionOk, policyOk}
+use Rattle.policy.specs.Find.{holdsIn, stopOf, findIn}
+use Rattle.memory.specs.Place.{partStart}
+use Rattle.step.specs.Registers.{valueIn, setIn, valuesWith, marksWith}
+use Rattle.access.specs.Locate.{insideRegion, regionIn, locate}
+use Rattle.step.specs.Effect.{aimIn}
+use Rattle.step.specs.Step.{stepOf}
+use Rattle.machine.specs.Placement.{disjointIn, placedIn}
+use Rattle.machine.specs.Run.{runFrom, refusalOf, runOf}
+use Rattle.sets.specs.Sets.{ended, setOk, fitsSet}
+use Rattle.sets.specs.Rules.{within, addSets}
+use Rattle.sets.specs.Narrow.{isMember, only, without}
+use Rattle.rows.specs.Entry.{sizeIn, entryOk, fits, noteOk, fitsNote, fieldEntry}
+use Rattle.rows.specs.Flaw.{flawFrom}
+use Rattle.rows.specs.Row.{entryAt, entriesWith, entryOf, noteOf, rowOf, formedAt, formFault, fitsAt, misfit}
+use Rattle.rows.specs.Matches.{Host, RowMatches}
+use Rattle.rows.proofs.Tests.{false-true}
+use Rattle.rules.specs.Result.{offsetsGive, addressSum, addressDifference, aluResult}
+use Rattle.rules.specs.Reach.{inField, inRegion, reachOf}
+use Rattle.rules.specs.Change.{noteAfter, codesNote, aluChange, accessChange, branchChange, returnChange}
+use Rattle.rules.specs.Narrow.{narrowEntry, narrowRow}
+use Rattle.checker.specs.Answer.{accepted, passOf}
+use Rattle.checker.specs.Passes.{shapeOk, rowPass, readPass, flowPass, entryPass, cross, narrowedEdge, wordPass, answerOf, checkOf}
+use Rattle.guarantee.specs.Fields.{Declared}
+use Rattle.guarantee.specs.Guarantee.{hostOf, heldOf, Start}
+use Rattle.claims.specs.Unlink.{policy, words, digits, entry, rows, bases, returns, registers, memory}
+use Rattle.claims.specs.Claims.{StartExists}
+use Rattle.claims.proofs.Matching.{below, registers-match, fields-hold}
+
+abbrev host : Host
+host = hostOf bases returns
+
+checks : checkOf policy words rows entry digits ≡ accepted
+unfolding readingOf format00 format10 memoryOf operandOf countOf signExtend conditionOf lowest first all widthOf leastOf mostOf fieldAt valuesOk fieldOk endBefore fieldFits fieldAtOk regionOk policyOk holdsIn stopOf findIn slotRuns targetOf ended setOk fitsSet within addSets isMember only without sizeIn entryOk fits noteOk fitsNote fieldEntry entryAt entriesWith entryOf noteOf formedAt flawFrom formFault fitsAt misfit rowOf offsetsGive addressSum addressDifference aluResult inField inRegion reachOf noteAfter codesNote aluChange accessChange branchChange returnChange narrowEntry narrowRow passOf isSlot shapeOk rowPass readPass flowPass entryPass cross narrowedEdge wordPass answerOf checkOf
+checks = refl
+
+row-matches : RowMatches host (rowOf entry 0) (heldOf registers)
+unfolding all rowOf entryOf noteOf entryAt valueIn setIn isMember
+row-matches =
+    record {
+      entries = registers-match host (rowOf entry 0) registers refl;
+      note = record { coded = λ e. false-true (sym e); compared = λ e. false-true e };
+    }
+
+fields-match : Declared policy host memory
+unfolding all widthOf fieldAt partStart fieldEntry ended isMember
+fields-match = fields-hold policy host memory refl
+
+start-matches : Start policy entry bases returns registers memory
+unfolding all disjointIn placedIn partStart
+start-matches =
+    record {
+      words = record { values = refl; marks = refl; small = below 4294967296 (omega arith) (registers .values) refl };
+      bytes = below 256 (omega arith) memory refl;
+      placed = refl;
+      row = row-matches;
+      fields = fields-match;
+    }
+
+pub start-exists : StartExists
+unfolding readingOf format00 format10 memoryOf operandOf countOf signExtend codesOf condHolds conditionOf xor all widthOf leastOf mostOf fieldAt valuesOk fieldOk endBefore fieldFits fieldAtOk regionOk policyOk partStart lowest first holdsIn stopOf findIn valueIn setIn valuesWith marksWith insideRegion regionIn locate aimIn slotRuns targetOf stepOf disjointIn placedIn runFrom refusalOf runOf
+start-exists = record { checked = checks; matches = start-matches; returned = refl; counted = refl; gives = refl; leaves = refl }
