@@ -4,6 +4,7 @@ use Prim.Native.Nat.{ℕ, suc, _+_, _-_, _<_, _≤_}
 use mathlib.Core.Path.{_≡_, refl, sym, ap, _∙_}
 use mathlib.Core.Bool.{Bool}
 use mathlib.Core.List.{List}
+use native.Mathlib.Nat.{sub-zero}
 use native.Mathlib.Omega.{arith}
 use Rattle.v8.specs.Numbers.{notRead, noWord, noField}
 use Rattle.v8.specs.declared.Access.{Access}
@@ -36,6 +37,10 @@ leaving-step c (returned d) = refl
 -- with steps left of an allowance, one more is left
 rest : (allowance steps : ℕ) → steps < allowance → allowance - steps ≡ suc (allowance - (steps + 1))
 rest allowance steps h = omega arith
+
+-- before the first turn the whole run is left
+pub turn-first : (s : Setting) (allowance : ℕ) (st : State) → runFrom s allowance 0 st ≡ runFrom s (allowance - 0) 0 st
+turn-first s allowance st = simp sub-zero
 
 -- with no step left, the run is spent
 pub turn-spent : (s : Setting) (allowance steps : ℕ) (st : State) → allowance ≤ steps → runFrom s (allowance - steps) steps st ≡ ended End·.Spent steps (st .core)

@@ -3,7 +3,6 @@
 -- returned, or stopped at a fault; an access is located and done first.
 use Prim.Native.Nat.{_-_, _≤_}
 use mathlib.Core.Path.{_≡_, refl, sym, _∙_}
-use native.Mathlib.Nat.{sub-zero}
 use native.Mathlib.Omega.{arith}
 use lib.ListN.{length}
 use denote.Ref.{now}
@@ -14,7 +13,7 @@ use Rattle.step.specs.Step.{State}
 use Rattle.step.specs.Lent.{coreOf}
 use Rattle.machine.specs.Run.{runFrom, settingOf}
 use Rattle.machine.proofs.Covered.{covered-at}
-use Rattle.machine.proofs.Loop.{Turned, turn-spent, turn-outside, turn-goes, turn-returned, turn-stopped, turn-nowhere, turn-moved}
+use Rattle.machine.proofs.Loop.{Turned, turn-first, turn-spent, turn-outside, turn-goes, turn-returned, turn-stopped, turn-nowhere, turn-moved}
 use Rattle.machine.proofs.steps.run_steps.Statement.{statement}
 use Rattle.machine.proofs.steps.run_steps.Tie as tie
 
@@ -62,7 +61,7 @@ read-all-requires : tie.Need-read-all-requires Inv-loop μ-loop
 read-all-requires c κs = c .before .before .before .pre .0
 
 loop-holds : tie.Need-loop-holds Inv-loop μ-loop
-loop-holds c = (omega arith, refl, simp sub-zero)
+loop-holds c = (omega arith, refl, turn-first _ _ _)
 
 cast-i : tie.Need-cast-i Inv-loop μ-loop
 cast-i c = search needs
