@@ -1,42 +1,54 @@
 #!/usr/bin/env python3
-"""explain.py: says an answer in words.
+"""explain.py: says the answer to a bundle in words.
 
-    tools/explain.py FOLDER NUMBER WORD REGISTER          FOLDER as for bundle.py, with its bundle.bin
-    tools/explain.py BUNDLE NUMBER WORD REGISTER          a bundle alone; regions and fields are then named by number
+    tools/explain.py FOLDER          FOLDER as for bundle.py, with its bundle.bin
+    tools/explain.py BUNDLE          a bundle alone; regions and fields are then named by number
 
-Prints the entry of the number in docs/CARD.md, and then what in the bundle it is about: the word (disassembled by GNU
-binutils for SPARC, if that is here), its operands, the region's fields and the bytes reached; for 12 and 14 what the
-word and its slot make of the register and what it does not fit; for 1 and 18 to 23 what is badly formed. A slot is shown
-with the row that its branch or return hands on.
+Prints the answer, the entry of its number in docs/CARD.md, and then what in the bundle it is about: the word (disassembled
+by GNU binutils for SPARC, if that is here), its operands, the region's fields and the bytes reached; for 12 and 14 the way,
+what was narrowed on it or why nothing was, what the word and its slot make of the register and what it does not fit; for 1
+and 18 to 23 the bytes that are badly formed. A slot is shown with the row that its branch or return hands on.
 
-What is wrong is found by rules.py and form.py, which are a help and no verdict. If they do not find the answer given,
-this is said, and nothing is guessed: the bundle program's answer is the one that counts.
+All this is found by the program `explain` (target/bin/explain, made by `rt check explain`), which calls the functions of the
+check; this script has the names and the words.
 """
 import os
 import re
 import struct
+import subprocess
 import sys
 from collections import namedtuple
 
 sys.dont_write_bytecode = True
 import assembly
 import bundle
-import form
 import layout
-import rules
 import script
-from rules import NOTE, STORES, WIDTHS
 from script import Problem
 
-CARD = os.path.join(os.path.dirname(os.path.abspath(__file__)), "..", "docs", "CARD.md")
+ROOT = os.path.join(os.path.dirname(os.path.abspath(__file__)), "..")
+CARD = os.path.join(ROOT, "docs", "CARD.md")
+PROGRAM = os.path.join(ROOT, "target", "bin", "explain")
+SECONDS = 60  # for the program to end
+NOTE = 32  # the register that stands for the note
 KINDS = ["an unset entry", "a number", "an address", "an address that may be null", "the return address"]
 ELEMENTS = {number: name for name, (number, _, _) in layout.ELEMENTS.items()}
 PERMISSIONS = {number: name for name, number in layout.PERMISSIONS.items()}
-ACCEPTED, UNREAD, FLOW, NEXT_ROW, RESULT, START = 0, 2, 3, 12, 14, 15
-LAST_NAMING = 16  # numbers up to this one name a word
+WIDTHS = {1: 1, 2: 1, 3: 2, 4: 2, 5: 4, 6: 4, 7: 4}
+SERVED_BY = {1: "ldub and stb", 2: "ldsb and stb", 3: "lduh and sth", 4: "ldsh and sth", 5: "ld and st", 6: "ld and st", 7: "ld and st"}
+# Names of instructions, in the order of the program's numbers
+ALU = ["add", "and", "or", "xor", "sub", "andn", "orn", "xnor"]
+OTHER = {"shift": ["sll", "srl", "sra"], "load": ["ld", "ldub", "lduh", "ldsb", "ldsh"], "store": ["st", "stb", "sth"]}
+BRANCHES = ["bn", "be", "ble", "bl", "bleu", "bcs", "bneg", "bvs", "ba", "bne", "bg", "bge", "bgu", "bcc", "bpos", "bvc"]
+READINGS = ("sethi", "alu", "shift", "load", "store", "branch", "return", "unread")
+TESTS = ["", "the element is none of 1 to 7", "the permission is none of 1 to 3", "the count is 0",
+         "the offset is no multiple of the element's width", "it does not end inside its region",
+         "lo, hi or target are not what the element allows", "it begins before the field before it ends"]
 
-# A bundle's parts, and the names of its regions and fields if they are known.
-Parts = namedtuple("Parts", "policy entry result words rows names")
+# What the program says: the answer, items by name (the values of each), and rows by the item that begins them.
+Said = namedtuple("Said", "answer items rows")
+# A row that is said: entries by register, and the note.
+Row = namedtuple("Row", "entries note")
 
 
 def card_entry(number):
@@ -48,13 +60,369 @@ def card_entry(number):
     raise Problem(f"{number} is no answer to a bundle: docs/CARD.md has all of them")
 
 
-# The bundle and its names
+# The program
 
-def load(path):
-    """The bundle's bytes, its names if policy.txt is there, and a remark if that is another policy."""
-    folder = os.path.isdir(path)
-    data = script.read_bytes(os.path.join(path, "bundle.bin") if folder else path)
-    return data, *(bundle.names_of(path, policy_of(data)) if folder else ([], []))
+def run_program(data):
+    """What the program explain prints for a bundle."""
+    if not os.path.exists(PROGRAM):
+        raise Problem("target/bin/explain is not built: `rt check explain` proves and builds it")
+    done = subprocess.run([PROGRAM], input=data, capture_output=True, timeout=SECONDS)
+    return done.stdout.decode("ascii", "replace").splitlines()
+
+
+def said_of(lines):
+    """The answer and the items."""
+    try:
+        answer = tuple(int(part) for part in lines[0].split(" "))
+        items, rows, row = {}, {}, None
+        for line in lines[1:]:
+            name, *values = line.split(" ")
+            if name == "part":
+                items["part"], values = values[0], values[1:]
+                name = "place"
+            values = [int(value) for value in values]
+            items.setdefault(name, []).append(values)
+            if name in ("row", "handed", "made"):
+                row = rows[name] = Row({}, None)
+            elif name == "entry":
+                row.entries[values[0]] = tuple(values[1:])
+            elif name == "note":
+                rows[next(key for key in rows if rows[key] is row)] = row._replace(note=tuple(values))
+        return Said(answer, items, rows)
+    except (ValueError, IndexError, AttributeError):
+        raise Problem("target/bin/explain does not say what is known here: `rt check explain` builds it anew") from None
+
+
+def first(said, name):
+    """The values of the first item with this name; nothing if there is none."""
+    return said.items.get(name, [None])[0]
+
+
+# Names and entries
+
+def region_name(names, region):
+    return names[region][0] if region < len(names) else f"region{region}"
+
+
+def field_name(names, region, index):
+    name = names[region][1][index] if region < len(names) else str(index)
+    return f"field {name} of {region_name(names, region)}"
+
+
+def entry_text(names, entry):
+    return bundle.entry_text(tuple(entry), [name for name, _ in names])
+
+
+def held_text(names, row, register):
+    if register == NOTE:
+        return bundle.note_text(row.note)
+    return f"r{register} = {entry_text(names, row.entries.get(register, layout.NOTHING))}"
+
+
+def unfit_text(names, a, b):
+    """Why entry a does not fit entry b."""
+    if a[:2] == b[:2] and a[0] in (layout.NUMBER, layout.ADDRESS):
+        what, (step, lo, hi) = "offset " if a[0] == layout.ADDRESS else "", a[2:]
+        stray = [k for k in (lo, hi, min(lo + step, hi)) if not b[3] <= k <= b[4] or (k - b[3]) % b[2]]
+        return f"{what}{stray[0]} is not {'' if b[3] == b[4] else 'in '}{bundle.set_text(*b[2:])}" if stray else ""
+    return f"{entry_text(names, a)} does not fit {entry_text(names, b)}"
+
+
+def misfit_text(names, said):
+    if "has-note" in said.items:
+        return f"{bundle.note_text(tuple(first(said, 'has-note')))} does not fit {bundle.note_text(tuple(first(said, 'asks-note')))}"
+    return unfit_text(names, first(said, "has"), first(said, "asks"))
+
+
+# Words
+
+def instruction_name(said):
+    kind = next(name for name in READINGS if name in said.items)
+    values = said.items[kind][0]
+    if kind == "alu":
+        return ALU[values[0]] + ("cc" if values[1] else "")
+    if kind == "branch":
+        return BRANCHES[values[1]] + (",a" if values[0] else "")
+    return OTHER[kind][values[0]] if kind in OTHER else {"return": "retl"}.get(kind, kind)
+
+
+def words_in(data, said):
+    """The words of a bundle as they are disassembled; none if there is no disassembler."""
+    words = layout.open_bundle(data)[3]
+    return words, assembly.disassemble(words)
+
+
+def word_text(data, said, index):
+    words, texts = words_in(data, said)
+    text = texts[index] if texts else instruction_name(said) if index == first(said, "word")[0] else ""
+    slot = "  (slot of word {})".format(*first(said, "slot")) if "slot" in said.items and index == first(said, "word")[0] else ""
+    return f"word {index}: {words[index]:08X}  {text}".rstrip() + slot
+
+
+def edge_text(said):
+    """The way that is refused."""
+    taken, _, _ = first(said, "edge")
+    if "caller" in said.items:
+        return "the return"
+    plain = "branch" not in said.items and "slot" not in said.items
+    return ("" if plain else "taken, " if taken else "not taken, ") + f"to word {first(said, 'to')[0]}"
+
+
+def condition_text(data, said):
+    """The name of the branch whose edge is shown."""
+    words, _ = words_in(data, said)
+    return BRANCHES[words[first(said, "row")[0]] >> 25 & 15]
+
+
+def kept_text(data, names, said):
+    """Why nothing was narrowed."""
+    note, why = said.rows["row"].note, first(said, "kept")[0]
+    if why == 1:
+        return f"no comparison is noted ({bundle.note_text(note)}); a write to the compared register takes it away"
+    if why == 2:
+        return f"{condition_text(data, said)} never narrows: only be, bne, bl, bge, ble and bg do"
+    if why == 3:
+        return f"{held_text(names, said.rows['row'], note[1])} is no number, and only a number is narrowed, or an address that may be null by 0"
+    return f"{bundle.note_text(note)} leaves every number of r{note[1]}"
+
+
+def narrowing_text(data, names, said):
+    """What a branch narrowed, or why nothing; nothing for other words."""
+    if "branch" not in said.items and "slot" not in said.items or "caller" in said.items:
+        return ""
+    if "kept" in said.items:
+        return "not narrowed: " + kept_text(data, names, said)
+    register = first(said, "narrowed")[0]
+    before, after = (held_text(names, said.rows[row], register) for row in ("row", "handed"))
+    return f"narrowed from {before} to {after}"
+
+
+# Fields
+
+def bytes_text(low, high):
+    return f"byte {low}" if low == high else f"bytes {low} to {high}"
+
+
+def field_end(field):
+    return field[4] + field[5] * WIDTHS.get(field[1], 1)
+
+
+def field_text(names, region, field):
+    """A field as in policy.txt, after the bytes that it has."""
+    index, element, permission, target, offset, count, lo, hi = field
+    name = names[region][1][index] if region < len(names) else f"field {index}"
+    if element in ELEMENTS:
+        kind = re.sub("half$", "halve", ELEMENTS[element]) + "s" if count > 1 else ELEMENTS[element]
+        values = f", {lo} to {hi}"
+    else:
+        kind, values = f"address{'es' if count > 1 else ''} of {region_name(names, target)}" + (" or null" if element == 7 else ""), ""
+    return f"  {bytes_text(offset, field_end(field) - 1)}: {name}, {count} {kind}, {PERMISSIONS[permission]}{values}"
+
+
+def region_lines(names, said):
+    """The bytes that are reached and the fields of the region; nothing if there are none."""
+    if "region" not in said.items:
+        return []
+    region, size, _ = first(said, "region")
+    name, fields, lines = region_name(names, region), said.items.get("field", []), []
+    if "reach" in said.items:
+        _, step, lo, hi, width = first(said, "reach")
+        lines = [f"reached in {name}: offsets {bundle.set_text(step, lo, hi)}, width {width}, so {bytes_text(lo, hi + width - 1)}"]
+    return lines + [f"fields of {name} ({size} bytes):" + ("" if fields else " none")] + [field_text(names, region, field) for field in fields]
+
+
+def reached_field(said):
+    """The field that holds the first byte reached; nothing if none does."""
+    lo = first(said, "reach")[2]
+    return next((field for field in said.items.get("field", []) if field[4] <= lo < field_end(field)), None)
+
+
+# What a refusal of one word is about
+
+def operand_lines(names, said):
+    """What the word reads, with the entries."""
+    if "first" not in said.items:
+        return [f"  codes: {bundle.note_text(said.rows['row'].note)}"]
+    register, *entry = first(said, "first")
+    lines = [f"  rs1: r{register} = {entry_text(names, entry)}"]
+    if "second" in said.items:
+        reading = said.items[next(name for name in READINGS if name in said.items)][0]
+        register, *entry = first(said, "second")
+        lines.append(f"  number in the word: {reading[-1]}" if reading[-2] else f"  rs2: r{register} = {entry_text(names, entry)}")
+    if "store" in said.items:
+        register, *entry = first(said, "stored")
+        lines.append(f"  rd, stored: r{register} = {entry_text(names, entry)}")
+    return lines
+
+
+def access_reason(names, said):
+    """Why a load or store is refused with 7 to 11 or 13."""
+    number, name = said.answer[0], instruction_name(said)
+    region, step, lo, hi, width = first(said, "reach")
+    field = reached_field(said)
+    if number == 7 and field is None:
+        return f"byte {lo} is in no field"
+    called = field_name(names, region, field[0])
+    if number == 7:
+        return f"byte {field_end(field)} is not in {called}, which ends with byte {field_end(field) - 1}"
+    if number == 8:
+        return f"{name} does not serve {called}: {SERVED_BY[field[1]]} do"
+    if number == 9:
+        return f"{f'offset {lo}' if lo % width else f'the step {step}'} is no multiple of {width}"
+    if number == 10:
+        return f"{name} {'writes' if 'store' in said.items else 'reads'}, and the permission of {called} is {PERMISSIONS[field[2]]}"
+    if number == 13:
+        return f"byte {hi + width - 1} is above 4095"
+    element, target = field[1], field[3]
+    asked = (layout.NUMBER, 0, 8 if field[6] == field[7] else 1, *field[6:]) if element < 6 else (
+        layout.ADDRESS if element == 6 else layout.OR_NULL, target, 8 if element == 6 else 0, 0, 0)
+    return f"for {called}, " + unfit_text(names, first(said, "stored")[1:], asked)
+
+
+def word_reason(names, said):
+    """Why one word is refused with 4 to 11, 13 or 16."""
+    number, _, register = said.answer
+    if number == 4:
+        return "the condition codes are not set" if register == NOTE else f"r{register} is unset"
+    if number == 5:
+        return f"r{register} may be null"
+    if number not in (6, 16):
+        return access_reason(names, said)
+    if number == 16:
+        region, *made = first(said, "offsets")
+        size = first(said, "region")[1]
+        return f"the offset made in {region_name(names, region)} is {bundle.set_text(*made)}, and offsets there are 0 to {size}"
+    kind = first(said, "first")[1]
+    if "return" in said.items:
+        return f"r15 holds {KINDS[kind]}, not the return address"
+    here = f"{KINDS[kind]} and {KINDS[first(said, 'second')[1]]}"
+    if "load" in said.items or "store" in said.items:
+        return f"a load or store adds one address and one number, not {here}"
+    return f"there is no rule for {instruction_name(said)} of {here}"
+
+
+def word_lines(data, names, said):
+    """A refusal by one word's own conditions, or by a slot's."""
+    at = first(said, "row")[0]
+    lines = [f"with row {at}:"]
+    if "slot" in said.items:
+        text = narrowing_text(data, names, said)
+        lines = [f"with row {at} as word {at} hands it on ({edge_text(said)}):" + (" " + text if text else "")]
+    reached = region_lines(names, said) if said.answer[0] not in (4, 5, 6) else []
+    return lines + operand_lines(names, said) + reached + ["wrong: " + word_reason(names, said)]
+
+
+# What does not fit
+
+def edge_lines(data, names, said):
+    """12 and 14: the register before the word, on the edge and after the slot, and what it does not fit."""
+    _, word, register = said.answer
+    _, _, runs = first(said, "edge")
+    transfer = "branch" in said.items or "return" in said.items
+    lines = [word_text(data, said, word + 1) + f"  (slot of word {word})"] if transfer else []
+    slot = f"; the slot {'runs' if runs else 'is skipped'}" if transfer else ""
+    lines += [f"way: {edge_text(said)}{slot}", f"row {word}: {held_text(names, said.rows['row'], register)}"]
+    if "branch" in said.items:
+        lines += [f"on this way{', before the slot' if runs else ''}: {held_text(names, said.rows['handed'], register)}",
+                  "  " + narrowing_text(data, names, said)]
+    if runs or not transfer:
+        after = f"after the slot, word {word + 1}" if runs else f"after word {word}"
+        lines.append(f"{after}: {held_text(names, said.rows['made'], register)}")
+    asks = bundle.note_text(tuple(first(said, "asks-note"))) if register == NOTE else entry_text(names, first(said, "asks"))
+    asked = f"next row, {first(said, 'to')[0]}: " + ("" if register == NOTE else f"r{register} = ") if "to" in said.items else "result: "
+    return lines + [asked + asks, "wrong: " + misfit_text(names, said)]
+
+
+def start_lines(names, said):
+    """15: the entry row and row 0."""
+    register = said.answer[2]
+    has, asks = ("has-note", "asks-note") if register == NOTE else ("has", "asks")
+    text = bundle.note_text if register == NOTE else lambda values: f"r{register} = " + entry_text(names, values)
+    return [f"entry row: {text(tuple(first(said, has)))}", f"row 0: {text(tuple(first(said, asks)))}", "wrong: " + misfit_text(names, said)]
+
+
+def flow_reason(said):
+    """Why the flow of a word is wrong."""
+    _, word, _ = said.answer
+    count, edges, ends = first(said, "words")[0], said.items["edge"], list(said.items.get("to", []))
+    transfer = "branch" in said.items or "return" in said.items
+    if transfer and word == count - 1:
+        return "a branch or return is the last word, so that it has no slot"
+    if transfer and "slot" in said.items:
+        return "a branch or return stands in the slot of word {}".format(*first(said, "slot"))
+    if not transfer:
+        return "no word follows, and this is no slot"
+    for (taken, exists, _), (to, inside, slot) in zip(edges, ends):
+        if exists and not inside:
+            far = to - 2**32 if to >= 2**31 else to
+            way = "its target" if taken else "not taken, the next word after its slot"
+            return f"{way} is word {far}, and the code has words 0 to {count - 1}"
+        if exists and taken and slot:
+            return f"its target, word {to}, is the slot of word {to - 1}"
+    return "its edges do not end where they may"
+
+
+# What is badly formed
+
+def raw_text(raw):
+    """An entry or a note in bytes and in its parts."""
+    names = "kind {}, region {}, step {}, zero {}, lo {}, hi {}" if len(raw) == 12 else "kind {}, register {}, zero {}, zero {}, number {}"
+    parts = struct.unpack(">BBBBii" if len(raw) == 12 else ">BBBBi", raw)
+    return f"bytes {raw.hex(' ', 4)} ({names.format(*parts)})"
+
+
+def place_lines(said, of):
+    """The bytes of an entry or a note that are badly formed."""
+    place = first(said, "misfit")
+    name = "" if place is None else "note: " if place[0] == NOTE else f"r{place[0]}: "
+    return [f"{of}{name}{raw_text(bytes(first(said, 'bytes')))}",
+            f"wrong: the {'note' if place == [NOTE] else 'entry'} at byte {first(said, 'at')[0]} of the bundle breaks a rule above"]
+
+
+def form_lines(names, said):
+    """1 and 18 to 23: where the bytes at fault stand."""
+    number, word, _ = said.answer
+    part, at = said.items.get("part"), first(said, "at")
+    if number == 1:
+        return place_lines(said, f"row {word}, ")
+    if number == 21:
+        if "words" in said.items:
+            return [f"wrong: there are {first(said, 'words')[0]} words, and a routine has 1 to 128"]
+        return place_lines(said, {"entry": "entry row, ", "result": "result entry: "}[part])
+    if number == 23:
+        length = first(said, "length")[0]
+        if part in ("size", "head"):
+            why = "a bundle has at most 53,180" if part == "size" else "they do not begin with the mark WTR and version 1"
+            return [f"wrong: it has {length} bytes, and {why}"]
+        if "given" in said.items:
+            return [f"wrong: it has {length} bytes, and its counts give {first(said, 'given')[0]}"]
+        return [f"wrong: the zero of {part} {first(said, 'place')[0]}, byte {at[0]} of the bundle, is not 0"]
+    if part == "region":
+        region, size = first(said, "place")[0], first(said, "size")[0]
+        why = f"size {size}" if number == 19 else "there are 8 before it"
+        return [f"wrong: region {region}, at byte {at[0]} of the bundle: {why}"]
+    region, index = first(said, "place")
+    why = TESTS[first(said, "breaks")[0]] if "breaks" in said.items and number == 20 else "there are 16 before it, or no such region"
+    values = "element {}, permission {}, target {}, offset {}, count {}, lo {}, hi {}".format(*first(said, "field")[1:])
+    return [f"region {region} ({first(said, 'size')[0]} bytes); the fields before end at {first(said, 'end')[0]}",
+            f"wrong: field {index} of region {region}, at byte {at[0]} of the bundle ({values}): {why}"]
+
+
+# The answer
+
+def detail_lines(data, names, said):
+    """What in the bundle the answer is about."""
+    number, word, _ = said.answer
+    if number == 1 or number > 17:
+        return form_lines(names, said)
+    lines = [word_text(data, said, word)]
+    if number == 2:
+        return lines + ["wrong: this is no instruction of the subset"]
+    if number == 3:
+        return lines + ["wrong: " + flow_reason(said)]
+    if number == 15:
+        return lines + start_lines(names, said)
+    return lines + (edge_lines if number in (12, 14) else word_lines)(data, names, said)
 
 
 def policy_of(data):
@@ -65,273 +433,21 @@ def policy_of(data):
         return None
 
 
-def entry_text(parts, entry):
-    return bundle.entry_text(entry, [name for name, _ in parts.names])
-
-
-def held_text(parts, row, register):
-    return bundle.note_text(row[1]) if register == NOTE else f"r{register} = {entry_text(parts, row[0][register])}"
-
-
-def numbers_text(step, lo, hi):
-    return bundle.entry_text((layout.NUMBER, 0, step, lo, hi), [])
-
-
-# Words
-
-def instruction_text(index, word):
-    """The text of a word, if there is no disassembler."""
-    i, name = rules.read(word), bundle.REGISTERS
-    if i is None:
-        return ""
-    if i.name == "bicc":
-        return f"{rules.BRANCHES[i.condition]}{',a' if i.annul else ''} to word {index + i.distance}"
-    if i.name in ("return", "sethi"):
-        return "retl" if i.name == "return" else f"sethi %hi({i.number % 2**32:#x}), {name[i.rd]}"
-    second = str(i.number) if i.rs2 is None else name[i.rs2]
-    if i.name in WIDTHS:
-        address = f"[{name[i.rs1]} + {second}]"
-        return f"{i.name} {name[i.rd]}, {address}" if i.name in STORES else f"{i.name} {address}, {name[i.rd]}"
-    return f"{i.name}{'cc' if i.codes else ''} {name[i.rs1]}, {second}, {name[i.rd]}"
-
-
-def word_text(words, index):
-    texts = assembly.disassemble(words)
-    text = texts[index] if texts else instruction_text(index, words[index])
-    slot = f"  (slot of word {index - 1})" if rules.is_slot(words, index) else ""
-    return f"word {index}: {words[index]:08X}  {text}".rstrip() + slot
-
-
-def edge_text(edge):
-    """Where a word goes on."""
-    if edge.to is None:
-        return "the return"
-    return ("" if edge.taken is None else "taken, " if edge.taken else "not taken, ") + f"to word {edge.to}"
-
-
-# Fields
-
-def bytes_text(first, last):
-    return f"byte {first}" if first == last else f"bytes {first} to {last}"
-
-
-def field_text(parts, region, index):
-    """A field as in policy.txt, after the bytes that it has."""
-    element, permission, target, offset, count, lo, hi = parts.policy[region][1][index]
-    first = f"  {bytes_text(offset, field_end(parts, region, index) - 1)}: "
-    name = parts.names[region][1][index] if parts.names else f"field {index}"
-    if element in ELEMENTS:
-        plural = re.sub("half$", "halve", ELEMENTS[element]) + "s" if count > 1 else ELEMENTS[element]
-        kind, values = plural, f", {lo} to {hi}"
-    else:
-        kind = f"address{'es' if count > 1 else ''} of {form.region_name(parts.names, target)}"
-        kind, values = kind + (" or null" if element == 7 else ""), ""
-    return first + f"{name}, {count} {kind}, {PERMISSIONS[permission]}{values}"
-
-
-def field_end(parts, region, index):
-    element, _, _, offset, count, _, _ = parts.policy[region][1][index]
-    return offset + count * form.WIDTHS[element]
-
-
-def access_lines(parts, row, instruction):
-    """The bytes that a load or store reaches and the fields of the region; nothing if its operands have no sum."""
-    reached = rules.reach(row, instruction)
-    if reached is None:
-        return []
-    region, step, lo, hi = reached
-    name, width = form.region_name(parts.names, region), WIDTHS[instruction.name]
-    size, fields = parts.policy[region]
-    return ([f"reached in {name}: offsets {numbers_text(step, lo, hi)}, width {width}, so {bytes_text(lo, hi + width - 1)}",
-             f"fields of {name} ({size} bytes):" + ("" if fields else " none")]
-            + [field_text(parts, region, index) for index in range(len(fields))])
-
-
-# What a refusal of one word is about
-
-def operand_lines(parts, row, instruction):
-    """What the word reads, with the entries."""
-    if instruction.name == "bicc":
-        return [f"  codes: {bundle.note_text(row[1])}"]
-    lines = [f"  rs1: {held_text(parts, row, instruction.rs1)}"]
-    if instruction.name != "return":
-        lines.append(f"  number in the word: {instruction.number}" if instruction.rs2 is None
-                     else f"  rs2: {held_text(parts, row, instruction.rs2)}")
-    if instruction.name in STORES:
-        lines.append(f"  rd, stored: {held_text(parts, row, instruction.rd)}")
-    return lines
-
-
-def handed_line(parts, finding):
-    """The row that a branch or return hands on to its slot."""
-    at, register = finding.word - 1, parts.rows[finding.word - 1][1][1]
-    text = f"with row {at} as word {at} hands it on ({edge_text(finding.edge)}):"
-    before, after = (held_text(parts, row, register) for row in (parts.rows[at], finding.row))
-    return f"{text} not narrowed" if before == after else f"{text} narrowed from {before} to {after}"
-
-
-def outside_text(parts, region, first, last):
-    """Why the bytes from first to last are not inside one field."""
-    index = rules.field_with(parts.policy, region, first, first)
-    if index is None:
-        return f"byte {first} is in no field"
-    end = field_end(parts, region, index)
-    return f"byte {end} is not in {form.field_name(parts.names, region, index)}, which ends with byte {end - 1}"
-
-
-def access_reason(parts, finding, instruction):
-    """Why a load or store is refused with 7 to 11 or 13."""
-    region, step, lo, hi = rules.reach(finding.row, instruction)
-    width, name = WIDTHS[instruction.name], instruction.name
-    if finding.number == 7:
-        return outside_text(parts, region, lo, hi + width - 1)
-    if finding.number == 13:
-        return f"byte {hi + width - 1} is above {rules.LAST_BYTE}"
-    index = rules.field_with(parts.policy, region, lo, hi + width - 1)
-    field, called = parts.policy[region][1][index], form.field_name(parts.names, region, index)
-    if finding.number == 8:
-        return f"{name} does not serve {called}: {' and '.join(rules.SERVED_BY[field[0]])} do"
-    if finding.number == 9:
-        return f"{f'offset {lo}' if lo % width else f'the step {step}'} is no multiple of {width}"
-    if finding.number == 10:
-        does = "writes" if name in STORES else "reads"
-        return f"{name} {does}, and the permission of {called} is {PERMISSIONS[field[1]]}"
-    return f"for {called}, " + unfit_text(parts, finding.row[0][instruction.rd], rules.loaded(field))
-
-
-def word_reason(parts, finding, instruction):
-    """Why one word is refused with 4 to 11, 13 or 16."""
-    number, register = finding.number, finding.register
-    if number == 4:
-        return "the condition codes are not set" if register == NOTE else f"r{register} is unset"
-    if number == 5:
-        return f"r{register} may be null"
-    if number not in (6, 16):
-        return access_reason(parts, finding, instruction)
-    first, second = rules.operands(finding.row, instruction)
-    if number == 16:
-        _, region, *made = rules.result(instruction.name, first, second)
-        size, name = parts.policy[region][0], form.region_name(parts.names, region)
-        return f"the offset made in {name} is {numbers_text(*made)}, and offsets there are 0 to {size}"
-    if instruction.name == "return":
-        return f"r15 holds {KINDS[first[0]]}, not the return address"
-    here = f"{KINDS[first[0]]} and {KINDS[second[0]]}"
-    if instruction.name in WIDTHS:
-        return f"a load or store adds one address and one number, not {here}"
-    return f"there is no rule for {instruction.name} of {here}"
-
-
-def word_lines(parts, finding):
-    """A refusal by one word's own conditions."""
-    instruction = rules.read(parts.words[finding.word])
-    lines = [f"with row {finding.word}:"] if finding.edge is None else [handed_line(parts, finding)]
-    lines += operand_lines(parts, finding.row, instruction)
-    if instruction.name in WIDTHS:
-        lines += access_lines(parts, finding.row, instruction)
-    return lines + ["wrong: " + word_reason(parts, finding, instruction)]
-
-
-# What does not fit
-
-def unfit_text(parts, a, b):
-    """Why entry a does not fit entry b."""
-    if a[:2] == b[:2] and a[0] in (layout.NUMBER, layout.ADDRESS):
-        what = "offset " if a[0] == layout.ADDRESS else ""
-        return f"{what}{rules.stray_member(a, b)} is not {'' if b[3] == b[4] else 'in '}{bundle.set_text(*b[2:])}"
-    return f"{entry_text(parts, a)} does not fit {entry_text(parts, b)}"
-
-
-def row_unfit_text(parts, a, b, register):
-    """Why row a does not fit row b at the register."""
-    if register == NOTE:
-        return f"{bundle.note_text(a[1])} does not fit {bundle.note_text(b[1])}"
-    return unfit_text(parts, a[0][register], b[0][register])
-
-
-def edge_lines(parts, finding):
-    """12 and 14: the register before the word, on the edge and after the slot, and what it does not fit."""
-    word, register, edge = finding.word, finding.register, finding.edge
-    lines, slot = [], ""
-    if rules.is_slot(parts.words, word + 1):
-        lines, slot = [word_text(parts.words, word + 1)], f"; the slot {'runs' if edge.slot else 'is skipped'}"
-    lines += [f"way: {edge_text(edge)}{slot}", f"row {word}: {held_text(parts, finding.row, register)}"]
-    if edge.taken is not None:
-        before, handed = (held_text(parts, row, register) for row in (finding.row, finding.handed))
-        place = f"on this way{', before the slot' if edge.slot else ''}"
-        narrowed = f" ({'not ' if before == handed else ''}narrowed; {bundle.note_text(finding.row[1])})"
-        lines.append(f"{place}: {handed}{'' if register == NOTE else narrowed}")
-    if edge.slot or edge.taken is None:
-        after = f"after the slot, word {word + 1}" if edge.slot else f"after word {word}"
-        lines.append(f"{after}: {held_text(parts, finding.after, register)}")
-    if finding.number == RESULT:
-        lines.append(f"result: {entry_text(parts, parts.result)}")
-        return lines + ["wrong: " + unfit_text(parts, finding.after[0][register], parts.result)]
-    lines.append(f"next row, {edge.to}: {held_text(parts, parts.rows[edge.to], register)}")
-    return lines + ["wrong: " + row_unfit_text(parts, finding.after, parts.rows[edge.to], register)]
-
-
-def start_fault(parts):
-    """15, or None."""
-    register = rules.first_unfit(parts.entry, parts.rows[0])
-    if register is None:
-        return None
-    shown = [f"entry row: {held_text(parts, parts.entry, register)}", f"row 0: {held_text(parts, parts.rows[0], register)}"]
-    return form.fault(START, [row_unfit_text(parts, parts.entry, parts.rows[0], register)], 0, register, shown)
-
-
-# The answer
-
-def found(parts, index):
-    """The first refusal found in the rules from 2 on, but of words' own conditions only those of the word at index."""
-    for k, word in enumerate(parts.words):
-        if rules.read(word) is None:
-            return form.fault(UNREAD, [rules.reading(word)[1]], k)
-    for k in range(len(parts.words)):
-        text = rules.flow_fault(parts.words, k)
-        if text:
-            return form.fault(FLOW, [text], k)
-    at = index - 1 if rules.is_slot(parts.words, index) else index
-    return start_fault(parts) or rules.examine(parts.policy, parts.result, parts.words, parts.rows, at)
-
-
-def not_found_lines(finding):
-    other = "nothing wrong at that word" if finding is None else "{} {} {}".format(*finding[:3])
-    return [f"This answer is not found in the bundle: explain.py finds {other}.",
-            "The bundle program's answer is the one that counts; see that it is the answer to this bundle."]
-
-
-def detail_lines(data, names, answer):
-    """What in the bundle the answer is about."""
-    number, word, _ = answer
-    fault = form.first_fault(data, names)
-    if fault:
-        return fault.lines if fault[:3] == answer else not_found_lines(fault)
-    parts = Parts(*layout.open_bundle(data), names)
-    if word >= len(parts.words):
-        raise Problem(f"the bundle has words 0 to {len(parts.words) - 1}")
-    finding = found(parts, word)
-    lines = [word_text(parts.words, word)] if number <= LAST_NAMING else []
-    if finding is None or finding[:3] != answer:
-        return lines + not_found_lines(finding)
-    if isinstance(finding, form.Fault):
-        return lines + finding.lines
-    return lines + (edge_lines if number in (NEXT_ROW, RESULT) else word_lines)(parts, finding)
-
-
-def explain(path, *answer):
-    lines, (data, names, remarks) = [card_entry(answer[0])], load(path)
-    if answer[0] != ACCEPTED:
-        lines += [""] + remarks + detail_lines(data, names, answer)
-    elif any(answer):
-        raise Problem("acceptance is 0 0 0")
+def explain(path):
+    folder = os.path.isdir(path)
+    data = script.read_bytes(os.path.join(path, "bundle.bin") if folder else path)
+    names, remarks = bundle.names_of(path, policy_of(data)) if folder else ([], [])
+    said = said_of(run_program(data))
+    lines = ["{} {} {}".format(*said.answer), card_entry(said.answer[0])]
+    if said.answer[0]:
+        lines += [""] + remarks + detail_lines(data, names, said)
     return "\n".join(lines)
 
 
 def main(arguments):
-    if len(arguments) != 4:
-        raise Problem("call it as `explain.py FOLDER NUMBER WORD REGISTER`, or with a bundle for FOLDER; "
-                      "`explain.py --help` says more")
-    print(explain(arguments[0], *(bundle.whole(part, 0, 65535, "a number of an answer") for part in arguments[1:])))
+    if len(arguments) != 1:
+        raise Problem("call it as `explain.py FOLDER`, or with a bundle for FOLDER; `explain.py --help` says more")
+    print(explain(arguments[0]))
 
 
 if __name__ == "__main__":

@@ -23,7 +23,7 @@ use v8::numbers::ACCEPTED;
 use v8::signed::excess;
 
 // The size of a region.
-fn region_size(bytes: &[u8], region: usize) -> u16
+pub fn region_size(bytes: &[u8], region: usize) -> u16
     requires { ⌜ region < 256 ⌝ }
     ensures { λ r. ⌜ r ≡ regionSize (now (bytes .entry)) region ⌝ }
 {
@@ -31,7 +31,7 @@ fn region_size(bytes: &[u8], region: usize) -> u16
 }
 
 // Field i of all.
-fn field_read(bytes: &[u8], i: usize) -> Field
+pub fn field_read(bytes: &[u8], i: usize) -> Field
     requires { ⌜ i ≤ 65025 ⌝ }
     ensures { λ r. ⌜ r ≡ fieldRead (now (bytes .entry)) i ⌝ }
 {

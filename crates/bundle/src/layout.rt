@@ -9,7 +9,7 @@ use rows::geometry::ENTRY_BYTES;
 use rows::geometry::ROW_BYTES;
 
 // The most bytes that a bundle has.
-const MOST: usize = 53180;
+pub const MOST: usize = 53180;
 // The version of bundles that are read.
 const VERSION: u16 = 1;
 // How many bytes the parts take: the head, a region, a field, a word.
@@ -44,7 +44,7 @@ pub fn field_count(bytes: &[u8], region: usize) -> usize
 }
 
 // Whether the last byte of a region is zero.
-fn region_zero(bytes: &[u8], region: usize) -> bool
+pub fn region_zero(bytes: &[u8], region: usize) -> bool
     requires { ⌜ region < 256 ⌝ }
     ensures { λ r. ⌜ r ≡ regionZero (now (bytes .entry)) region ⌝ }
 {
@@ -74,7 +74,7 @@ pub fn field_place(bytes: &[u8], i: usize) -> usize
 }
 
 // Whether the fourth byte of field i is zero.
-fn field_zero(bytes: &[u8], i: usize) -> bool
+pub fn field_zero(bytes: &[u8], i: usize) -> bool
     requires { ⌜ i ≤ 65025 ⌝ }
     ensures { λ r. ⌜ r ≡ fieldZero (now (bytes .entry)) i ⌝ }
 {
@@ -82,7 +82,7 @@ fn field_zero(bytes: &[u8], i: usize) -> bool
 }
 
 // How many fields there are.
-fn field_total(bytes: &[u8]) -> usize
+pub fn field_total(bytes: &[u8]) -> usize
     ensures { λ r. ⌜ (r ≡ fieldTotal (now (bytes .entry))) × (r ≤ 65025) ⌝ }
 {
     fields_before(bytes, region_count(bytes))
@@ -96,7 +96,7 @@ pub fn entry_place(bytes: &[u8]) -> usize
 }
 
 // The length that the counts give.
-fn length_given(bytes: &[u8]) -> usize
+pub fn length_given(bytes: &[u8]) -> usize
     ensures { λ r. ⌜ r ≡ lengthGiven (now (bytes .entry)) ⌝ }
 {
     let words = word_count(bytes);
@@ -104,7 +104,7 @@ fn length_given(bytes: &[u8]) -> usize
 }
 
 // Whether the mark and the version are right.
-fn head_ok(bytes: &[u8]) -> bool
+pub fn head_ok(bytes: &[u8]) -> bool
     ensures { λ r. ⌜ r ≡ headOk (now (bytes .entry)) ⌝ }
 {
     let first = byte_at(bytes, 0);

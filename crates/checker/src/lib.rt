@@ -18,6 +18,7 @@ mod looking;
 mod checking;
 
 pub use checking::check;
+pub use edges::change_by;
 
 // An answer: the number of the first condition that is broken, the word and the register named;
 // accepted is 0 0 0.

@@ -21,6 +21,8 @@ mod narrowing;
 pub use changes::change_of;
 pub use narrowing::narrow_entry;
 pub use narrowing::narrows;
+pub use operand::operands_of;
+pub use results::is_sub;
 
 // The operands of a word: the registers that it names, and their entries.
 pub struct Operands {

@@ -1,0 +1,174 @@
+// What an answer is about, by its number.
+ghost use Prim.Native.Nat.{_≤_};
+use crate::adding::show_adds;
+use crate::flowing::show_flow;
+use crate::form::show_broken_row;
+use crate::form::show_shape;
+use crate::items::done;
+use crate::items::single;
+use crate::items::value;
+use crate::shown::show_reading;
+use crate::unopened::show_no_bundle;
+use crate::ways::row_of;
+use crate::ways::show_flaw;
+use crate::words::show_row_of;
+use crate::words::show_way;
+use crate::words::show_word_in;
+use bundle::answer;
+use bundle::open;
+use checker::Answer;
+use flow::readings::examine_all;
+use flow::readings::read_all;
+use output::print;
+use policy::Policy;
+use rows::geometry::ROW_BYTES;
+use rows::read_row;
+use v8::Reading;
+use v8::numbers::ACCEPTED;
+use v8::numbers::BAD_BUNDLE;
+use v8::numbers::BAD_FLOW;
+use v8::numbers::BAD_ROW;
+use v8::numbers::BAD_SHAPE;
+use v8::numbers::EDGE_MISFIT;
+use v8::numbers::ENTRY_MISFIT;
+use v8::numbers::MOST_WORDS;
+use v8::numbers::NOT_READ;
+use v8::numbers::RESULT_MISFIT;
+
+// The reading of a word; not read where there is none.
+fn reading_at(readings: [Reading; MOST_WORDS], at: usize) -> Reading {
+    if MOST_WORDS <= at {
+        return Reading::Unread(NOT_READ);
+    }
+    let x = readings[at];
+    x
+}
+
+// The word that is looked at: the one that is named, or the one before it, whose slot that is.
+fn looked_at(named: usize, slot: bool) -> usize
+    ensures { λ r. ⌜ r ≤ named ⌝ }
+{
+    if slot {
+        if 1 <= named {
+            return named - 1;
+        }
+    }
+    named
+}
+
+// A refusal of the last pass at a word: by its own conditions, or of the word before it, whose slot it
+// is, or of its edges.
+fn show_looked(
+    policy: Policy,
+    readings: [Reading; MOST_WORDS],
+    words: usize,
+    marks: &[bool; MOST_WORDS],
+    rows: &[u8],
+    result: &[u8],
+    a: Answer,
+) {
+    let at = a.word.0 as usize;
+    if MOST_WORDS <= at {
+        return;
+    }
+    if rows.len() < ROW_BYTES {
+        return;
+    }
+    let edge = (a.number == EDGE_MISFIT) | (a.number == RESULT_MISFIT);
+    let own = marks[at] & !edge;
+    let from = looked_at(at, !own & !edge);
+    if from < at {
+        single(b"slot", from as u64);
+    }
+    let row = row_of(rows, from, read_row(rows, 0));
+    show_row_of(from, row);
+    let x = reading_at(readings, from);
+    if own {
+        return show_word_in(policy, row, x);
+    }
+    match x {
+        Reading::Read(i) => show_way(
+            policy,
+            rows,
+            result,
+            from,
+            words,
+            marks,
+            i,
+            reading_at(readings, from + 1),
+            row,
+        ),
+        Reading::Unread(_) => {}
+    }
+}
+
+fn show_word(at: usize, word: u32) {
+    print(b"word");
+    value(at as u64);
+    value(word as u64);
+    done();
+}
+
+// A refusal that names a word.
+fn show_named(policy: Policy, words: &[u32], rows: &[u8], entry: &[u8], result: &[u8], a: Answer) {
+    let count = words.len();
+    let at = a.word.0 as usize;
+    if MOST_WORDS < count {
+        return;
+    }
+    if count <= at {
+        return;
+    }
+    let readings = read_all(words);
+    let marks = examine_all(words, readings);
+    let x = reading_at(readings, at);
+    show_word(at, words[at]);
+    show_reading(x);
+    if a.number == BAD_FLOW {
+        return show_flow(at, x, count, &marks);
+    }
+    if a.number == ENTRY_MISFIT {
+        if ROW_BYTES <= entry.len() {
+            show_flaw(rows, 0, read_row(entry, 0));
+        }
+        return;
+    }
+    if a.number != NOT_READ {
+        show_looked(policy, readings, count, &marks, rows, result, a);
+    }
+}
+
+// What the answer to a bundle is about; nothing where it is accepted.
+pub fn show_answer(bytes: &[u8]) {
+    let a = answer(bytes);
+    if a.number == BAD_BUNDLE {
+        return show_no_bundle(bytes);
+    }
+    let opened = open(bytes);
+    if opened.number != ACCEPTED {
+        return show_adds(bytes);
+    }
+    if a.number == BAD_SHAPE {
+        return show_shape(bytes, opened);
+    }
+    let words = opened.words;
+    let count = opened.count;
+    let entry = opened.entry;
+    let result = opened.result;
+    let code = opened.code;
+    let rows = opened.rows;
+    let end = opened.end;
+    if a.number == BAD_ROW {
+        return show_broken_row(bytes, rows, a.word.0 as usize, a.register);
+    }
+    if a.number != ACCEPTED {
+        show_named(
+            opened.policy,
+            &words[..count],
+            &bytes[rows..end],
+            &bytes[entry..result],
+            &bytes[result..code],
+            a,
+        );
+    }
+}
