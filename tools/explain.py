@@ -121,6 +121,7 @@ def held_text(names, row, register):
 
 def unfit_text(names, a, b):
     """Why entry a does not fit entry b."""
+    a, b = tuple(a), tuple(b)
     if a[:2] == b[:2] and a[0] in (layout.NUMBER, layout.ADDRESS):
         what, (step, lo, hi) = "offset " if a[0] == layout.ADDRESS else "", a[2:]
         stray = [k for k in (lo, hi, min(lo + step, hi)) if not b[3] <= k <= b[4] or (k - b[3]) % b[2]]
@@ -402,7 +403,7 @@ def form_lines(names, said):
         why = f"size {size}" if number == 19 else "there are 8 before it"
         return [f"wrong: region {region}, at byte {at[0]} of the bundle: {why}"]
     region, index = first(said, "place")
-    why = TESTS[first(said, "breaks")[0]] if "breaks" in said.items and number == 20 else "there are 16 before it, or no such region"
+    why = TESTS[first(said, "breaks")[0]] if "breaks" in said.items else "there are 16 before it"
     values = "element {}, permission {}, target {}, offset {}, count {}, lo {}, hi {}".format(*first(said, "field")[1:])
     return [f"region {region} ({first(said, 'size')[0]} bytes); the fields before end at {first(said, 'end')[0]}",
             f"wrong: field {index} of region {region}, at byte {at[0]} of the bundle ({values}): {why}"]

@@ -1,7 +1,8 @@
 #!/usr/bin/env python3
 """runs.py: writes the data of the program crates/runs to standard output.
 
-    tools/runs.py RUNS
+    tools/runs.py            from the runs that stand in the data
+    tools/runs.py RUNS       from others
 
 RUNS has runs of the machine as text, a blank line between two. A line is a name and what stands for it:
   policy N             the number of regions; for each of them
@@ -38,12 +39,16 @@ memory after if it is changed.
 """
 import collections
 import copy
+import os
 import struct
 import sys
 
 sys.dont_write_bytecode = True
 import script
 
+DATA = os.path.join(os.path.dirname(os.path.abspath(__file__)), "..", "crates", "runs", "stdin")
+# How the runs end that are made here.
+MADE = 20
 # The program's room: bytes of memory, words.
 MEMORY, WORDS = 2048, 132
 EACH = 35
@@ -91,6 +96,34 @@ class Run:
         parts = [struct.pack(f">{len(numbers) + 1}I", len(numbers) + 4 * len(fields), *numbers)]
         parts += [struct.pack(">4B2H2I", *field) for field in fields]
         return b"".join(parts) + self.memory + self.left
+
+
+def run_in(data, at):
+    """The run whose record begins at a place of the data, and where the next one begins."""
+    (count,) = struct.unpack_from(">I", data, at)
+    numbers = list(struct.unpack_from(f">{count}I", data, at + 4))
+    run = Run.__new__(Run)
+    run.end, run.steps, run.allowance, run.returns, run.regions, words, bases, fields, length, changed = numbers[:10]
+    run.sizes, run.counts, run.bases = numbers[10:10 + run.regions], numbers[18:18 + run.regions], numbers[26:26 + bases]
+    run.before, run.after, run.words, run.changed = numbers[34:68], numbers[68:102], numbers[102:102 + words], bool(changed)
+    places = at + 4 + 4 * (102 + words)
+    packed = [Field(*struct.unpack_from(">4B2H2I", data, places + 16 * k)) for k in range(fields)]
+    run.fields = [field._replace(lo=field.lo - EXCESS, hi=field.hi - EXCESS) for field in packed]
+    start = at + 4 + 4 * count
+    run.memory, run.left = data[start:start + length], data[start + length:start + 2 * length] if changed else b""
+    return run, start + length * (2 if changed else 1)
+
+
+def standing():
+    """The runs of the data that are not made here."""
+    with open(DATA, "rb") as file:
+        data = file.read()
+    at, runs = 0, []
+    while at < len(data):
+        run, at = run_in(data, at)
+        if run.end != MADE:
+            runs.append(run)
+    return runs
 
 
 def sample(runs):
@@ -150,7 +183,7 @@ def refused(run):
     ]
     for change in changes:
         broken = copy.copy(run)
-        vars(broken).update(change, end=20, steps=0, after=run.before, changed=False, left=b"")
+        vars(broken).update(change, end=MADE, steps=0, after=run.before, changed=False, left=b"")
         yield broken
 
 
@@ -163,10 +196,13 @@ def run_of(text):
 
 
 def main(arguments):
-    if len(arguments) != 1:
-        raise script.Problem("call it as `runs.py RUNS`; `runs.py --help` says more")
-    with open(arguments[0], encoding="utf-8", errors="replace") as text:
-        runs = list(sample(run_of(each) for each in text.read().split("\n\n") if each.strip()))
+    if len(arguments) > 1:
+        raise script.Problem("call it as `runs.py` or `runs.py RUNS`; `runs.py --help` says more")
+    if arguments:
+        with open(arguments[0], encoding="utf-8", errors="replace") as text:
+            runs = list(sample(run_of(each) for each in text.read().split("\n\n") if each.strip()))
+    else:
+        runs = list(sample(standing()))
     whole = [run for run in runs if run.end == 0 and run.regions < REGIONS and all(kinds(run))]
     if not whole:
         raise script.Problem("no run that returned can be made into refused ones: it needs an address and two signed halves")
