@@ -3,7 +3,6 @@ use Prim.Native.Nat.{ℕ}
 use mathlib.Core.Path.{_≡_, refl}
 use mathlib.Core.Bool.{Bool, false, not, _&&_}
 use mathlib.Core.List.{List, []}
-use lib.ListN.{getD}
 use lib.Dec.{leb, ltb, eqb}
 use Rattle.v8.specs.Signed.{bias}
 use Rattle.v8.proofs.Choice.{cond-both}
@@ -98,16 +97,16 @@ module _ (sizes : List ℕ) (a b : Entry) where
       λ _. cond-both Failing (bothNumbers a b) (λ _. tt) (λ _. refl)
 
 module _ (p : Policy) (a : Access) (rs1 : ℕ) where
-  field-outlies : (s : NumberSet) (place : ℕ) → Outlying (inField (getD (p .fields .elements) place 0) (getD (p .fields .permissions) place 0) a rs1 s place)
-  unfolding inField fieldAt
-  field-outlies s place =
+  field-outlies : (element permission : ℕ) (s : NumberSet) (place : ℕ) → Outlying (inField element permission a rs1 s place)
+  unfolding inField
+  field-outlies element permission s place =
       cond-both Outlying (ltb 4096 (reachEnd s (accessWidth a))) (λ _. refl)
-      λ _. cond-both Outlying (not (serves a (fieldAt p place .element))) (λ _. refl)
+      λ _. cond-both Outlying (not (serves a element)) (λ _. refl)
       λ _. cond-both Outlying (not (onGrid s (accessWidth a))) (λ _. refl)
-      λ _. cond-both Outlying (not (allows a (fieldAt p place .permission))) (λ _. refl) (λ _. tt)
+      λ _. cond-both Outlying (not (allows a permission)) (λ _. refl) (λ _. tt)
 
   found-outlies : (s : NumberSet) (f : Found) → Outlying (inFound (p .fields) a rs1 s f)
-  found-outlies s (Found·.At place) = field-outlies s place
+  found-outlies s (Found·.At place) = field-outlies _ _ s place
   found-outlies s Found·.Nothing = refl
 
   region-outlies : (r : ℕ) (s : NumberSet) → Outlying (inRegion (p .regions .fields) (p .fields) a rs1 r s)
