@@ -4,7 +4,7 @@ use mathlib.Core.Bool.{xor}
 use native.Mathlib.Omega.{arith}
 use Rattle.v8.specs.Signed.{signExtend}
 use Rattle.v8.specs.Search.{all, lowest, first}
-use Rattle.v8.specs.Read.{readingOf, format00, format10, memoryOf, operandOf, countOf}
+use Rattle.v8.specs.Read.{readingOf, format00, format10, format11, operandOf, countOf}
 use Rattle.alu.specs.Codes.{codesOf}
 use Rattle.alu.specs.Condition.{condHolds, conditionOf}
 use Rattle.flow.specs.Transfer.{slotRuns, targetOf}
@@ -43,7 +43,7 @@ abbrev host : Host
 host = hostOf bases returns
 
 checks : checkOf policy words rows entry digits ≡ accepted
-unfolding readingOf format00 format10 memoryOf operandOf countOf signExtend conditionOf lowest first all widthOf leastOf mostOf fieldAt valuesOk fieldOk endBefore fieldFits fieldAtOk regionOk policyOk holdsIn stopOf findIn slotRuns targetOf ended setOk fitsSet within addSets isMember only without sizeIn entryOk fits noteOk fitsNote fieldEntry entryAt entriesWith entryOf noteOf formedAt flawFrom formFault fitsAt misfit rowOf offsetsGive addressSum addressDifference aluResult inField inRegion reachOf noteAfter codesNote aluChange accessChange branchChange returnChange narrowEntry narrowRow passOf isSlot shapeOk rowPass readPass flowPass entryPass cross narrowedEdge wordPass answerOf checkOf
+unfolding readingOf format00 format10 format11 operandOf countOf signExtend conditionOf lowest first all widthOf leastOf mostOf fieldAt valuesOk fieldOk endBefore fieldFits fieldAtOk regionOk policyOk holdsIn stopOf findIn slotRuns targetOf ended setOk fitsSet within addSets isMember only without sizeIn entryOk fits noteOk fitsNote fieldEntry entryAt entriesWith entryOf noteOf formedAt flawFrom formFault fitsAt misfit rowOf offsetsGive addressSum addressDifference aluResult inField inRegion reachOf noteAfter codesNote aluChange accessChange branchChange returnChange narrowEntry narrowRow passOf isSlot shapeOk rowPass readPass flowPass entryPass cross narrowedEdge wordPass answerOf checkOf
 checks = refl
 
 row-matches : RowMatches host (rowOf entry 0) (heldOf registers)
@@ -70,5 +70,5 @@ start-matches =
     }
 
 pub start-exists : StartExists
-unfolding readingOf format00 format10 memoryOf operandOf countOf signExtend codesOf condHolds conditionOf xor all widthOf leastOf mostOf fieldAt valuesOk fieldOk endBefore fieldFits fieldAtOk regionOk policyOk partStart lowest first holdsIn stopOf findIn valueIn setIn valuesWith marksWith insideRegion regionIn locate aimIn slotRuns targetOf stepOf disjointIn placedIn runFrom refusalOf runOf
+unfolding readingOf format00 format10 format11 operandOf countOf signExtend codesOf condHolds conditionOf xor all widthOf leastOf mostOf fieldAt valuesOk fieldOk endBefore fieldFits fieldAtOk regionOk policyOk partStart lowest first holdsIn stopOf findIn valueIn setIn valuesWith marksWith insideRegion regionIn locate aimIn slotRuns targetOf stepOf disjointIn placedIn runFrom refusalOf runOf
 start-exists = record { checked = checks; matches = start-matches; returned = refl; counted = refl; gives = refl; leaves = refl }

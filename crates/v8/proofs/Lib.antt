@@ -3,5 +3,7 @@ pub mod Search
 pub mod Table
 pub mod Power
 pub mod Integers
+pub mod Refused
+pub mod Numbered
 pub mod Sound
 pub mod Worked

@@ -12,11 +12,14 @@ use Rattle.v8.specs.declared.AluOp.{AluOp}
 use Rattle.v8.specs.declared.ShiftOp.{ShiftOp}
 use Rattle.v8.specs.declared.ShiftOp.the-variants.{Sll, Srl, Sra}
 use Rattle.v8.specs.declared.Operand.the-variants.{Reg, Imm}
-use Rattle.v8.specs.declared.Displacement.{Displacement}
+use Rattle.v8.specs.declared.LoadOp.the-variants.{Ld, Ldub, Lduh, Ldsb, Ldsh}
+use Rattle.v8.specs.declared.StoreOp.the-variants.{St, Stb, Sth}
+use Rattle.v8.specs.declared.Access.{Access}
+use Rattle.v8.specs.declared.Access.the-variants.{Loads, Stores}
 use Rattle.v8.specs.declared.read.OperandReading.{OperandReading}
 use Rattle.v8.specs.declared.read.OperandReading.the-variants.{Second, Reserved}
-use Rattle.v8.specs.Read.{readingOf, format00, format10, memoryOf, memoryWith, operandOf, countOf, aluWith, shiftWith, displacementOf, aluOpOf, leafReturn}
-use Rattle.v8.specs.Laws.{OperandSmall, DisplacementSmall, ReadingSound, ReadsSound}
+use Rattle.v8.specs.Read.{readingOf, format00, format10, format11, operandOf, countOf, aluWith, shiftWith, memoryWith, aluOpOf, leafReturn, privileged10, privileged11, refused}
+use Rattle.v8.specs.Laws.{OperandSmall, ReadingSound, ReadsSound}
 
 abbrev SecondSmall : OperandReading → Type 0
 SecondSmall (Second x) = OperandSmall x
@@ -46,6 +49,15 @@ shift-with : (op : ShiftOp) (w : ℕ) (x : OperandReading) → SecondSmall x →
 shift-with op w (Second x) l = l
 shift-with op w Reserved l = refl
 
+memory-with : (a : Access) (w : ℕ) (x : OperandReading) → SecondSmall x → ReadingSound (memoryWith a w x)
+memory-with a w (Second (Reg r)) l = tt
+memory-with a w (Second (Imm v)) l = l
+memory-with a w Reserved l = refl
+
+refused-with : (t : Bool) → ReadingSound (refused t)
+refused-with true = refl
+refused-with false = refl
+
 format00-small : (w : ℕ) → ReadingSound (format00 w)
 unfolding format00
 format00-small w = cond-both ReadingSound (eqb (op2Of w) 4) (λ _. tt) λ _. cond-both ReadingSound (eqb (op2Of w) 2) (λ _. tt) (λ _. refl)
@@ -59,28 +71,24 @@ format10-small w =
     λ _. cond-both ReadingSound (eqb (op3Of w) 0x25) (λ _. shift-with Sll w (countOf w) (count-small w))
     λ _. cond-both ReadingSound (eqb (op3Of w) 0x26) (λ _. shift-with Srl w (countOf w) (count-small w))
     λ _. cond-both ReadingSound (eqb (op3Of w) 0x27) (λ _. shift-with Sra w (countOf w) (count-small w))
-    λ _. cond-both ReadingSound (eqb w leafReturn) (λ _. tt) (λ _. refl)
+    λ _. cond-both ReadingSound (eqb w leafReturn) (λ _. tt) (λ _. refused-with (privileged10 (op3Of w)))
 
-memory-small : (w : ℕ) (d : Displacement) → DisplacementSmall d → ReadingSound (memoryOf w d)
-unfolding memoryOf
-memory-small w d l =
-    cond-both ReadingSound (eqb (op3Of w) 0x00) (λ _. l)
-    λ _. cond-both ReadingSound (eqb (op3Of w) 0x01) (λ _. l)
-    λ _. cond-both ReadingSound (eqb (op3Of w) 0x02) (λ _. l)
-    λ _. cond-both ReadingSound (eqb (op3Of w) 0x04) (λ _. l)
-    λ _. cond-both ReadingSound (eqb (op3Of w) 0x05) (λ _. l)
-    λ _. cond-both ReadingSound (eqb (op3Of w) 0x06) (λ _. l)
-    λ _. cond-both ReadingSound (eqb (op3Of w) 0x09) (λ _. l)
-    λ _. cond-both ReadingSound (eqb (op3Of w) 0x0A) (λ _. l) (λ _. refl)
-
-memory-with : (w : ℕ) (x : OperandReading) → SecondSmall x → ReadingSound (memoryWith w x)
-memory-with w (Second (Reg r)) l = memory-small w (displacementOf (Reg r)) tt
-memory-with w (Second (Imm v)) l = memory-small w (displacementOf (Imm v)) l
-memory-with w Reserved l = refl
+format11-small : (w : ℕ) → ReadingSound (format11 w)
+unfolding format11
+format11-small w =
+    let small : (a : Access) → ReadingSound (memoryWith a w (operandOf w)) = λ a. memory-with a w (operandOf w) (operand-small w) in
+    cond-both ReadingSound (eqb (op3Of w) 0x00) (λ _. small (Loads Ld))
+    λ _. cond-both ReadingSound (eqb (op3Of w) 0x01) (λ _. small (Loads Ldub))
+    λ _. cond-both ReadingSound (eqb (op3Of w) 0x02) (λ _. small (Loads Lduh))
+    λ _. cond-both ReadingSound (eqb (op3Of w) 0x04) (λ _. small (Stores St))
+    λ _. cond-both ReadingSound (eqb (op3Of w) 0x05) (λ _. small (Stores Stb))
+    λ _. cond-both ReadingSound (eqb (op3Of w) 0x06) (λ _. small (Stores Sth))
+    λ _. cond-both ReadingSound (eqb (op3Of w) 0x09) (λ _. small (Loads Ldsb))
+    λ _. cond-both ReadingSound (eqb (op3Of w) 0x0A) (λ _. small (Loads Ldsh)) (λ _. refused-with (privileged11 (op3Of w)))
 
 pub reads-sound : ReadsSound
 unfolding readingOf
 reads-sound w =
     cond-both ReadingSound (eqb (opOf w) 0) (λ _. format00-small w)
     λ _. cond-both ReadingSound (eqb (opOf w) 2) (λ _. format10-small w)
-    λ _. cond-both ReadingSound (eqb (opOf w) 3) (λ _. memory-with w (operandOf w) (operand-small w)) (λ _. refl)
+    λ _. cond-both ReadingSound (eqb (opOf w) 3) (λ _. format11-small w) (λ _. refl)

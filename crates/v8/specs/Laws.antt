@@ -1,11 +1,12 @@
--- What follows from the reading of words, for all that rests on it: the numbers in an instruction that is read are words of 32 bits, and a
--- refusal has a number.
+-- What follows from the reading of words, for all that rests on it: the numbers in an instruction that is read are words of 32 bits, a
+-- refusal has a number, and that number tells the privileged words from all others.
 -- The proofs are in proofs/.
 use Prim.Native.Nat.{ℕ, _<_}
 use mathlib.Core.Path.{_≡_}
-use mathlib.Core.Bool.{false}
+use mathlib.Core.Bool.{Bool, false, cond, _&&_, _||_}
 use lib.Dec.{eqb}
-use Rattle.v8.specs.Numbers.{acceptance}
+use Rattle.v8.specs.Numbers.{acceptance, notRead, privileged}
+use Rattle.v8.specs.Field.{opOf, op3Of}
 use Rattle.v8.specs.declared.Operand.{Operand}
 use Rattle.v8.specs.declared.Operand.the-variants.{Reg, Imm}
 use Rattle.v8.specs.declared.Displacement.{Displacement}
@@ -16,7 +17,7 @@ use Rattle.v8.specs.declared.Instruction.{Instruction}
 use Rattle.v8.specs.declared.Instruction.the-variants.{Plain, Branch, Return}
 use Rattle.v8.specs.declared.Reading.{Reading}
 use Rattle.v8.specs.declared.Reading.the-variants.{Read, Unread}
-use Rattle.v8.specs.Read.{readingOf}
+use Rattle.v8.specs.Read.{readingOf, privileged10, privileged11}
 
 -- the number in a second operand, if it has one, is a word
 abbrev pub OperandSmall : Operand → Type 0
@@ -47,3 +48,16 @@ ReadingSound (Unread n) = eqb n acceptance ≡ false
 -- Every word is read so.
 abbrev pub ReadsSound : Type 0
 ReadsSound = (w : ℕ) → ReadingSound (readingOf w)
+
+-- a privileged word, by its format and its opcode alone
+abbrev pub isPrivileged : ℕ → Bool
+isPrivileged w = (eqb (opOf w) 2 && privileged10 (op3Of w)) || (eqb (opOf w) 3 && privileged11 (op3Of w))
+
+-- what is read is not privileged, and what is refused has the number of its sort
+abbrev pub NumberedBy : Bool → Reading → Type 0
+NumberedBy p (Read x) = p ≡ false
+NumberedBy p (Unread n) = n ≡ cond p privileged notRead
+
+-- "24 replaces 2 for these words", for exactly these.
+abbrev pub ReadsNumbered : Type 0
+ReadsNumbered = (w : ℕ) → NumberedBy (isPrivileged w) (readingOf w)

@@ -99,6 +99,10 @@ badPlacement = 22
 abbrev pub badBundle : ℕ
 badBundle = 23
 
+-- request 1: "24 replaces 2 for these words", those that are privileged
+abbrev pub privileged : ℕ
+privileged = 24
+
 -- the machine's faults
 
 -- "101 word outside, unread, or a transfer in a slot"

@@ -1,12 +1,13 @@
--- What a word is read as (document 01, "Words we read"): an instruction of the subset, or the number of the refusal.
+-- What a word is read as (document 01, "Words we read"): an instruction of the subset, or the number of the refusal (request 1: that of
+-- privileged words is their own).
 use Prim.Native.Nat.{ℕ, _-_}
-use mathlib.Core.Bool.{Bool, true, false, cond}
+use mathlib.Core.Bool.{Bool, true, false, cond, _&&_, _||_}
 use mathlib.Core.List.{List, [], _∷_}
 use lib.Dec.{leb, ltb, eqb}
 use lib.ListN.{getD}
 use Rattle.v8.specs.Field.{opOf, rdOf, annulOf, condOf, op2Of, low22Of, op3Of, rs1Of, iOf, unusedOf, rs2Of, simm13Of}
 use Rattle.v8.specs.Signed.{signExtend}
-use Rattle.v8.specs.Numbers.{notRead}
+use Rattle.v8.specs.Numbers.{notRead, privileged}
 use Rattle.v8.specs.declared.AluOp.{AluOp}
 use Rattle.v8.specs.declared.AluOp.the-variants.{Add, And, Or, Xor, Sub, Andn, Orn, Xnor}
 use Rattle.v8.specs.declared.ShiftOp.{ShiftOp}
@@ -26,7 +27,7 @@ use Rattle.v8.specs.declared.Reading.the-variants.{Read, Unread}
 use Rattle.v8.specs.declared.read.OperandReading.{OperandReading}
 use Rattle.v8.specs.declared.read.OperandReading.the-variants.{Second, Reserved}
 
--- the number of a reading: "Read a word: 2."
+-- the number of a reading: "Read a word: 2.", or 24 if the word is privileged
 abbrev pub readNumber : Reading → ℕ
 readNumber (Read x) = 0
 readNumber (Unread n) = n
@@ -71,6 +72,22 @@ abbrev pub shiftWith : ShiftOp → ℕ → OperandReading → Reading
 shiftWith op w (Second x) = Read (Plain (Shift op (rdOf w) (rs1Of w) x))
 shiftWith op w Reserved = Unread notRead
 
+-- from one opcode to another
+abbrev pub between : ℕ → ℕ → ℕ → Bool
+between first last k = leb first k && leb k last
+
+-- request 1, privileged words: "format 10 opcodes 29, 2A, 2B, 31, 32, 33, 39"
+abbrev pub privileged10 : ℕ → Bool
+privileged10 k = between 0x29 0x2B k || between 0x31 0x33 k || eqb k 0x39
+
+-- "and format 11 opcodes 10 to 17, 19, 1A, 1D, 1F, 26, 36"
+abbrev pub privileged11 : ℕ → Bool
+privileged11 k = between 0x10 0x17 k || between 0x19 0x1A k || eqb k 0x1D || eqb k 0x1F || eqb k 0x26 || eqb k 0x36
+
+-- a word refused for its opcode, which is privileged or not: "24 replaces 2 for these words"
+abbrev pub refused : Bool → Reading
+refused p = Unread (cond p privileged notRead)
+
 -- format 10: "the same plus 10 also set the codes; SLL 25, SRL 26, SRA 27; and the leaf return"
 unfoldable pub format10 : ℕ → Reading
 format10 w =
@@ -81,38 +98,34 @@ format10 w =
     (cond (eqb (op3Of w) 0x26) (shiftWith Srl w (countOf w))
     (cond (eqb (op3Of w) 0x27) (shiftWith Sra w (countOf w))
     (cond (eqb w leafReturn) (Read Return)
-    (Unread notRead)))))))
+    (refused (privileged10 (op3Of w)))))))))
 
 -- an address's second part: a register, or a signed count of bytes
 abbrev pub displacementOf : Operand → Displacement
 displacementOf (Reg r) = Index r
 displacementOf (Imm v) = Bytes (record { 0 = v })
 
--- a load or a store, its address read
-abbrev pub accessOf : Access → ℕ → Displacement → Reading
-accessOf a w d = Read (Plain (Memory a (rdOf w) (rs1Of w) d))
+abbrev pub memoryWith : Access → ℕ → OperandReading → Reading
+memoryWith a w (Second x) = Read (Plain (Memory a (rdOf w) (rs1Of w) (displacementOf x)))
+memoryWith a w Reserved = Unread notRead
 
--- "LD 00, LDUB 01, LDUH 02, ST 04, STB 05, STH 06, LDSB 09, LDSH 0A", with the address read
-unfoldable pub memoryOf : ℕ → Displacement → Reading
-memoryOf w d =
-    cond (eqb (op3Of w) 0x00) (accessOf (Loads Ld) w d)
-    (cond (eqb (op3Of w) 0x01) (accessOf (Loads Ldub) w d)
-    (cond (eqb (op3Of w) 0x02) (accessOf (Loads Lduh) w d)
-    (cond (eqb (op3Of w) 0x04) (accessOf (Stores St) w d)
-    (cond (eqb (op3Of w) 0x05) (accessOf (Stores Stb) w d)
-    (cond (eqb (op3Of w) 0x06) (accessOf (Stores Sth) w d)
-    (cond (eqb (op3Of w) 0x09) (accessOf (Loads Ldsb) w d)
-    (cond (eqb (op3Of w) 0x0A) (accessOf (Loads Ldsh) w d)
-    (Unread notRead))))))))
-
-abbrev pub memoryWith : ℕ → OperandReading → Reading
-memoryWith w (Second x) = memoryOf w (displacementOf x)
-memoryWith w Reserved = Unread notRead
+-- format 11: "LD 00, LDUB 01, LDUH 02, ST 04, STB 05, STH 06, LDSB 09, LDSH 0A"
+unfoldable pub format11 : ℕ → Reading
+format11 w =
+    cond (eqb (op3Of w) 0x00) (memoryWith (Loads Ld) w (operandOf w))
+    (cond (eqb (op3Of w) 0x01) (memoryWith (Loads Ldub) w (operandOf w))
+    (cond (eqb (op3Of w) 0x02) (memoryWith (Loads Lduh) w (operandOf w))
+    (cond (eqb (op3Of w) 0x04) (memoryWith (Stores St) w (operandOf w))
+    (cond (eqb (op3Of w) 0x05) (memoryWith (Stores Stb) w (operandOf w))
+    (cond (eqb (op3Of w) 0x06) (memoryWith (Stores Sth) w (operandOf w))
+    (cond (eqb (op3Of w) 0x09) (memoryWith (Loads Ldsb) w (operandOf w))
+    (cond (eqb (op3Of w) 0x0A) (memoryWith (Loads Ldsh) w (operandOf w))
+    (refused (privileged11 (op3Of w))))))))))
 
 -- "Bits 31:30 choose the format."
 unfoldable pub readingOf : ℕ → Reading
 readingOf w =
     cond (eqb (opOf w) 0) (format00 w)
     (cond (eqb (opOf w) 2) (format10 w)
-    (cond (eqb (opOf w) 3) (memoryWith w (operandOf w))
+    (cond (eqb (opOf w) 3) (format11 w)
     (Unread notRead)))

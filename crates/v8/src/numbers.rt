@@ -74,6 +74,9 @@ pub const BAD_PLACEMENT: u8 = 22;
 // The bytes are no bundle.
 pub const BAD_BUNDLE: u8 = 23;
 
+// A word is privileged, and for that not read.
+pub const PRIVILEGED: u8 = 24;
+
 // The machine's faults.
 
 // The word is outside the code, not read, or a transfer in a slot.

@@ -1,7 +1,7 @@
 // Words as instructions.
 ghost use mathlib.Core.Path.{_≡_};
 ghost use Prim.Native.Nat.{_<_};
-ghost use Rattle.v8.specs.Read.{readNumber, readingOf, format00, format10, memoryOf, memoryWith, operandOf, countOf, displacementOf, aluWith, shiftWith, aluOpOf, accessOf};
+ghost use Rattle.v8.specs.Read.{readNumber, readingOf, format00, format10, format11, operandOf, countOf, displacementOf, aluWith, shiftWith, memoryWith, aluOpOf};
 use crate::Access;
 use crate::AluOp;
 use crate::Bicc;
@@ -27,6 +27,7 @@ use crate::field::rs2_of;
 use crate::field::simm13_of;
 use crate::field::unused_of;
 use crate::numbers::NOT_READ;
+use crate::numbers::PRIVILEGED;
 use crate::signed::sign_extend;
 
 // The leaf return, the one JMPL that is read.
@@ -135,7 +136,7 @@ fn read_shift(op: ShiftOp, w: u32) -> Reading
     }
 }
 
-// Arithmetic, logic, shifts and the leaf return.
+// Arithmetic, logic, shifts and the leaf return; privileged words by their opcode alone.
 fn read_format_10(w: u32) -> Reading
     ensures { λ r. ⌜ r ≡ format10 w ⌝ }
 {
@@ -146,6 +147,7 @@ fn read_format_10(w: u32) -> Reading
         0x25 => read_shift(ShiftOp::Sll, w),
         0x26 => read_shift(ShiftOp::Srl, w),
         0x27 => read_shift(ShiftOp::Sra, w),
+        0x29..=0x2B | 0x31..=0x33 | 0x39 => Reading::Unread(PRIVILEGED),
         0x38 => {
             if w == LEAF_RETURN {
                 Reading::Read(Instruction::Return)
@@ -166,43 +168,40 @@ fn displacement_of(x: Operand) -> Displacement
     }
 }
 
-// A load or a store, its address read.
-fn read_access(access: Access, w: u32, displacement: Displacement) -> Reading
-    ensures { λ r. ⌜ r ≡ accessOf access w displacement ⌝ }
+fn read_access(access: Access, w: u32) -> Reading
+    ensures { λ r. ⌜ r ≡ memoryWith access w (operandOf w) ⌝ }
 {
     let rd = rd_of(w);
     let rs1 = rs1_of(w);
-    Reading::Read(Instruction::Plain(Operation::Memory {
-        access,
-        rd,
-        rs1,
-        displacement,
-    }))
-}
-
-// Loads and stores, by their opcode.
-fn read_memory(w: u32, displacement: Displacement) -> Reading
-    ensures { λ r. ⌜ r ≡ memoryOf w displacement ⌝ }
-{
-    match op3_of(w) {
-        0x00 => read_access(Access::Loads(LoadOp::Ld), w, displacement),
-        0x01 => read_access(Access::Loads(LoadOp::Ldub), w, displacement),
-        0x02 => read_access(Access::Loads(LoadOp::Lduh), w, displacement),
-        0x04 => read_access(Access::Stores(StoreOp::St), w, displacement),
-        0x05 => read_access(Access::Stores(StoreOp::Stb), w, displacement),
-        0x06 => read_access(Access::Stores(StoreOp::Sth), w, displacement),
-        0x09 => read_access(Access::Loads(LoadOp::Ldsb), w, displacement),
-        0x0A => read_access(Access::Loads(LoadOp::Ldsh), w, displacement),
-        _ => Reading::Unread(NOT_READ),
+    match operand_of(w) {
+        OperandReading::Second(x) => {
+            let displacement = displacement_of(x);
+            Reading::Read(Instruction::Plain(Operation::Memory {
+                access,
+                rd,
+                rs1,
+                displacement,
+            }))
+        }
+        OperandReading::Reserved => Reading::Unread(NOT_READ),
     }
 }
 
+// Loads and stores; privileged words by their opcode alone.
 fn read_format_11(w: u32) -> Reading
-    ensures { λ r. ⌜ r ≡ memoryWith w (operandOf w) ⌝ }
+    ensures { λ r. ⌜ r ≡ format11 w ⌝ }
 {
-    match operand_of(w) {
-        OperandReading::Second(x) => read_memory(w, displacement_of(x)),
-        OperandReading::Reserved => Reading::Unread(NOT_READ),
+    match op3_of(w) {
+        0x00 => read_access(Access::Loads(LoadOp::Ld), w),
+        0x01 => read_access(Access::Loads(LoadOp::Ldub), w),
+        0x02 => read_access(Access::Loads(LoadOp::Lduh), w),
+        0x04 => read_access(Access::Stores(StoreOp::St), w),
+        0x05 => read_access(Access::Stores(StoreOp::Stb), w),
+        0x06 => read_access(Access::Stores(StoreOp::Sth), w),
+        0x09 => read_access(Access::Loads(LoadOp::Ldsb), w),
+        0x0A => read_access(Access::Loads(LoadOp::Ldsh), w),
+        0x10..=0x17 | 0x19..=0x1A | 0x1D | 0x1F | 0x26 | 0x36 => Reading::Unread(PRIVILEGED),
+        _ => Reading::Unread(NOT_READ),
     }
 }
 

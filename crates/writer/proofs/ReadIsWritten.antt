@@ -14,7 +14,7 @@ use Rattle.v8.proofs.Choice.{cond-went, cond-both}
 use Rattle.v8.proofs.Table.{at}
 use Rattle.v8.specs.Signed.{signExtend}
 use Rattle.v8.specs.Field.{opOf, rdOf, annulOf, condOf, op2Of, low22Of, op3Of, rs1Of, iOf, unusedOf, rs2Of, simm13Of}
-use Rattle.v8.specs.Read.{readingOf, format00, format10, memoryOf, memoryWith, operandOf, countOf, displacementOf, aluOps, aluOpOf, aluWith, shiftWith, accessOf, leafReturn}
+use Rattle.v8.specs.Read.{readingOf, format00, format10, format11, operandOf, countOf, displacementOf, aluOps, aluOpOf, aluWith, shiftWith, memoryWith, leafReturn}
 use Rattle.writer.specs.Write.{writingOf, iBit, signedBits, fiveBits, operandBits, countBits, displacementBits, aluCode, aluCodeCc, shiftCode, accessCode, packOf, packed, sethiWord}
 use Rattle.writer.specs.Laws.{ReadIsWritten}
 use Rattle.v8.specs.declared.AluOp.{AluOp}
@@ -176,42 +176,39 @@ format10-kept w x p e =
     (λ t q. return-kept w x (eqb-true _ _ t) q)
     (λ t q. unread q)))))))
 
-access-kept : (w : ℕ) (a : Access) (x : Instruction) (o : Operand) → opOf w ≡ 3 → operandOf w ≡ Second o → op3Of w ≡ accessCode a → accessOf a w (displacementOf o) ≡ Read x → writingOf x ≡ Written w
+memory-kept : (w : ℕ) (a : Access) (x : Instruction) (o : OperandReading) → opOf w ≡ 3 → op3Of w ≡ accessCode a → operandOf w ≡ o → memoryWith a w o ≡ Read x → writingOf x ≡ Written w
 unfolding writingOf
-access-kept w a x o p r q e = rw (← read e) (packed-kept w 3 _ _ p q (displacement-kept o ∙ operand-kept w o r))
+memory-kept w a x (Second o) p q r e = rw (← read e) (packed-kept w 3 _ _ p q (displacement-kept o ∙ operand-kept w o r))
+memory-kept w a x Reserved p q r e = unread e
 
-memory-kept : (w : ℕ) (x : Instruction) (o : Operand) → opOf w ≡ 3 → operandOf w ≡ Second o → memoryOf w (displacementOf o) ≡ Read x → writingOf x ≡ Written w
-unfolding memoryOf
-memory-kept w x o p r e =
+format11-kept : (w : ℕ) (x : Instruction) → opOf w ≡ 3 → format11 w ≡ Read x → writingOf x ≡ Written w
+unfolding format11
+format11-kept w x p e =
     cond-went (eqb (op3Of w) 0x00) _ _ _ e
-    (λ t q. access-kept w (Loads Ld) x o p r (eqb-true _ _ t) q)
+    (λ t q. memory-kept w (Loads Ld) x (operandOf w) p (eqb-true _ _ t) refl q)
     (λ t q.
     cond-went (eqb (op3Of w) 0x01) _ _ _ q
-    (λ t q. access-kept w (Loads Ldub) x o p r (eqb-true _ _ t) q)
+    (λ t q. memory-kept w (Loads Ldub) x (operandOf w) p (eqb-true _ _ t) refl q)
     (λ t q.
     cond-went (eqb (op3Of w) 0x02) _ _ _ q
-    (λ t q. access-kept w (Loads Lduh) x o p r (eqb-true _ _ t) q)
+    (λ t q. memory-kept w (Loads Lduh) x (operandOf w) p (eqb-true _ _ t) refl q)
     (λ t q.
     cond-went (eqb (op3Of w) 0x04) _ _ _ q
-    (λ t q. access-kept w (Stores St) x o p r (eqb-true _ _ t) q)
+    (λ t q. memory-kept w (Stores St) x (operandOf w) p (eqb-true _ _ t) refl q)
     (λ t q.
     cond-went (eqb (op3Of w) 0x05) _ _ _ q
-    (λ t q. access-kept w (Stores Stb) x o p r (eqb-true _ _ t) q)
+    (λ t q. memory-kept w (Stores Stb) x (operandOf w) p (eqb-true _ _ t) refl q)
     (λ t q.
     cond-went (eqb (op3Of w) 0x06) _ _ _ q
-    (λ t q. access-kept w (Stores Sth) x o p r (eqb-true _ _ t) q)
+    (λ t q. memory-kept w (Stores Sth) x (operandOf w) p (eqb-true _ _ t) refl q)
     (λ t q.
     cond-went (eqb (op3Of w) 0x09) _ _ _ q
-    (λ t q. access-kept w (Loads Ldsb) x o p r (eqb-true _ _ t) q)
+    (λ t q. memory-kept w (Loads Ldsb) x (operandOf w) p (eqb-true _ _ t) refl q)
     (λ t q.
     cond-went (eqb (op3Of w) 0x0A) _ _ _ q
-    (λ t q. access-kept w (Loads Ldsh) x o p r (eqb-true _ _ t) q)
+    (λ t q. memory-kept w (Loads Ldsh) x (operandOf w) p (eqb-true _ _ t) refl q)
     (λ t q.
     unread q))))))))
-
-format11-kept : (w : ℕ) (x : Instruction) (o : OperandReading) → opOf w ≡ 3 → operandOf w ≡ o → memoryWith w o ≡ Read x → writingOf x ≡ Written w
-format11-kept w x (Second o) p r e = memory-kept w x o p r e
-format11-kept w x Reserved p r e = unread e
 
 -- ---- format 00
 
@@ -268,5 +265,5 @@ read-is-written w x e =
     (λ t q. format10-kept w x (eqb-true _ _ t) q)
     (λ t q.
     cond-went (eqb (opOf w) 3) _ _ _ q
-    (λ t q. format11-kept w x (operandOf w) (eqb-true _ _ t) refl q)
+    (λ t q. format11-kept w x (eqb-true _ _ t) q)
     (λ t q. unread q)))

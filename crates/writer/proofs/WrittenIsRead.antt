@@ -11,7 +11,7 @@ use borrow.Author.Tests.{ltb-true, eqb-true}
 use Rattle.v8.proofs.Choice.{cond-went}
 use Rattle.v8.specs.Signed.{signExtend}
 use Rattle.v8.specs.Field.{opOf, rdOf, annulOf, condOf, op2Of, low22Of, op3Of, rs1Of, iOf, unusedOf, rs2Of, simm13Of}
-use Rattle.v8.specs.Read.{readingOf, format00, format10, memoryOf, memoryWith, operandOf, countOf, displacementOf, aluWith, shiftWith, accessOf}
+use Rattle.v8.specs.Read.{readingOf, format00, format10, format11, operandOf, countOf, displacementOf, aluWith, shiftWith, memoryWith}
 use Rattle.writer.specs.Write.{writingOf, Fits, iBit, signedBits, fiveBits, operandBits, countBits, displacementBits, aluCodeCc, shiftCode, accessCode, packOf, packed, sethiWord, biccWord, operationWord}
 use Rattle.writer.specs.Laws.{WrittenIsRead}
 use Rattle.writer.proofs.Ranges.{operand-fits, count-fits, displacement-fits, alu-cc-small, shift-small, access-small}
@@ -194,20 +194,16 @@ shift-case Sll w h k = simp (h, k)
 shift-case Srl w h k = simp (h, k)
 shift-case Sra w h k = simp (h, k)
 
-memory-case : (w : ℕ) → opOf w ≡ 3 → readingOf w ≡ memoryWith w (operandOf w)
-unfolding readingOf
-memory-case w h = simp h
-
-access-case : (a : Access) (w : ℕ) (d : Displacement) → op3Of w ≡ accessCode a → memoryOf w d ≡ accessOf a w d
-unfolding memoryOf
-access-case (Loads Ld) w d k = simp k
-access-case (Loads Ldub) w d k = simp k
-access-case (Loads Lduh) w d k = simp k
-access-case (Loads Ldsb) w d k = simp k
-access-case (Loads Ldsh) w d k = simp k
-access-case (Stores St) w d k = simp k
-access-case (Stores Stb) w d k = simp k
-access-case (Stores Sth) w d k = simp k
+memory-case : (a : Access) (w : ℕ) → opOf w ≡ 3 → op3Of w ≡ accessCode a → readingOf w ≡ memoryWith a w (operandOf w)
+unfolding readingOf format11
+memory-case (Loads Ld) w h k = simp (h, k)
+memory-case (Loads Ldub) w h k = simp (h, k)
+memory-case (Loads Lduh) w h k = simp (h, k)
+memory-case (Loads Ldsb) w h k = simp (h, k)
+memory-case (Loads Ldsh) w h k = simp (h, k)
+memory-case (Stores St) w h k = simp (h, k)
+memory-case (Stores Stb) w h k = simp (h, k)
+memory-case (Stores Sth) w h k = simp (h, k)
 
 -- ---- format 00
 
@@ -269,10 +265,6 @@ return-back : (w : ℕ) → Written 0x81C3E008 ≡ Written w → readingOf w ≡
 unfolding readingOf format10
 return-back w e = rw (← written e)
 
-memory-at : {op3 rd rs1 w : ℕ} (d : Displacement) → Packed 3 rd op3 rs1 w (displacementBits d) → readingOf w ≡ memoryOf w d
-memory-at {w = w} d p =
-    memory-case w (p .op-is) ∙ ap (memoryWith w) (operand-at (asOperand d) (rw (as-bits d) at p)) ∙ ap (memoryOf w) (as-back d)
-
 operation-back : (x : Operation) (w : ℕ) → operationWord x ≡ Written w → readingOf w ≡ Read (Plain x)
 operation-back (Sethi rd imm22) w e = sethi-back rd imm22 w e
 operation-back (Alu op cc rd rs1 x) w e =
@@ -283,7 +275,7 @@ operation-back (Shift op rd rs1 x) w e =
     shift-case op w (p .op-is) (p .op3-is) ∙ rw (count-at x p, p .rd-is, p .rs1-is)
 operation-back (Memory a rd rs1 d) w e =
     let p = parts 3 rd (accessCode a) rs1 w (displacementBits d) (omega arith) (access-small a) (displacement-fits d) e in
-    memory-at d p ∙ access-case a w d (p .op3-is) ∙ rw (p .rd-is, p .rs1-is)
+    memory-case a w (p .op-is) (p .op3-is) ∙ rw (operand-at (asOperand d) (rw (as-bits d) at p), as-back d, p .rd-is, p .rs1-is)
 
 pub written-is-read : WrittenIsRead
 unfolding writingOf

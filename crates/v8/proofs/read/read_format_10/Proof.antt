@@ -1,10 +1,12 @@
--- Format 10: each key and range of the match is a case of the definition. The default has failed every test; that the word is not
--- the leaf return follows from its opcode.
+-- Format 10: each key and range of the match is a case of the definition. What is left is refused for its opcode, between, above and in the
+-- ranges of those that are privileged.
 use Rattle.v8.specs.Read.{format10, leafReturn}
+use Rattle.v8.proofs.Refused.{refused10, below10, between10, above10, first10, second10}
 use Rattle.v8.specs.Field.{op3Of}
 use native.Mathlib.Omega.{arith}
 use borrow.Author.Tests.{ne-eqb, lt-ltb, le-ltb, le-leb, lt-leb}
-use mathlib.Core.Path.{ap, _∙_}
+use mathlib.Core.Bool.{true, false}
+use mathlib.Core.Path.{refl, sym, _∙_}
 use borrow.Author.Needs.{needs}
 use Rattle.v8.proofs.read.read_format_10.Statement.{statement}
 use Rattle.v8.proofs.read.read_format_10.Tie as tie
@@ -47,11 +49,11 @@ returns-3 c = rw (← c .before .before .op3-of .ensures) (simp (c .before .matc
 
 returns-4 : tie.Need-returns-4
 unfolding format10
-returns-4 c = rw (← c .before .before .op3-of .ensures) (simp (c .before .match .keys4, c .if1 .taken))
+returns-4 c = rw (← c .before .before .op3-of .ensures) (simp (c .before .match .keys5, c .if1 .taken))
 
 returns-5 : tie.Need-returns-5
 unfolding format10
-returns-5 c = rw (← c .before .before .op3-of .ensures) (simp (c .before .match .keys4, ne-eqb _ _ (c .if1 .left)))
+returns-5 c = rw (← c .before .before .op3-of .ensures) (simp (c .before .match .keys5, ne-eqb _ _ (c .if1 .left)))
 
 returns-6 : tie.Need-returns-6
 unfolding format10
@@ -74,21 +76,42 @@ returns-8 : tie.Need-returns-8
 unfolding format10
 returns-8 c = rw (← c .before .before .before .op3-of .ensures) (simp (lt-leb _ 7 (c .before .if2 .left), lt-ltb _ 16 (c .if3 .taken)))
 
+-- below, between and above the privileged opcodes
 returns-9 : tie.Need-returns-9
-unfolding format10
 returns-9 c =
-    let at-args = c .before .before .before .before .before in
-    let r = c .before .before .before .match .rest in
-    rw (← c .before .before .before .before .op3-of .ensures)
-    (simp (
-      lt-leb _ 7 (c .before .before .if2 .left),
-      le-ltb _ _ (c .before .if3 .left),
-      lt-leb _ 23 (c .if4 .left),
-      ne-eqb _ _ (r .0 .0 .0 .1),
-      ne-eqb _ _ (r .0 .0 .1),
-      ne-eqb _ _ (r .0 .1),
-      ne-eqb (at-args .args .w) leafReturn (λ e. r .1 (c .before .before .before .before .op3-of .ensures ∙ ap op3Of e)),
-    ))
+    let m = c .before .before .before .before in
+    let r = m .match .rest in
+    refused10 _ _ false (m .before .op3-of .ensures) (c .before .if4 .left) (r .0 .0 .0 .0 .1) (r .0 .0 .0 .1) (r .0 .0 .1) (r .1) (below10 _ (c .if5 .taken))
+
+returns-10 : tie.Need-returns-10
+returns-10 c =
+    let m = c .before .before .before .before .before .before in
+    let r = m .match .rest in
+    refused10 _ _ false (m .before .op3-of .ensures) (c .before .before .before .if4 .left) (r .0 .0 .0 .0 .1) (r .0 .0 .0 .1) (r .0 .0 .1) (r .1) (between10 _ (c .before .if6 .left) (c .if7 .taken))
+
+returns-11 : tie.Need-returns-11
+returns-11 c =
+    let m = c .before .before .before .before .before .before .before in
+    let r = m .match .rest in
+    refused10 _ _ false (m .before .op3-of .ensures) (c .before .before .before .before .if4 .left) (r .0 .0 .0 .0 .1) (r .0 .0 .0 .1) (r .0 .0 .1) (r .1) (above10 _ (c .if8 .left) (r .0 .1))
+
+-- the privileged opcodes
+returns-12 : tie.Need-returns-12
+returns-12 c =
+    let e = c .match .keys4 in
+    refused10 _ 0x39 true (sym e ∙ c .before .op3-of .ensures) (omega arith) (λ q. omega arith) (λ q. omega arith) (λ q. omega arith) (λ q. omega arith) refl
+
+returns-13 : tie.Need-returns-13
+returns-13 c =
+    let m = c .before .before .before .before .before in
+    let r = m .match .rest in
+    refused10 _ _ true (m .before .op3-of .ensures) (c .before .before .if4 .left) (r .0 .0 .0 .0 .1) (r .0 .0 .0 .1) (r .0 .0 .1) (r .1) (first10 _ (c .before .if5 .left) (c .if6 .taken))
+
+returns-14 : tie.Need-returns-14
+returns-14 c =
+    let m = c .before .before .before .before .before .before .before in
+    let r = m .match .rest in
+    refused10 _ _ true (m .before .op3-of .ensures) (c .before .before .before .before .if4 .left) (r .0 .0 .0 .0 .1) (r .0 .0 .0 .1) (r .0 .0 .1) (r .1) (second10 _ (c .before .if7 .left) (c .if8 .taken))
 
 pub read-format-10-spec : {M : Type 1} → statement M
 read-format-10-spec =
@@ -110,4 +133,9 @@ read-format-10-spec =
     returns-6
     returns-7
     returns-8
-    returns-9)
+    returns-9
+    returns-10
+    returns-11
+    returns-12
+    returns-13
+    returns-14)

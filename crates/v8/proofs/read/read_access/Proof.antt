@@ -1,0 +1,41 @@
+-- Loads and stores, by the two answers of operand_of.
+use borrow.Author.Needs.{needs}
+use Rattle.v8.proofs.read.read_access.Statement.{statement}
+use Rattle.v8.proofs.read.read_access.Tie as tie
+
+rd-of-requires : tie.Need-rd-of-requires
+rd-of-requires c κs = search needs
+
+rs1-of-requires : tie.Need-rs1-of-requires
+rs1-of-requires c κs = search needs
+
+operand-of-requires : tie.Need-operand-of-requires
+operand-of-requires c κs = search needs
+
+enum-known-x : tie.Need-enum-known-x
+enum-known-x c = search needs
+
+displacement-of-requires : tie.Need-displacement-of-requires
+displacement-of-requires c κs = search needs
+
+enum-told : tie.Need-enum-told
+enum-told c = search needs
+
+returns : tie.Need-returns
+returns c = rw (← c .before .before .before .before .operand-of .ensures, c .before .before .x .given .1) (cc)
+
+returns-2 : tie.Need-returns-2
+returns-2 c = rw (← c .before .before .operand-of .ensures, c .enum-told .given .1)
+
+pub read-access-spec : {M : Type 1} → statement M
+read-access-spec =
+    tie.close
+    (tie.spec
+    rd-of-requires
+    rs1-of-requires
+    operand-of-requires
+    enum-known-x
+    displacement-of-requires
+    enum-told
+    returns
+    returns-2)
