@@ -41,7 +41,7 @@ pub record Checked (t : Routine) : Type 0 where
   pub result-formed : entryFormed (t .policy .regions .count) (t .policy .regions .sizes) (t .result) 0 ≡ true
   -- 1
   pub rows-formed : (w : ℕ) → w < count t → formFault (t .policy .regions .count) (t .policy .regions .sizes) (t .rows) (rowBytes * w) ≡ None
-  -- 2
+  -- 2, 24
   pub reads : (w : ℕ) → w < count t → passes (readPass (t .readings) w) ≡ true
   -- 3
   pub flows : (w : ℕ) → w < count t → flowOf (t .readings) w (readingAt (t .readings) w) ≡ true

@@ -58,7 +58,7 @@ shapePass p n rows entry result = need (shapeOk p n rows entry result) badShape 
 unfoldable pub rowPass : Policy → List ℕ → ℕ → Answer
 rowPass p rows w = unlessFault badRow w (formFault (p .regions .count) (p .regions .sizes) rows (rowBytes * w))
 
--- "2 word not read: its word", by the number of its reading
+-- "2 word not read: its word"; request 1: "24 replaces 2 for these words, in the same pass", by the number of the reading
 abbrev pub ifRead : ℕ → Reading → Answer
 ifRead w (Read x) = accepted
 ifRead w (Unread number) = refuse number w 0

@@ -133,8 +133,9 @@ fn show_named(policy: Policy, words: &[u32], rows: &[u8], entry: &[u8], result: 
         }
         return;
     }
-    if a.number != NOT_READ {
-        show_looked(policy, readings, count, &marks, rows, result, a);
+    match x {
+        Reading::Read(_) => show_looked(policy, readings, count, &marks, rows, result, a),
+        Reading::Unread(_) => {}
     }
 }
 

@@ -80,6 +80,7 @@ shapeRows =
     ∷ []
 
 -- "1 row badly formed: its word; the lowest register of the earliest broken row is the one named, 32 for the note. 2 word not read: its word."
+-- Request 1: "24 replaces 2 for these words, in the same pass".
 abbrev pub formPassRows : List Row
 formPassRows =
     -- row 1 broken at r3 and at the note; before 2: word 0 is not read
@@ -88,6 +89,11 @@ formPassRows =
     ∷ rowed (put 4 (startOrNull 1) called) (put 2 (startOrNull 1) called) gives answers 1 0 4
     -- word 1 is not read; before 3: word 0 is a ba out of the code
     ∷ flow (0x10800002 ∷ 0 ∷ []) gives answers 2 1 0
+    -- rd %psr,%g1 before a word that is not read, and after one; in the slot of a ba out of the code; with its own row broken
+    ∷ flow (0x83480000 ∷ 0 ∷ []) gives answers 24 0 0
+    ∷ flow (0 ∷ 0x83480000 ∷ []) gives answers 2 0 0
+    ∷ flow (0x10800002 ∷ 0x83480000 ∷ []) gives answers 24 1 0
+    ∷ routine (0x83480000 ∷ []) (put 3 (startOrNull 1) called ∷ []) called unset gives answers 1 0 3
     ∷ []
 
 -- "3 flow, its word"; "15 the entry row does not fit row 0: lowest register or 32"

@@ -164,6 +164,10 @@ noWordRows =
     -- a word that is not read; one in a slot
     ∷ code (0 ∷ []) gives faults 101
     ∷ code (0x10800002 ∷ 0 ∷ 0x8A016001 ∷ []) gives kept (Fault 101) 1
+    -- a privileged word, rd %psr,%g5; lda [%g1]10,%g5 in a slot; one that is skipped
+    ∷ code (0x8B480000 ∷ []) gives faults 101
+    ∷ code (0x10800002 ∷ 0xCA804140 ∷ 0x8A016001 ∷ []) gives kept (Fault 101) 1
+    ∷ code (0x30800002 ∷ 0x8B480000 ∷ 0x8A016001 ∷ []) gives counted (Fault 101) 2 1 0 0
     -- a transfer in the slot of ba, of bn and of the return
     ∷ code (0x10800002 ∷ 0x10800002 ∷ 0x8A016001 ∷ 0x8C01A001 ∷ []) gives kept (Fault 101) 1
     ∷ code (0x10800002 ∷ 0x81C3E008 ∷ 0x8A016001 ∷ []) gives kept (Fault 101) 1

@@ -4,7 +4,7 @@ use mathlib.Core.Path.{_≡_}
 use mathlib.Core.List.{List, _++_, map}
 use Rattle.claims.specs.Claims.{ReturnThenNop, OneNop, LoopAccepted, LoopNeverReturns, StartExists}
 use Rattle.trials.specs.Case.{Row, outcome, given, expected}
-use Rattle.trials.specs.Words.{wordRows, writeRows, answerRows}
+use Rattle.trials.specs.Words.{wordRows, privilegedRows, writeRows, answerRows}
 use Rattle.trials.specs.Arithmetic.{additionRows, subtractionRows, logicRows, shiftRows, conditionRows}
 use Rattle.trials.specs.Flows.{flowRows}
 use Rattle.trials.specs.Policies.{addRows}
@@ -21,7 +21,7 @@ use Rattle.trials.specs.BundleRows.{bundleRows}
 -- words, arithmetic, flow, policies, memories and runs
 abbrev pub machineTable : List Row
 machineTable =
-    wordRows ++ writeRows ++ answerRows
+    wordRows ++ privilegedRows ++ writeRows ++ answerRows
     ++ additionRows ++ subtractionRows ++ logicRows ++ shiftRows ++ conditionRows ++ flowRows
     ++ addRows ++ memoryRows ++ runRows
 

@@ -1,9 +1,9 @@
 -- Words read and instructions written: document 01's trial words, a word of each kind with its parts at both ends, and words
--- one bit, one opcode or one format off the subset. The words are those that GNU as gives.
-use Prim.Native.Nat.{ℕ}
+-- one bit, one opcode or one format off the subset, privileged ones told apart. The words are those that GNU as gives.
+use Prim.Native.Nat.{ℕ, _+_, _*_, _-_, _^_}
 use mathlib.Core.Bool.{Bool, true, false}
-use mathlib.Core.List.{List, [], _∷_}
-use Rattle.v8.specs.Numbers.{notRead}
+use mathlib.Core.List.{List, [], _∷_, _++_}
+use Rattle.v8.specs.Numbers.{notRead, privileged}
 use Rattle.v8.specs.declared.AluOp.the-variants.{Add, Sub, Orn, Xnor}
 use Rattle.v8.specs.declared.ShiftOp.the-variants.{Sll, Srl, Sra}
 use Rattle.v8.specs.declared.LoadOp.the-variants.{Ld, Ldub, Lduh, Ldsb, Ldsh}
@@ -14,6 +14,7 @@ use Rattle.v8.specs.declared.Access.the-variants.{Loads, Stores}
 use Rattle.v8.specs.declared.Operation.the-variants.{Sethi, Alu, Shift, Memory}
 use Rattle.v8.specs.declared.Instruction.{Instruction}
 use Rattle.v8.specs.declared.Instruction.the-variants.{Plain, Branch, Return}
+use Rattle.v8.specs.declared.Reading.{Reading}
 use Rattle.v8.specs.declared.Reading.the-variants.{Read, Unread}
 use Rattle.writer.specs.declared.Writing.the-variants.{Written, Unwritable}
 use Rattle.trials.specs.Case.{Row, _gives_, word, instruction, readAnswer, writeAnswer, reads, writes, yields}
@@ -83,7 +84,6 @@ wordRows =
     ∷ word 0xC43A0000 gives reads (Unread notRead)
     ∷ word 0xC26A0000 gives reads (Unread notRead)
     ∷ word 0xC27A0000 gives reads (Unread notRead)
-    ∷ word 0xC2820020 gives reads (Unread notRead)
     ∷ word 0x40000002 gives reads (Unread notRead)
     ∷ word 0x11800002 gives reads (Unread notRead)
     ∷ word 0x11C00002 gives reads (Unread notRead)
@@ -93,6 +93,33 @@ wordRows =
     ∷ word 0x01400000 gives reads (Unread notRead)
     -- no word of 32 bits
     ∷ word 0x181C3E008 gives reads (Unread notRead)
+    ∷ []
+
+-- two words of each of these opcodes of a format, every other bit clear and every other bit set, all read alike
+abbrev pub opcodeRows : ℕ → Reading → List ℕ → List Row
+opcodeRows format x [] = []
+opcodeRows format x (k ∷ ks) =
+    word (format * 2 ^ 30 + k * 2 ^ 19) gives reads x
+    ∷ word (format * 2 ^ 30 + 31 * 2 ^ 25 + k * 2 ^ 19 + (2 ^ 19 - 1)) gives reads x
+    ∷ opcodeRows format x ks
+
+-- request 1: "format 10 opcodes 29, 2A, 2B, 31, 32, 33, 39 and format 11 opcodes 10 to 17, 19, 1A, 1D, 1F, 26, 36", and the opcodes beside them
+abbrev pub privilegedRows : List Row
+privilegedRows =
+    opcodeRows 2 (Unread privileged) (0x29 ∷ 0x2A ∷ 0x2B ∷ 0x31 ∷ 0x32 ∷ 0x33 ∷ 0x39 ∷ [])
+    ++ opcodeRows 3 (Unread privileged) (0x10 ∷ 0x11 ∷ 0x12 ∷ 0x13 ∷ 0x14 ∷ 0x15 ∷ 0x16 ∷ 0x17 ∷ 0x19 ∷ 0x1A ∷ 0x1D ∷ 0x1F ∷ 0x26 ∷ 0x36 ∷ [])
+    ++ opcodeRows 2 (Unread notRead) (0x28 ∷ 0x2C ∷ 0x30 ∷ 0x34 ∷ 0x38 ∷ 0x3A ∷ [])
+    ++ opcodeRows 3 (Unread notRead) (0x0F ∷ 0x18 ∷ 0x1B ∷ 0x1C ∷ 0x1E ∷ 0x20 ∷ 0x25 ∷ 0x27 ∷ 0x35 ∷ 0x37 ∷ [])
+    -- the lists in the other format: they are instructions, or not read
+    ++ opcodeRows 3 (Unread notRead) (0x29 ∷ 0x2A ∷ 0x2B ∷ 0x31 ∷ 0x32 ∷ 0x33 ∷ 0x39 ∷ [])
+    ++ opcodeRows 2 (Unread notRead) (0x19 ∷ 0x1A ∷ 0x1D ∷ 0x1F ∷ 0x36 ∷ [])
+    -- rd %psr,%g1; wr %g1,5,%psr; rett %l2+4; lda [%o0+%g1]10,%g2; sta %g2,[%o0+%g1]10; std %fq,[%o0]
+    ++ word 0x83480000 gives reads (Unread privileged)
+    ∷ word 0x81886005 gives reads (Unread privileged)
+    ∷ word 0x81CCA004 gives reads (Unread privileged)
+    ∷ word 0xC4820141 gives reads (Unread privileged)
+    ∷ word 0xC4A20141 gives reads (Unread privileged)
+    ∷ word 0xC1320000 gives reads (Unread privileged)
     ∷ []
 
 -- instructions written
@@ -124,11 +151,12 @@ writeRows =
     ∷ instruction (Plain (Memory (Stores St) 0 255 (Index 0))) gives writes Unwritable
     ∷ []
 
--- "Read a word: 2. Write an instruction: 17": the numbers of the answers, 0 where there is no refusal
+-- "Read a word: 2. Write an instruction: 17", and 24 of a privileged word: the numbers of the answers, 0 where there is no refusal
 abbrev pub answerRows : List Row
 answerRows =
     readAnswer 0x81C3E008 gives yields 0
     ∷ readAnswer 0x00000000 gives yields 2
+    ∷ readAnswer 0x83480000 gives yields 24
     ∷ writeAnswer Return gives yields 0
     ∷ writeAnswer (Plain (Sethi 32 0)) gives yields 17
     ∷ []
