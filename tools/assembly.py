@@ -25,6 +25,31 @@ SYMBOLS, RELOCATIONS, EMPTY = 2, 4, 8   # types of sections; an empty one has no
 LOADED = 2                              # a flag of sections
 LABEL_TYPES = (0, 2)                    # types of symbols: none, function
 COMMON = 0xFFF2                         # the section of a symbol that .comm makes
+# V8's privileged instructions: their names, by format and opcode.
+PRIVILEGED = {
+    (2, 0x29): "rd %psr", (2, 0x2A): "rd %wim", (2, 0x2B): "rd %tbr",
+    (2, 0x31): "wr %psr", (2, 0x32): "wr %wim", (2, 0x33): "wr %tbr", (2, 0x39): "rett",
+    (3, 0x10): "lda", (3, 0x11): "lduba", (3, 0x12): "lduha", (3, 0x13): "ldda",
+    (3, 0x14): "sta", (3, 0x15): "stba", (3, 0x16): "stha", (3, 0x17): "stda",
+    (3, 0x19): "ldsba", (3, 0x1A): "ldsha", (3, 0x1D): "ldstuba", (3, 0x1F): "swapa",
+    (3, 0x26): "std %fq", (3, 0x36): "std %cq",
+}
+# The opcodes beside theirs that are not privileged.
+BESIDE_PRIVILEGED = sorted({(form, opcode + k) for form, opcode in PRIVILEGED for k in (-1, 1)} - set(PRIVILEGED))
+
+
+# Words
+
+def opcode_of(word):
+    """The format of a word and its opcode; formats 00 and 01 have none there."""
+    return word >> 30, word >> 19 & 0x3F
+
+
+def opcode_words(opcode):
+    """The words of an opcode with every other bit 0, and with every other bit 1."""
+    form, code = opcode
+    least = form << 30 | code << 19
+    return least, least | 31 << 25 | 0x7FFFF
 
 
 # The tools

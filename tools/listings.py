@@ -17,7 +17,12 @@ assembler's listing. The run fails, and writes nothing, where
     register and zero as `mov`, which comes back as `or` of zero and the register; and it shows
     each JMPL to %o7+8 as `retl`, whatever its rd (MISSHOWN).
 Words outside the subset that no assembler text gives are given by `.word`.
+
+A line is `WORD TEXT` for a word of the subset. For one that is refused it is `WORD !NUMBER TEXT`, with the
+number that the reader must give: 24 for V8's privileged instructions, 2 for all others. The run fails, too,
+where the opcodes that the assembler gives to the privileged names are not those of assembly.PRIVILEGED.
 """
+import collections
 import os
 import random
 import re
@@ -26,6 +31,7 @@ import sys
 import tempfile
 
 sys.dont_write_bytecode = True
+import assembly
 import script
 
 AS = ["sparc64-linux-gnu-as", "-32", "-Av8"]
@@ -42,6 +48,8 @@ CONDITIONS = "bn be ble bl bleu bcs bneg bvs ba bne bg bge bgu bcc bpos bvc".spl
 SIMM13 = [-4096, -4095, -1, 0, 1, 4094, 4095]
 # Texts whose word objdump shows as another instruction, with what it shows.
 MISSHOWN = {"jmpl %o7+8,%g1": "retl"}
+# The numbers of a word that is refused.
+NOT_READ, IS_PRIVILEGED = 2, 24
 # Branch distances in words.
 FAR = [2, -1, 2097151, -2097152]
 DISTANCES = [0, 1, -1, 2, -2, 3, 127, -128, 65535, -65536, 1048575, 1048576, -1048577, 2097150, 2097151, -2097151, -2097152]
@@ -133,13 +141,11 @@ def named_outside():
     for op in "ldd ldstub swap".split():
         yield from (f"{op} {where},%g2" for where in ("[%o0]", "[%o0+8]", "[%o0+%g1]"))
     yield from (f"std %g2,{where}" for where in ("[%o1]", "[%o0+8]", "[%o0+%g1]"))
-    yield from (f"{op} [%o0+%g1]10,%g2" for op in "lda lduba lduha ldsba ldsha ldda ldstuba swapa".split())
-    yield from (f"{op} %g2,[%o0+%g1]10" for op in "sta stba stha stda".split())
     for f in ("%f2", "%fsr", "%c2", "%csr"):
         yield f"ld [%o0+4],{f}"
         yield f"st {f},[%o0+4]"
     yield from ("ldd [%o0],%f2", "ldd [%o0],%c2")
-    yield from (f"std {f},[%o0]" for f in ("%f2", "%fq", "%c2", "%cq"))
+    yield from (f"std {f},[%o0]" for f in ("%f2", "%c2"))
     yield from ("call .+8", "call .-8", "call .+2147483644", "call %g1")
     for k in range(0, 16, 3):
         yield "fbn fbne fblg fbul fbl fbug fbg fbu fba fbe fbue fbge fbuge fble fbule fbo".split()[k] + " .+8"
@@ -149,13 +155,25 @@ def named_outside():
         yield from (f"{op}{cc} {operands}" for cc, operands in (("", "%g1,%g2,%g3"), ("cc", "%g1,-5,%g3")))
     for op in "mulscc taddcc taddcctv tsubcc tsubcctv save restore".split():
         yield from (f"{op} {operands}" for operands in ("%g1,%g2,%g3", "%g1,-96,%g3"))
-    yield from (f"rd {r},%g1" for r in ("%y", "%asr17", "%psr", "%wim", "%tbr"))
-    yield from (f"wr %g1,{x},{r}" for r in ("%y", "%asr17", "%psr", "%wim", "%tbr") for x in ("%g2", "5"))
+    yield from (f"rd {r},%g1" for r in ("%y", "%asr17"))
+    yield from (f"wr %g1,{x},{r}" for r in ("%y", "%asr17") for x in ("%g2", "5"))
     yield "stbar"
     yield from ("ta 3", "tn 3", "te %g1+5", "tne %g1+%g2", "tvc %g1+%g2")
-    yield from ("jmp %o7+12", "jmp %o7+4", "ret", "jmp %g1", "jmp %g1+%g2", "jmpl %g1+8,%o7", "jmpl %o7+8,%g1", "rett %l2+4")
+    yield from ("jmp %o7+12", "jmp %o7+4", "ret", "jmp %g1", "jmp %g1+%g2", "jmpl %g1+8,%o7", "jmpl %o7+8,%g1")
     yield from ("flush %g1+4", "flush %g1+%g2")
     yield from ("fadds %f0,%f1,%f2", "fmuld %f0,%f2,%f4", "fmovs %f0,%f1", "fitos %f1,%f2", "fsqrtd %f2,%f4", "fcmps %f0,%f1", "fcmped %f2,%f4")
+
+
+def named_privileged():
+    """V8's privileged instructions, by their names."""
+    yield from (f"rd {r},{to}" for r in ("%psr", "%wim", "%tbr") for to in ("%g1", "%i7"))
+    yield from (f"wr %g1,{x},{r}" for r in ("%psr", "%wim", "%tbr") for x in ("%g2", "5", "-1"))
+    yield from (f"rett {where}" for where in ("%l2+4", "%i7+8", "%l1+%l2"))
+    for op in "lda lduba lduha ldsba ldsha ldda ldstuba swapa".split():
+        yield from (f"{op} {where},%g2" for where in ("[%o0+%g1]10", "[%i0]255"))
+    for op in "sta stba stha stda".split():
+        yield from (f"{op} %g2,{where}" for where in ("[%o0+%g1]10", "[%i0]255"))
+    yield from (f"std {q},{where}" for q in ("%fq", "%cq") for where in ("[%o0]", "[%o0+8]"))
 
 
 def format3(op, rd, op3, rs1, low):
@@ -181,6 +199,11 @@ def raw_outside():
         yield from (1 << 25 | op2 << 22 | low for low in (0, 0x3FFFFF))
     yield from (0x40000000, 0x5FFFFFFF, 0x60000000, 0x7FFFFFFF)
     yield from (0x81C3E008 ^ 1 << bit for bit in range(32))
+
+
+def number_of(word):
+    """The number of a word that is refused."""
+    return IS_PRIVILEGED if assembly.opcode_of(word) in assembly.PRIVILEGED else NOT_READ
 
 
 # The assembler and the disassembler.
@@ -255,25 +278,27 @@ def main(arguments):
         fail("call it as `listings.py`, with no arguments")
     rng = random.Random(8)
     inside = [*operations(), *registers(), *sethi_and_branches(), *at_random(lambda n: int(rng.random() * n), 320)]
-    named = list(named_outside())
-    inside, named = list(dict.fromkeys(inside)), list(dict.fromkeys(named))
-    raw = [f".word 0x{word:08x}" for word in raw_outside()]
-    inside_made, named_made, raw_made = assembled(inside), assembled(named), assembled(raw)
-    cross_check(inside, inside_made)
-    cross_check(named, named_made)
+    inside, named, privileged = (list(dict.fromkeys(texts)) for texts in (inside, named_outside(), named_privileged()))
+    opcodes = [*assembly.PRIVILEGED, *assembly.BESIDE_PRIVILEGED]
+    raw = [f".word 0x{word:08x}" for word in (*raw_outside(), *(word for opcode in opcodes for word in assembly.opcode_words(opcode)))]
+    inside_made, named_made, privileged_made, raw_made = map(assembled, (inside, named, privileged, raw))
+    for texts, made in ((inside, inside_made), (named, named_made), (privileged, privileged_made)):
+        cross_check(texts, made)
+    if {assembly.opcode_of(word) for word, _, _ in privileged_made} != set(assembly.PRIVILEGED):
+        fail("the privileged names have other opcodes")
 
     lines = {word: text for text, (word, _, _) in zip(inside, inside_made)}
     if len(lines) != len(inside):
         fail("two texts of the subset are one word")
-    for text, (word, _, _) in zip(named + raw, named_made + raw_made):
-        if word in lines and not lines[word].startswith("! "):
+    for text, (word, _, _) in zip(named + privileged + raw, named_made + privileged_made + raw_made):
+        if word in lines and not lines[word].startswith("!"):
             fail(f"{text} is {lines[word]}, which is of the subset")
-        lines.setdefault(word, "! " + text)
-    refused = len(lines) - len(inside)
+        lines.setdefault(word, f"!{number_of(word)} {text}")
+    numbers = collections.Counter(number_of(word) for word, text in lines.items() if text.startswith("!"))
     with open(os.path.join(CRATE, "stdin"), "w", encoding="utf-8") as out:
         out.writelines(f"{word:08x} {text}\n" for word, text in lines.items())
     with open(os.path.join(CRATE, "stdout"), "w", encoding="utf-8") as out:
-        out.write(f"{len(lines)} words: {len(inside)} read and written back, {refused} refused, 0 wrong\n")
+        out.write(f"{len(lines)} words: {len(inside)} read and written back, {numbers[NOT_READ]} not read, {numbers[IS_PRIVILEGED]} privileged, 0 wrong\n")
 
 
 if __name__ == "__main__":

@@ -7,6 +7,7 @@ pub record Below (t : Tally) (n : ℕ) : Type 0 where
   pub lines : t .lines < n
   pub kept : t .kept < n
   pub refused : t .refused < n
+  pub privileged : t .privileged < n
   pub wrong : t .wrong < n
 
 -- each count of `u` is at most one more than that of `t`
@@ -14,4 +15,5 @@ pub record Grown (t u : Tally) : Type 0 where
   pub lines : u .lines ≤ t .lines + 1
   pub kept : u .kept ≤ t .kept + 1
   pub refused : u .refused ≤ t .refused + 1
+  pub privileged : u .privileged ≤ t .privileged + 1
   pub wrong : u .wrong ≤ t .wrong + 1

@@ -4,6 +4,9 @@ use hex::Digits;
 use hex::word_of;
 use v8::Instruction;
 use v8::Reading;
+use v8::numbers::ACCEPTED;
+use v8::numbers::NOT_READ;
+use v8::numbers::PRIVILEGED;
 use v8::read_word;
 use writer::Writing;
 use writer::write_instruction;
@@ -13,8 +16,10 @@ ghost use Prim.Native.Nat.{_≤_};
 pub enum Verdict {
     // A word of the subset, read as the text says and written back.
     Kept,
-    // A word outside the subset, not read.
+    // A word outside the subset, refused with 2 as the line says.
     Refused,
+    // A privileged word, refused with 24 as the line says.
+    Privileged,
     // No word and text.
     Malformed,
     // A word of the subset that is not read.
@@ -24,6 +29,8 @@ pub enum Verdict {
     NotWrittenBack,
     // A word outside the subset that is read.
     ReadOutside,
+    // Such a word, refused with another number than the line says.
+    OtherNumber,
 }
 
 // Whether a text is the first `n` bytes of a buffer.
@@ -77,19 +84,35 @@ fn judge_inside(w: u32, text: &[u8]) -> Verdict {
     }
 }
 
-fn judge_outside(w: u32) -> Verdict {
+// A word outside the subset, with the number that it is refused with.
+fn judge_outside(w: u32, number: u8) -> Verdict {
     match read_word(w) {
         Reading::Read(_) => Verdict::ReadOutside,
-        Reading::Unread(_) => Verdict::Refused,
+        Reading::Unread(given) => {
+            if given != number {
+                return Verdict::OtherNumber;
+            }
+            if given == PRIVILEGED {
+                return Verdict::Privileged;
+            }
+            Verdict::Refused
+        }
     }
 }
 
-// Whether a text begins with the mark of a word outside the subset.
-fn is_marked(text: &[u8]) -> bool {
-    if text.len() < 2 {
-        return false;
+// The number that a text begins with where its word is outside the subset: `!2 ` or `!24 `. 0 if none.
+fn number_in(text: &[u8]) -> u8 {
+    if text.len() < 4 {
+        return ACCEPTED;
     }
-    (text[0] == b'!') & (text[1] == b' ')
+    let marked = (text[0] == b'!') & (text[1] == b'2');
+    if marked & (text[2] == b' ') {
+        return NOT_READ;
+    }
+    if marked & (text[2] == b'4') & (text[3] == b' ') {
+        return PRIVILEGED;
+    }
+    ACCEPTED
 }
 
 pub fn judge(line: &[u8]) -> Verdict {
@@ -102,10 +125,11 @@ pub fn judge(line: &[u8]) -> Verdict {
     let text = &line[9..];
     match word_of(line) {
         Digits::Word(w) => {
-            if is_marked(text) {
-                judge_outside(w)
-            } else {
+            let number = number_in(text);
+            if number == ACCEPTED {
                 judge_inside(w, text)
+            } else {
+                judge_outside(w, number)
             }
         }
         Digits::Wrong => Verdict::Malformed,

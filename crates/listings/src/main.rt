@@ -1,6 +1,7 @@
 // Holds the reader and the writer of words against an assembler's listing, read from standard
 // input. A line is a word and the assembler's text of it, as `82006ffc add %g1,4092,%g1`, or a word
-// outside the subset, as `c43a4000 ! std %g2,[%o1]`. Prints each line that is wrong, then counts.
+// outside the subset with the number that it is refused with, as `c43a4000 !2 std %g2,[%o1]`, or 24 if it
+// is privileged. Prints each line that is wrong, then counts.
 mod line;
 mod report;
 mod text;

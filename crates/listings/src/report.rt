@@ -13,6 +13,7 @@ struct Tally {
     lines: u64,
     kept: u64,
     refused: u64,
+    privileged: u64,
     wrong: u64,
 }
 
@@ -21,11 +22,13 @@ fn print_verdict(line: u64, verdict: Verdict) {
     match verdict {
         Verdict::Kept => {}
         Verdict::Refused => {}
+        Verdict::Privileged => {}
         Verdict::Malformed => print_wrong(b"line", line, b"not a word and its text"),
         Verdict::NotRead => print_wrong(b"line", line, b"not read"),
         Verdict::ReadOtherwise => print_wrong(b"line", line, b"read as something else"),
         Verdict::NotWrittenBack => print_wrong(b"line", line, b"not written back"),
         Verdict::ReadOutside => print_wrong(b"line", line, b"read, but outside the subset"),
+        Verdict::OtherNumber => print_wrong(b"line", line, b"refused with another number"),
     }
 }
 
@@ -35,7 +38,9 @@ fn print_tally(t: Tally) {
     print_number(t.kept);
     print(b" read and written back, ");
     print_number(t.refused);
-    print(b" refused, ");
+    print(b" not read, ");
+    print_number(t.privileged);
+    print(b" privileged, ");
     print_number(t.wrong);
     print(b" wrong\n");
 }
@@ -70,6 +75,9 @@ impl Tally {
             Verdict::Refused => {
                 self.refused += 1;
             }
+            Verdict::Privileged => {
+                self.privileged += 1;
+            }
             _ => {
                 self.wrong += 1;
             }
@@ -84,6 +92,7 @@ pub fn check_lines(s: &[u8]) {
         lines: 0,
         kept: 0,
         refused: 0,
+        privileged: 0,
         wrong: 0,
     };
     let mut at = 0;
