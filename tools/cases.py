@@ -7,6 +7,7 @@ and the rest is a return with a nop in its slot.
 import struct
 from collections import namedtuple
 
+import assembly
 import layout
 import parts
 from layout import ADDRESS, BOTH, OR_NULL, READ, UNSET, WRITE
@@ -612,6 +613,11 @@ ACCESSES = [
 def words():
     for one in UNREAD:
         yield Case(f"not-read-{one:08x}", routine([one], [{}]), "2 0 0")
+    for one in WITH_OPCODES:
+        number_given = 24 if assembly.opcode_of(one) in assembly.PRIVILEGED else 2
+        yield Case(f"opcode-{one:08x}", routine([one], [{}]), f"{number_given} 0 0")
+    for name, code, answer in PRIVILEGED:
+        yield Case("privileged-" + name, routine(code, [{}] * len(code)), answer)
     known = {1: number(0, 9), 2: number(1, 1), 8: start()}
     for one in READ_TOO:
         yield Case(f"read-{one:08x}", then_return([one], [known, {}], regions=BYTES), "0 0 0")
@@ -627,7 +633,19 @@ UNREAD = [
     0x81C3E00C, 0x83C3E008, 0x81C7E008, 0x81C3C008,                                    # JMPL beside the leaf return
     0x80400000, 0x80780000, 0x80C00000, 0x81200000, 0x81400000,                        # format 10: opcodes 08, 0F, 18, 24, 28
     0x80000020, 0x80001000, 0x80A00020, 0x81280020, 0x81281000, 0x81282020, 0x81283000,  # bits 12:5
-    0xC0180000, 0xC0380000, 0xC0400000, 0xC0580000, 0xC0800000, 0xC0000020, 0xC0001000,  # format 11
+    0xC0180000, 0xC0380000, 0xC0400000, 0xC0580000, 0xC0000020, 0xC0001000,            # format 11
+]
+# Each privileged opcode and each beside one, every other bit 0 and every other bit 1
+WITH_OPCODES = [one for opcode in [*assembly.PRIVILEGED, *assembly.BESIDE_PRIVILEGED] for one in assembly.opcode_words(opcode)]
+READS_STATE, LOADS_SPACE = 0x83480000, 0xC4820141  # rd %psr,%g1; lda [%o0+%g1]10,%g2
+PRIVILEGED = [
+    ("alone", [READS_STATE], "24 0 0"),
+    ("with-bits-12-to-5", [LOADS_SPACE], "24 0 0"),
+    ("then-not-read", [READS_STATE, 0], "24 0 0"),
+    ("after-not-read", [0, READS_STATE], "2 0 0"),
+    ("second", [NOP, READS_STATE, 0], "24 1 0"),
+    ("in-skipped-slot", [branch(ALWAYS, 2, True), LOADS_SPACE, RETURN, NOP], "24 1 0"),
+    ("after-flow", [branch(ALWAYS, 100), NOP, LOADS_SPACE], "24 2 0"),
 ]
 READ_TOO = [0x80000001, 0x80B80001, 0x80383FFF, 0x81380001, 0x8138201F, 0xC00A2001, 0xC00A201D]
 

@@ -60,7 +60,8 @@ enum {
     BAD_REGION_SIZE = 19,
     BAD_POLICY = 20,
     BAD_INPUT = 21,
-    BAD_BUNDLE = 23
+    BAD_BUNDLE = 23,
+    PRIVILEGED = 24
 };
 
 struct answer {
@@ -372,6 +373,7 @@ enum { OPPOSITE = 8 };      /* this bit turns a condition into its opposite */
 
 struct insn {
     uint8_t form;
+    uint8_t refusal;        /* UNREAD: the number that is answered */
     uint8_t op;             /* ALU: the operation */
     bool sets_codes;        /* ALU */
     bool immediate;         /* the second operand is imm, not rs2 */
@@ -454,6 +456,32 @@ static void decode_memory(uint32_t word, uint32_t opcode, struct insn *in)
     in->is_signed = table[opcode].is_signed;
 }
 
+/* The number of a word that is not read: privileged ones have their own. */
+static uint8_t unread_number(uint32_t format, uint32_t opcode)
+{
+    if (format == 2) {
+        switch (opcode) {
+        case 0x29: case 0x2A: case 0x2B:
+        case 0x31: case 0x32: case 0x33:
+        case 0x39:
+            return PRIVILEGED;
+        }
+    }
+    if (format == 3) {
+        switch (opcode) {
+        case 0x10: case 0x11: case 0x12: case 0x13:
+        case 0x14: case 0x15: case 0x16: case 0x17:
+        case 0x19: case 0x1A:
+        case 0x1D:
+        case 0x1F:
+        case 0x26:
+        case 0x36:
+            return PRIVILEGED;
+        }
+    }
+    return BAD_WORD;
+}
+
 /* Read a word; the form is UNREAD if it is not of the subset. */
 static struct insn decode(uint32_t word)
 {
@@ -478,6 +506,8 @@ static struct insn decode(uint32_t word)
         decode_memory(word, opcode, &in);
         break;
     }
+    if (in.form == UNREAD)
+        in.refusal = unread_number(word >> 30, opcode);
     return in;
 }
 
@@ -951,7 +981,7 @@ static struct answer check_code(const struct code *c)
 {
     for (int w = 0; w < c->words; w++)
         if (c->insn[w].form == UNREAD)
-            return refuse(BAD_WORD, w, 0);
+            return refuse(c->insn[w].refusal, w, 0);
     for (int w = 0; w < c->words; w++)
         if (!flow_well_formed(c, w))
             return refuse(BAD_FLOW, w, 0);
