@@ -414,11 +414,14 @@ def form_lines(names, said):
 def detail_lines(data, names, said):
     """What in the bundle the answer is about."""
     number, word, _ = said.answer
-    if number == 1 or number > 17:
+    if number == 1 or 18 <= number <= 23:
         return form_lines(names, said)
     lines = [word_text(data, said, word)]
     if number == 2:
         return lines + ["wrong: this is no instruction of the subset"]
+    if number == 24:
+        name = assembly.PRIVILEGED[assembly.opcode_of(first(said, "word")[1])]
+        return lines + [f"wrong: this is {name}, which only the supervisor may run"]
     if number == 3:
         return lines + ["wrong: " + flow_reason(said)]
     if number == 15:

@@ -519,10 +519,13 @@ def bundles_to_explain():
         broken = whole[:-8] + b"\x09" + whole[-7:]
         less = struct.pack(">I", words_of("name-one-past")[5])
         carry = whole.replace(less, struct.pack(">I", 0x1A800000 | int.from_bytes(less, "big") & 0x3FFFFF), 1)
+        privileged, unread = (whole.replace(less, struct.pack(">I", word), 1) for word in (0xC4820141, 0x40000000))
         for what, data, answer, expected in [
                 ("an empty bundle", b"", "23 0 0", "wrong: it has 0 bytes, and they do not begin with the mark WTR"),
                 ("a bundle cut off", whole[:-1], "23 0 0", f"wrong: it has {len(whole) - 1} bytes, and its counts give {len(whole)}"),
                 ("a region of 41 bytes", whole[:9] + b"\x29" + whole[10:], "19 0 0", "wrong: region 0, at byte 8 of the bundle: size 41"),
+                ("a call in the place of bl", unread, "2 5 0", "wrong: this is no instruction of the subset"),
+                ("lda in the place of bl", privileged, "24 5 0", "wrong: this is lda, which only the supervisor may run"),
                 ("bcc in the place of bl", carry, "7 6 10", "not narrowed: bcc never narrows: only be, bne, bl, bge, ble and bg do"),
                 ("a note of kind 9", broken, "1 8 32", f"wrong: the note at byte {len(whole) - 8} of the bundle")]:
             write(data, folder, "bundle.bin")
