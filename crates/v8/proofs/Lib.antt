@@ -3,6 +3,7 @@ pub mod Search
 pub mod Table
 pub mod Power
 pub mod Integers
+pub mod Formats
 pub mod Refused
 pub mod Numbered
 pub mod Sound

@@ -1,13 +1,14 @@
 -- A refused word is numbered by whether it is privileged: no opcode of an instruction that is read is privileged, and a word that is refused
 -- for its opcode carries the number of that opcode.
-use Prim.Native.Nat.{ℕ, _-_, _<_}
+use Prim.Native.Nat.{ℕ, _-_}
 use mathlib.Core.Path.{_≡_, refl, sym, ap, subst, _∙_}
 use mathlib.Core.Bool.{Bool, true, false, cond, _||_}
 use native.Mathlib.Omega.{arith}
-use lib.Dec.{leb, ltb, eqb}
-use borrow.Author.Tests.{leb-true, ltb-true, eqb-true}
+use lib.Dec.{eqb}
+use borrow.Author.Tests.{eqb-true}
 use Rattle.v8.proofs.Choice.{cond-both}
-use Rattle.v8.proofs.Refused.{below10, below11}
+use Rattle.v8.proofs.Formats.{shiftAt, accessAt, format10-cases, format11-cases}
+use Rattle.v8.proofs.Refused.{below10}
 use Rattle.v8.specs.Numbers.{notRead, privileged}
 use Rattle.v8.specs.Field.{opOf, op2Of, op3Of}
 use Rattle.v8.specs.declared.AluOp.{AluOp}
@@ -20,7 +21,7 @@ use Rattle.v8.specs.declared.Access.the-variants.{Loads, Stores}
 use Rattle.v8.specs.declared.Reading.{Reading}
 use Rattle.v8.specs.declared.read.OperandReading.{OperandReading}
 use Rattle.v8.specs.declared.read.OperandReading.the-variants.{Second, Reserved}
-use Rattle.v8.specs.Read.{readingOf, format00, format10, format11, operandOf, countOf, aluWith, shiftWith, memoryWith, aluOpOf, leafReturn, privileged10, privileged11}
+use Rattle.v8.specs.Read.{readingOf, format00, format10, format11, operandOf, countOf, aluWith, shiftWith, memoryWith, aluOpOf, privileged10, privileged11}
 use Rattle.v8.specs.Laws.{isPrivileged, NumberedBy, ReadsNumbered}
 
 -- a word that is refused and not privileged
@@ -40,6 +41,22 @@ memory-with : (p : Bool) (a : Access) (w : ℕ) (x : OperandReading) → p ≡ f
 memory-with p a w (Second x) e = e
 memory-with p a w Reserved e = plain p e
 
+-- no opcode of theirs is privileged
+shift-plain : (op : ShiftOp) → privileged10 (shiftAt op) ≡ false
+shift-plain Sll = refl
+shift-plain Srl = refl
+shift-plain Sra = refl
+
+access-plain : (a : Access) → privileged11 (accessAt a) ≡ false
+access-plain (Loads Ld) = refl
+access-plain (Loads Ldub) = refl
+access-plain (Loads Lduh) = refl
+access-plain (Loads Ldsb) = refl
+access-plain (Loads Ldsh) = refl
+access-plain (Stores St) = refl
+access-plain (Stores Stb) = refl
+access-plain (Stores Sth) = refl
+
 format00-numbered : (w : ℕ) → NumberedBy false (format00 w)
 unfolding format00
 format00-numbered w =
@@ -47,32 +64,18 @@ format00-numbered w =
     λ _. cond-both (NumberedBy false) (eqb (op2Of w) 2) (λ _. refl) (λ _. refl)
 
 format10-numbered : (w : ℕ) → NumberedBy (privileged10 (op3Of w)) (format10 w)
-unfolding format10
 format10-numbered w =
-    let P : Reading → Type 0 = NumberedBy (privileged10 (op3Of w)) in
-    let low : op3Of w < 0x29 → privileged10 (op3Of w) ≡ false = below10 (op3Of w) in
-    cond-both P (leb (op3Of w) 0x07) (λ t. alu-with _ (aluOpOf (op3Of w)) false w (operandOf w) (low (omega (arith, leb-true (op3Of w) 0x07 t))))
-    λ _. cond-both P (ltb (op3Of w) 0x10) (λ t. plain _ (low (omega (arith, ltb-true (op3Of w) 0x10 t))))
-    λ _. cond-both P (leb (op3Of w) 0x17) (λ t. alu-with _ (aluOpOf (op3Of w - 0x10)) true w (operandOf w) (low (omega (arith, leb-true (op3Of w) 0x17 t))))
-    λ _. cond-both P (eqb (op3Of w) 0x25) (λ t. shift-with _ Sll w (countOf w) (low (omega (arith, eqb-true (op3Of w) 0x25 t))))
-    λ _. cond-both P (eqb (op3Of w) 0x26) (λ t. shift-with _ Srl w (countOf w) (low (omega (arith, eqb-true (op3Of w) 0x26 t))))
-    λ _. cond-both P (eqb (op3Of w) 0x27) (λ t. shift-with _ Sra w (countOf w) (low (omega (arith, eqb-true (op3Of w) 0x27 t))))
-    λ _. cond-both P (eqb w leafReturn) (λ t. ap (λ (v : ℕ). privileged10 (op3Of v)) (eqb-true w leafReturn t)) (λ _. refl)
+    format10-cases (NumberedBy (privileged10 (op3Of w))) w
+    (λ k l e. alu-with _ (aluOpOf k) false w (operandOf w) (below10 (op3Of w) (omega arith)))
+    (λ k l e. alu-with _ (aluOpOf k) true w (operandOf w) (below10 (op3Of w) (omega arith)))
+    (λ op e. shift-with _ op w (countOf w) (ap privileged10 e ∙ shift-plain op))
+    (λ e. ap (λ (v : ℕ). privileged10 (op3Of v)) e)
+    refl
 
 format11-numbered : (w : ℕ) → NumberedBy (privileged11 (op3Of w)) (format11 w)
-unfolding format11
 format11-numbered w =
-    let P : Reading → Type 0 = NumberedBy (privileged11 (op3Of w)) in
-    let low : (k : ℕ) → k < 0x10 → eqb (op3Of w) k ≡ true → (a : Access) → P (memoryWith a w (operandOf w)) =
-    λ k l t a. memory-with _ a w (operandOf w) (ap privileged11 (eqb-true (op3Of w) k t) ∙ below11 k l) in
-    cond-both P (eqb (op3Of w) 0x00) (λ t. low 0x00 (omega arith) t (Loads Ld))
-    λ _. cond-both P (eqb (op3Of w) 0x01) (λ t. low 0x01 (omega arith) t (Loads Ldub))
-    λ _. cond-both P (eqb (op3Of w) 0x02) (λ t. low 0x02 (omega arith) t (Loads Lduh))
-    λ _. cond-both P (eqb (op3Of w) 0x04) (λ t. low 0x04 (omega arith) t (Stores St))
-    λ _. cond-both P (eqb (op3Of w) 0x05) (λ t. low 0x05 (omega arith) t (Stores Stb))
-    λ _. cond-both P (eqb (op3Of w) 0x06) (λ t. low 0x06 (omega arith) t (Stores Sth))
-    λ _. cond-both P (eqb (op3Of w) 0x09) (λ t. low 0x09 (omega arith) t (Loads Ldsb))
-    λ _. cond-both P (eqb (op3Of w) 0x0A) (λ t. low 0x0A (omega arith) t (Loads Ldsh)) (λ _. refl)
+    format11-cases (NumberedBy (privileged11 (op3Of w))) w
+    (λ a e. memory-with _ a w (operandOf w) (ap privileged11 e ∙ access-plain a)) refl
 
 -- what holds by a format's own test holds by that of all words
 same : (p q : Bool) (x : Reading) → p ≡ q → NumberedBy q x → NumberedBy p x

@@ -5,9 +5,9 @@ use mathlib.Core.Path.{_≡_, refl, sym, ap, _∙_}
 use mathlib.Core.Logic.{_⊎_, inl, inr}
 use mathlib.Core.Bool.{Bool, true, false}
 use native.Mathlib.Omega.{arith}
-use borrow.Author.Tests.{le-ltb, le-leb, lt-leb, ne-eqb}
+use borrow.Author.Tests.{le-leb, lt-leb, ne-eqb}
 use Rattle.v8.specs.Field.{op3Of}
-use Rattle.v8.specs.Read.{format10, format11, leafReturn, privileged10, privileged11, refused}
+use Rattle.v8.specs.Read.{format10, format11, between, leafReturn, privileged10, privileged11, refused}
 
 -- ---- format 10: below, between and above the privileged opcodes, and in their ranges
 
@@ -26,16 +26,22 @@ first10 k h l = simp (le-leb 0x29 k h, le-leb k 0x2B (omega arith))
 pub second10 : (k : ℕ) → 0x31 ≤ k → k < 0x34 → privileged10 k ≡ true
 second10 k h l = simp (le-leb 0x29 k (omega arith), lt-leb k 0x2B (omega arith), le-leb 0x31 k h, le-leb k 0x33 (omega arith))
 
--- past the code-setting opcodes there are the shifts, and the opcode of the leaf return
-pub refused10 : (w k : ℕ) (t : Bool) → k ≡ op3Of w → 24 ≤ k → (k ≡ 0x25 → ⊥) → (k ≡ 0x26 → ⊥) → (k ≡ 0x27 → ⊥) → (k ≡ 0x38 → ⊥) → privileged10 k ≡ t
-    → refused t ≡ format10 w
+-- before and past the code-setting opcodes
+pub before-codes : (k : ℕ) → k < 0x10 → between 0x10 0x17 k ≡ false
+before-codes k h = simp (lt-leb 0x10 k h)
+
+pub past-codes : (k : ℕ) → 0x18 ≤ k → between 0x10 0x17 k ≡ false
+past-codes k h = simp (le-leb 0x10 k (omega arith), lt-leb k 0x17 h)
+
+-- what is neither arithmetic nor a shift, and not the opcode of the leaf return
+pub refused10 : (w k : ℕ) (t : Bool) → k ≡ op3Of w → 8 ≤ k → between 0x10 0x17 k ≡ false → (k ≡ 0x25 → ⊥) → (k ≡ 0x26 → ⊥) → (k ≡ 0x27 → ⊥) → (k ≡ 0x38 → ⊥)
+    → privileged10 k ≡ t → refused t ≡ format10 w
 unfolding format10
-refused10 w k t e l a b d r p =
+refused10 w k t e l n a b d r p =
     rw (← p, ← e)
     (simp (
-      lt-leb k 7 (omega arith),
-      le-ltb k 16 (omega arith),
-      lt-leb k 23 (omega arith),
+      lt-leb k 7 l,
+      n,
       ne-eqb k 0x25 a,
       ne-eqb k 0x26 b,
       ne-eqb k 0x27 d,

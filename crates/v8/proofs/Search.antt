@@ -31,7 +31,8 @@ needed-eq x a b h f = eqb-true a b (needed x (eqb a b) h f)
 pub and-both : (a b : Bool) → a ≡ true → b ≡ true → a && b ≡ true
 and-both a b e g = rw (e, g)
 
-and-false : (a b : Bool) → b ≡ false → a && b ≡ false
+-- the second fails
+pub and-false : (a b : Bool) → b ≡ false → a && b ≡ false
 and-false true b e = e
 and-false false b e = refl
 

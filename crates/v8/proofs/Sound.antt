@@ -4,21 +4,18 @@ use Prim.Native.Nat.{ℕ, _-_, _^_, _<_}
 use mathlib.Core.Path.{refl}
 use mathlib.Core.Bool.{Bool, true, false}
 use native.Mathlib.Omega.{arith}
-use lib.Dec.{leb, ltb, eqb}
+use lib.Dec.{ltb, eqb}
 use Rattle.v8.proofs.Choice.{cond-both}
+use Rattle.v8.proofs.Formats.{format10-cases, format11-cases}
 use Rattle.v8.specs.Signed.{signExtend}
 use Rattle.v8.specs.Field.{opOf, op2Of, op3Of, iOf, unusedOf, simm13Of}
 use Rattle.v8.specs.declared.AluOp.{AluOp}
 use Rattle.v8.specs.declared.ShiftOp.{ShiftOp}
-use Rattle.v8.specs.declared.ShiftOp.the-variants.{Sll, Srl, Sra}
 use Rattle.v8.specs.declared.Operand.the-variants.{Reg, Imm}
-use Rattle.v8.specs.declared.LoadOp.the-variants.{Ld, Ldub, Lduh, Ldsb, Ldsh}
-use Rattle.v8.specs.declared.StoreOp.the-variants.{St, Stb, Sth}
 use Rattle.v8.specs.declared.Access.{Access}
-use Rattle.v8.specs.declared.Access.the-variants.{Loads, Stores}
 use Rattle.v8.specs.declared.read.OperandReading.{OperandReading}
 use Rattle.v8.specs.declared.read.OperandReading.the-variants.{Second, Reserved}
-use Rattle.v8.specs.Read.{readingOf, format00, format10, format11, operandOf, countOf, aluWith, shiftWith, memoryWith, aluOpOf, leafReturn, privileged10, privileged11, refused}
+use Rattle.v8.specs.Read.{readingOf, format00, format10, format11, operandOf, countOf, aluWith, shiftWith, memoryWith, aluOpOf, privileged10, privileged11, refused}
 use Rattle.v8.specs.Laws.{OperandSmall, ReadingSound, ReadsSound}
 
 abbrev SecondSmall : OperandReading → Type 0
@@ -63,28 +60,16 @@ unfolding format00
 format00-small w = cond-both ReadingSound (eqb (op2Of w) 4) (λ _. tt) λ _. cond-both ReadingSound (eqb (op2Of w) 2) (λ _. tt) (λ _. refl)
 
 format10-small : (w : ℕ) → ReadingSound (format10 w)
-unfolding format10
 format10-small w =
-    cond-both ReadingSound (leb (op3Of w) 0x07) (λ _. alu-with (aluOpOf (op3Of w)) false w (operandOf w) (operand-small w))
-    λ _. cond-both ReadingSound (ltb (op3Of w) 0x10) (λ _. refl)
-    λ _. cond-both ReadingSound (leb (op3Of w) 0x17) (λ _. alu-with (aluOpOf (op3Of w - 0x10)) true w (operandOf w) (operand-small w))
-    λ _. cond-both ReadingSound (eqb (op3Of w) 0x25) (λ _. shift-with Sll w (countOf w) (count-small w))
-    λ _. cond-both ReadingSound (eqb (op3Of w) 0x26) (λ _. shift-with Srl w (countOf w) (count-small w))
-    λ _. cond-both ReadingSound (eqb (op3Of w) 0x27) (λ _. shift-with Sra w (countOf w) (count-small w))
-    λ _. cond-both ReadingSound (eqb w leafReturn) (λ _. tt) (λ _. refused-with (privileged10 (op3Of w)))
+    format10-cases ReadingSound w
+    (λ k _ _. alu-with (aluOpOf k) false w (operandOf w) (operand-small w))
+    (λ k _ _. alu-with (aluOpOf k) true w (operandOf w) (operand-small w))
+    (λ op _. shift-with op w (countOf w) (count-small w))
+    (λ _. tt)
+    (refused-with (privileged10 (op3Of w)))
 
 format11-small : (w : ℕ) → ReadingSound (format11 w)
-unfolding format11
-format11-small w =
-    let small : (a : Access) → ReadingSound (memoryWith a w (operandOf w)) = λ a. memory-with a w (operandOf w) (operand-small w) in
-    cond-both ReadingSound (eqb (op3Of w) 0x00) (λ _. small (Loads Ld))
-    λ _. cond-both ReadingSound (eqb (op3Of w) 0x01) (λ _. small (Loads Ldub))
-    λ _. cond-both ReadingSound (eqb (op3Of w) 0x02) (λ _. small (Loads Lduh))
-    λ _. cond-both ReadingSound (eqb (op3Of w) 0x04) (λ _. small (Stores St))
-    λ _. cond-both ReadingSound (eqb (op3Of w) 0x05) (λ _. small (Stores Stb))
-    λ _. cond-both ReadingSound (eqb (op3Of w) 0x06) (λ _. small (Stores Sth))
-    λ _. cond-both ReadingSound (eqb (op3Of w) 0x09) (λ _. small (Loads Ldsb))
-    λ _. cond-both ReadingSound (eqb (op3Of w) 0x0A) (λ _. small (Loads Ldsh)) (λ _. refused-with (privileged11 (op3Of w)))
+format11-small w = format11-cases ReadingSound w (λ a _. memory-with a w (operandOf w) (operand-small w)) (refused-with (privileged11 (op3Of w)))
 
 pub reads-sound : ReadsSound
 unfolding readingOf

@@ -3,7 +3,7 @@
 use Prim.Native.Nat.{ℕ, _-_}
 use mathlib.Core.Bool.{Bool, true, false, cond, _&&_, _||_}
 use mathlib.Core.List.{List, [], _∷_}
-use lib.Dec.{leb, ltb, eqb}
+use lib.Dec.{leb, eqb}
 use lib.ListN.{getD}
 use Rattle.v8.specs.Field.{opOf, rdOf, annulOf, condOf, op2Of, low22Of, op3Of, rs1Of, iOf, unusedOf, rs2Of, simm13Of}
 use Rattle.v8.specs.Signed.{signExtend}
@@ -92,13 +92,12 @@ refused p = Unread (cond p privileged notRead)
 unfoldable pub format10 : ℕ → Reading
 format10 w =
     cond (leb (op3Of w) 0x07) (aluWith (aluOpOf (op3Of w)) false w (operandOf w))
-    (cond (ltb (op3Of w) 0x10) (Unread notRead)
-    (cond (leb (op3Of w) 0x17) (aluWith (aluOpOf (op3Of w - 0x10)) true w (operandOf w))
+    (cond (between 0x10 0x17 (op3Of w)) (aluWith (aluOpOf (op3Of w - 0x10)) true w (operandOf w))
     (cond (eqb (op3Of w) 0x25) (shiftWith Sll w (countOf w))
     (cond (eqb (op3Of w) 0x26) (shiftWith Srl w (countOf w))
     (cond (eqb (op3Of w) 0x27) (shiftWith Sra w (countOf w))
     (cond (eqb w leafReturn) (Read Return)
-    (refused (privileged10 (op3Of w)))))))))
+    (refused (privileged10 (op3Of w))))))))
 
 -- an address's second part: a register, or a signed count of bytes
 abbrev pub displacementOf : Operand → Displacement

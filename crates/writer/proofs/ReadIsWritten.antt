@@ -6,11 +6,12 @@ use Prim.Native.Nat.{ℕ, _+_, _*_, _/_, _%_, _-_, _^_, _<_, _≤_}
 use mathlib.Core.Path.{_≡_, refl, sym, ap, _∙_}
 use mathlib.Core.Bool.{Bool, true, false, cond}
 use native.Mathlib.Omega.{arith}
-use lib.Dec.{leb, ltb, eqb, eqb→eq}
-use borrow.Author.Tests.{ltb-false, leb-true, eqb-true, eqb-false, lt-ltb, eq-eqb}
+use lib.Dec.{ltb, eqb, eqb→eq}
+use borrow.Author.Tests.{eqb-true, eqb-false, lt-ltb, eq-eqb}
 use native.Mathlib.Nat.{add-comm, mod-eq-of-lt}
 use lib.Pow.{low, high-ones}
 use Rattle.v8.proofs.Choice.{cond-went, cond-both}
+use Rattle.v8.proofs.Formats.{shiftAt, accessAt, format10-cases, format11-cases}
 use Rattle.v8.proofs.Table.{at}
 use Rattle.v8.specs.Signed.{signExtend}
 use Rattle.v8.specs.Field.{opOf, rdOf, annulOf, condOf, op2Of, low22Of, op3Of, rs1Of, iOf, unusedOf, rs2Of, simm13Of}
@@ -30,6 +31,7 @@ use Rattle.v8.specs.declared.Operand.the-variants.{Reg, Imm}
 use Rattle.v8.specs.declared.Operation.the-variants.{Sethi}
 use Rattle.v8.specs.declared.Instruction.{Instruction}
 use Rattle.v8.specs.declared.Instruction.the-variants.{Plain, Branch, Return}
+use Rattle.v8.specs.declared.Reading.{Reading}
 use Rattle.v8.specs.declared.Reading.the-variants.{Read, Unread}
 use Rattle.writer.specs.declared.Writing.the-variants.{Written}
 use Rattle.v8.specs.declared.read.OperandReading.{OperandReading}
@@ -140,75 +142,50 @@ unfolding writingOf
 shift-kept w op x (Second o) p q r e = rw (← read e) (packed-kept w 2 _ _ p q (count-kept w o r))
 shift-kept w op x Reserved p q r e = unread e
 
--- the code of the operation of a code
-alu-code : (k : ℕ) → k < 8 → aluCode (aluOpOf k) ≡ k
-alu-code k h = eqb→eq _ _ (at Add (λ n op. eqb (aluCode op) n) aluOps tt k h)
-
-alu-code-cc : (k : ℕ) → 16 ≤ k → k ≤ 23 → k ≡ aluCode (aluOpOf (k - 16)) + 16
-alu-code-cc k a b = rw (alu-code (k - 16) (omega arith)) (omega arith)
-
-return-kept : (w : ℕ) (x : Instruction) → w ≡ leafReturn → Read Return ≡ Read x → writingOf x ≡ Written w
-unfolding writingOf
-return-kept w x h e = rw (← read e) (ap Written (sym h))
-
-format10-kept : (w : ℕ) (x : Instruction) → opOf w ≡ 2 → format10 w ≡ Read x → writingOf x ≡ Written w
-unfolding format10
-format10-kept w x p e =
-    cond-went (leb (op3Of w) 0x07) _ _ _ e
-    (λ t q. alu-kept w (aluOpOf (op3Of w)) false x (operandOf w) p (sym (alu-code (op3Of w) (omega (arith, leb-true (op3Of w) 7 t)))) refl q)
-    (λ f q.
-    cond-went (ltb (op3Of w) 0x10) _ _ _ q
-    (λ t q. unread q)
-    (λ g q.
-    cond-went (leb (op3Of w) 0x17) _ _ _ q
-    (λ t q. alu-kept w (aluOpOf (op3Of w - 16)) true x (operandOf w) p (alu-code-cc (op3Of w) (ltb-false _ _ g) (leb-true _ _ t)) refl q)
-    (λ j q.
-    cond-went (eqb (op3Of w) 0x25) _ _ _ q
-    (λ t q. shift-kept w Sll x (countOf w) p (eqb-true _ _ t) refl q)
-    (λ t q.
-    cond-went (eqb (op3Of w) 0x26) _ _ _ q
-    (λ t q. shift-kept w Srl x (countOf w) p (eqb-true _ _ t) refl q)
-    (λ t q.
-    cond-went (eqb (op3Of w) 0x27) _ _ _ q
-    (λ t q. shift-kept w Sra x (countOf w) p (eqb-true _ _ t) refl q)
-    (λ t q.
-    cond-went (eqb w leafReturn) _ _ _ q
-    (λ t q. return-kept w x (eqb-true _ _ t) q)
-    (λ t q. unread q)))))))
-
 memory-kept : (w : ℕ) (a : Access) (x : Instruction) (o : OperandReading) → opOf w ≡ 3 → op3Of w ≡ accessCode a → operandOf w ≡ o → memoryWith a w o ≡ Read x → writingOf x ≡ Written w
 unfolding writingOf
 memory-kept w a x (Second o) p q r e = rw (← read e) (packed-kept w 3 _ _ p q (displacement-kept o ∙ operand-kept w o r))
 memory-kept w a x Reserved p q r e = unread e
 
-format11-kept : (w : ℕ) (x : Instruction) → opOf w ≡ 3 → format11 w ≡ Read x → writingOf x ≡ Written w
-unfolding format11
-format11-kept w x p e =
-    cond-went (eqb (op3Of w) 0x00) _ _ _ e
-    (λ t q. memory-kept w (Loads Ld) x (operandOf w) p (eqb-true _ _ t) refl q)
-    (λ t q.
-    cond-went (eqb (op3Of w) 0x01) _ _ _ q
-    (λ t q. memory-kept w (Loads Ldub) x (operandOf w) p (eqb-true _ _ t) refl q)
-    (λ t q.
-    cond-went (eqb (op3Of w) 0x02) _ _ _ q
-    (λ t q. memory-kept w (Loads Lduh) x (operandOf w) p (eqb-true _ _ t) refl q)
-    (λ t q.
-    cond-went (eqb (op3Of w) 0x04) _ _ _ q
-    (λ t q. memory-kept w (Stores St) x (operandOf w) p (eqb-true _ _ t) refl q)
-    (λ t q.
-    cond-went (eqb (op3Of w) 0x05) _ _ _ q
-    (λ t q. memory-kept w (Stores Stb) x (operandOf w) p (eqb-true _ _ t) refl q)
-    (λ t q.
-    cond-went (eqb (op3Of w) 0x06) _ _ _ q
-    (λ t q. memory-kept w (Stores Sth) x (operandOf w) p (eqb-true _ _ t) refl q)
-    (λ t q.
-    cond-went (eqb (op3Of w) 0x09) _ _ _ q
-    (λ t q. memory-kept w (Loads Ldsb) x (operandOf w) p (eqb-true _ _ t) refl q)
-    (λ t q.
-    cond-went (eqb (op3Of w) 0x0A) _ _ _ q
-    (λ t q. memory-kept w (Loads Ldsh) x (operandOf w) p (eqb-true _ _ t) refl q)
-    (λ t q.
-    unread q))))))))
+return-kept : (w : ℕ) (x : Instruction) → w ≡ leafReturn → Read Return ≡ Read x → writingOf x ≡ Written w
+unfolding writingOf
+return-kept w x h e = rw (← read e) (ap Written (sym h))
+
+-- ---- each is written with the opcode that it is read with
+
+alu-code : (k : ℕ) → k < 8 → aluCode (aluOpOf k) ≡ k
+alu-code k h = eqb→eq _ _ (at Add (λ n op. eqb (aluCode op) n) aluOps tt k h)
+
+shift-code : (op : ShiftOp) → shiftAt op ≡ shiftCode op
+shift-code Sll = refl
+shift-code Srl = refl
+shift-code Sra = refl
+
+access-code : (a : Access) → accessAt a ≡ accessCode a
+access-code (Loads Ld) = refl
+access-code (Loads Ldub) = refl
+access-code (Loads Lduh) = refl
+access-code (Loads Ldsb) = refl
+access-code (Loads Ldsh) = refl
+access-code (Stores St) = refl
+access-code (Stores Stb) = refl
+access-code (Stores Sth) = refl
+
+-- what is read is written back
+abbrev Kept : Instruction → ℕ → Reading → Type 0
+Kept x w r = r ≡ Read x → writingOf x ≡ Written w
+
+format10-kept : (w : ℕ) (x : Instruction) → opOf w ≡ 2 → Kept x w (format10 w)
+format10-kept w x p =
+    format10-cases (Kept x w) w
+    (λ k l e. alu-kept w (aluOpOf k) false x (operandOf w) p (e ∙ sym (alu-code k l)) refl)
+    (λ k l e. alu-kept w (aluOpOf k) true x (operandOf w) p (e ∙ ap (λ (n : ℕ). n + 0x10) (sym (alu-code k l))) refl)
+    (λ op e. shift-kept w op x (countOf w) p (e ∙ shift-code op) refl)
+    (return-kept w x)
+    unread
+
+format11-kept : (w : ℕ) (x : Instruction) → opOf w ≡ 3 → Kept x w (format11 w)
+format11-kept w x p = format11-cases (Kept x w) w (λ a e. memory-kept w a x (operandOf w) p (e ∙ access-code a) refl) unread
 
 -- ---- format 00
 

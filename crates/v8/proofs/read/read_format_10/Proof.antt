@@ -1,10 +1,10 @@
 -- Format 10: each key and range of the match is a case of the definition. What is left is refused for its opcode, between, above and in the
 -- ranges of those that are privileged.
-use Rattle.v8.specs.Read.{format10, leafReturn}
-use Rattle.v8.proofs.Refused.{refused10, below10, between10, above10, first10, second10}
+use Rattle.v8.specs.Read.{format10}
+use Rattle.v8.proofs.Refused.{refused10, before-codes, past-codes, below10, between10, above10, first10, second10}
 use Rattle.v8.specs.Field.{op3Of}
 use native.Mathlib.Omega.{arith}
-use borrow.Author.Tests.{ne-eqb, lt-ltb, le-ltb, le-leb, lt-leb}
+use borrow.Author.Tests.{ne-eqb, le-leb, lt-leb}
 use mathlib.Core.Bool.{true, false}
 use mathlib.Core.Path.{refl, sym, _∙_}
 use borrow.Author.Needs.{needs}
@@ -69,49 +69,50 @@ returns-7 c =
     let at-op3-of = c .before .before .before .before .before .before in
     let at-args = at-op3-of .before in
     let w = at-args .args .w in
-    simp (lt-leb (op3Of w) 7 (omega arith), le-ltb (op3Of w) 16 (omega arith), le-leb (op3Of w) 23 (omega arith))
+    simp (lt-leb (op3Of w) 7 (omega arith), le-leb 16 (op3Of w) (omega arith), le-leb (op3Of w) 23 (omega arith))
     (rw (← at-op3-of .op3-of .ensures, ← c .before .alu-op2 .ensures) (c .read-alu2 .ensures))
 
-returns-8 : tie.Need-returns-8
-unfolding format10
-returns-8 c = rw (← c .before .before .before .op3-of .ensures) (simp (lt-leb _ 7 (c .before .if2 .left), lt-ltb _ 16 (c .if3 .taken)))
-
 -- below, between and above the privileged opcodes
+returns-8 : tie.Need-returns-8
+returns-8 c =
+    let m = c .before .before in
+    let r = m .match .rest in
+    refused10 _ _ false (m .before .op3-of .ensures) (c .before .if2 .left) (before-codes _ (c .if3 .taken)) (r .0 .0 .0 .0 .1) (r .0 .0 .0 .1) (r .0 .0 .1) (r .1) (below10 (m .before .op3-of .result) (omega (arith, c .if3 .taken)))
+
 returns-9 : tie.Need-returns-9
 returns-9 c =
     let m = c .before .before .before .before in
     let r = m .match .rest in
-    refused10 _ _ false (m .before .op3-of .ensures) (c .before .if4 .left) (r .0 .0 .0 .0 .1) (r .0 .0 .0 .1) (r .0 .0 .1) (r .1) (below10 _ (c .if5 .taken))
+    refused10 _ _ false (m .before .op3-of .ensures) (c .before .before .before .if2 .left) (past-codes _ (c .before .if4 .left)) (r .0 .0 .0 .0 .1) (r .0 .0 .0 .1) (r .0 .0 .1) (r .1) (below10 _ (c .if5 .taken))
 
 returns-10 : tie.Need-returns-10
 returns-10 c =
     let m = c .before .before .before .before .before .before in
     let r = m .match .rest in
-    refused10 _ _ false (m .before .op3-of .ensures) (c .before .before .before .if4 .left) (r .0 .0 .0 .0 .1) (r .0 .0 .0 .1) (r .0 .0 .1) (r .1) (between10 _ (c .before .if6 .left) (c .if7 .taken))
+    refused10 _ _ false (m .before .op3-of .ensures) (c .before .before .before .before .before .if2 .left) (past-codes _ (c .before .before .before .if4 .left)) (r .0 .0 .0 .0 .1) (r .0 .0 .0 .1) (r .0 .0 .1) (r .1) (between10 _ (c .before .if6 .left) (c .if7 .taken))
 
 returns-11 : tie.Need-returns-11
 returns-11 c =
     let m = c .before .before .before .before .before .before .before in
     let r = m .match .rest in
-    refused10 _ _ false (m .before .op3-of .ensures) (c .before .before .before .before .if4 .left) (r .0 .0 .0 .0 .1) (r .0 .0 .0 .1) (r .0 .0 .1) (r .1) (above10 _ (c .if8 .left) (r .0 .1))
+    refused10 _ _ false (m .before .op3-of .ensures) (c .before .before .before .before .before .before .if2 .left) (past-codes _ (c .before .before .before .before .if4 .left)) (r .0 .0 .0 .0 .1) (r .0 .0 .0 .1) (r .0 .0 .1) (r .1) (above10 _ (c .if8 .left) (r .0 .1))
 
 -- the privileged opcodes
 returns-12 : tie.Need-returns-12
 returns-12 c =
-    let e = c .match .keys4 in
-    refused10 _ 0x39 true (sym e ∙ c .before .op3-of .ensures) (omega arith) (λ q. omega arith) (λ q. omega arith) (λ q. omega arith) (λ q. omega arith) refl
+    refused10 _ 0x39 true (sym (c .match .keys4) ∙ c .before .op3-of .ensures) (omega arith) refl (λ q. omega arith) (λ q. omega arith) (λ q. omega arith) (λ q. omega arith) refl
 
 returns-13 : tie.Need-returns-13
 returns-13 c =
     let m = c .before .before .before .before .before in
     let r = m .match .rest in
-    refused10 _ _ true (m .before .op3-of .ensures) (c .before .before .if4 .left) (r .0 .0 .0 .0 .1) (r .0 .0 .0 .1) (r .0 .0 .1) (r .1) (first10 _ (c .before .if5 .left) (c .if6 .taken))
+    refused10 _ _ true (m .before .op3-of .ensures) (c .before .before .before .before .if2 .left) (past-codes _ (c .before .before .if4 .left)) (r .0 .0 .0 .0 .1) (r .0 .0 .0 .1) (r .0 .0 .1) (r .1) (first10 _ (c .before .if5 .left) (c .if6 .taken))
 
 returns-14 : tie.Need-returns-14
 returns-14 c =
     let m = c .before .before .before .before .before .before .before in
     let r = m .match .rest in
-    refused10 _ _ true (m .before .op3-of .ensures) (c .before .before .before .before .if4 .left) (r .0 .0 .0 .0 .1) (r .0 .0 .0 .1) (r .0 .0 .1) (r .1) (second10 _ (c .before .if7 .left) (c .if8 .taken))
+    refused10 _ _ true (m .before .op3-of .ensures) (c .before .before .before .before .before .before .if2 .left) (past-codes _ (c .before .before .before .before .if4 .left)) (r .0 .0 .0 .0 .1) (r .0 .0 .0 .1) (r .0 .0 .1) (r .1) (second10 _ (c .before .if7 .left) (c .if8 .taken))
 
 pub read-format-10-spec : {M : Type 1} → statement M
 read-format-10-spec =
