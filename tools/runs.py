@@ -19,10 +19,14 @@ and what the run gives: end (0 returned, 1 spent, else the number of the refusal
 regs, codes, and memory (`same`, or whole).
 
 Of the runs that fit the program's room a sample is taken: EACH runs at most of every end with the memory
-changed and of every end with it unchanged, evenly over the sizes of memory. After them come runs refused
-with 20: one run of the sample again and again, each time with its policy changed so that it breaks one
-rule of document 01. By that document such a run changes nothing, which needs no implementation to tell.
-How many runs there are of each end is written to standard error.
+changed and of every end with it unchanged, evenly over the sizes of memory; none that ends with 20. After them
+come runs that are made from one run of the sample, with what document 01 says of them, which needs no
+implementation to tell:
+  20   its policy is changed so that it breaks one rule, another each time; a run that is refused changes nothing
+  22   its last region ends at 2^32, or it has one base more than regions
+  102  after a nop comes a store of a register that is not set, or a return with r15 not set
+The first of them ends with 20, so that they are known again. How many runs there are of each end is written to
+standard error.
 
 A record of the data is numbers of 32 bits, big-endian, and then bytes. The first number says how many come
 after it; these are
@@ -47,12 +51,16 @@ sys.dont_write_bytecode = True
 import script
 
 DATA = os.path.join(os.path.dirname(os.path.abspath(__file__)), "..", "crates", "runs", "stdin")
-# How the runs end that are made here.
+# How the first run ends that is made here, and none of the others.
 MADE = 20
+UNSET_READ, BAD_PLACEMENT = 102, 22
+# The words of those that are made: a nop, the leaf return, and a store of the half in r2 at the address in r1.
+NOP, RETURN, STORE = 0x01000000, 0x81C3E008, 0xC4304000
+LINK = 15
 # The program's room: bytes of memory, words.
 MEMORY, WORDS = 2048, 132
 EACH = 35
-REGIONS, FIELDS = 8, 16
+REGIONS, FIELDS, REGISTERS = 8, 16, 32
 EXCESS = 2 ** 31
 Field = collections.namedtuple("Field", "place element permission target offset count lo hi")
 
@@ -115,21 +123,22 @@ def run_in(data, at):
 
 
 def standing():
-    """The runs of the data that are not made here."""
+    """The runs of the data that are not made here: those before the first that is."""
     with open(DATA, "rb") as file:
         data = file.read()
     at, runs = 0, []
     while at < len(data):
         run, at = run_in(data, at)
-        if run.end != MADE:
-            runs.append(run)
+        if run.end == MADE:
+            break
+        runs.append(run)
     return runs
 
 
 def sample(runs):
     classes = collections.defaultdict(list)
     for run in runs:
-        if run.fits():
+        if run.fits() and run.end != MADE:
             classes[run.end, run.changed].append(run)
     for _, members in sorted(classes.items()):
         members.sort(key=lambda run: len(run.memory))
@@ -143,6 +152,13 @@ def kinds(run):
     addresses = [k for k, field in enumerate(run.fields) if field.element in (6, 7)]
     last = [FIELDS * region + count - 1 for region, count in enumerate(run.counts) if 2 <= count]
     return addresses, [k for k, field in enumerate(run.fields) if field.element == 4 and 2 <= field.count and field.place in last]
+
+
+def altered(run, change, **outcome):
+    """The run with some of its parts changed, and an outcome that leaves memory as it was."""
+    other = copy.copy(run)
+    vars(other).update(change, **outcome, changed=False, left=b"")
+    return other
 
 
 def refused(run):
@@ -182,9 +198,28 @@ def refused(run):
         with_pair(field._replace(place=earlier.place), earlier._replace(place=field.place)),
     ]
     for change in changes:
-        broken = copy.copy(run)
-        vars(broken).update(change, end=MADE, steps=0, after=run.before, changed=False, left=b"")
-        yield broken
+        yield altered(run, change, end=MADE, steps=0, after=run.before)
+
+
+def misplaced(run):
+    """Runs that are refused with 22: the last region ends at 2^32, and there is one base more than regions."""
+    for bases in run.bases[:-1] + [2 ** 32 - run.sizes[-1]], run.bases + [8]:
+        yield altered(run, {"bases": bases}, end=BAD_PLACEMENT, steps=0, after=run.before)
+
+
+def unset(run):
+    """Runs that fault with 102 after one step: a stored register, and r15 at a return, is not set. What else they need is right: the
+    store lies in a field that allows it, r15 is the return address."""
+    _, (half, *_) = kinds(run)
+    field = run.fields[half]
+    fields = run.fields[:half] + [field._replace(permission=3)] + run.fields[half + 1:]
+    address = run.bases[field.place // FIELDS] + field.offset
+    for words, values, register in ([NOP, STORE], {1: address}, 2), ([NOP, RETURN, NOP], {LINK: run.returns}, LINK):
+        *_, codes = run.before
+        registers = [values.get(r, run.before[r]) for r in range(REGISTERS)]
+        before = registers + [2 ** REGISTERS - 1 - 2 ** register, codes]
+        after = [0] + registers[1:] + before[REGISTERS:]
+        yield altered(run, {"fields": fields, "words": words, "before": before}, end=UNSET_READ, steps=1, after=after)
 
 
 def run_of(text):
@@ -205,8 +240,9 @@ def main(arguments):
         runs = list(sample(standing()))
     whole = [run for run in runs if run.end == 0 and run.regions < REGIONS and all(kinds(run))]
     if not whole:
-        raise script.Problem("no run that returned can be made into refused ones: it needs an address and two signed halves")
-    runs += refused(whole[0])
+        raise script.Problem("no run that returned can be made into others: it needs an address and two signed halves")
+    for made in refused, misplaced, unset:
+        runs += made(whole[0])
     for run in runs:
         sys.stdout.buffer.write(run.record())
     for end, count in sorted(collections.Counter(run.end for run in runs).items()):
