@@ -24,6 +24,7 @@ come runs that are made from one run of the sample, with what document 01 says o
 implementation to tell:
   20   its policy is changed so that it breaks one rule, another each time; a run that is refused changes nothing
   22   its last region ends at 2^32, or it has one base more than regions
+  101  a branch or a return stands in the slot of a branch
   102  after a nop comes a store of a register that is not set, or a return with r15 not set
 The first of them ends with 20, so that they are known again. How many runs there are of each end is written to
 standard error.
@@ -53,9 +54,10 @@ import script
 DATA = os.path.join(os.path.dirname(os.path.abspath(__file__)), "..", "crates", "runs", "stdin")
 # How the first run ends that is made here, and none of the others.
 MADE = 20
-UNSET_READ, BAD_PLACEMENT = 102, 22
-# The words of those that are made: a nop, the leaf return, and a store of the half in r2 at the address in r1.
-NOP, RETURN, STORE = 0x01000000, 0x81C3E008, 0xC4304000
+BAD_PLACEMENT, NO_WORD, UNSET_READ = 22, 101, 102
+# The words of those that are made: a nop, the leaf return, a branch always to the second word after it, and a store of the half in r2
+# at the address in r1.
+NOP, RETURN, BRANCH, STORE = 0x01000000, 0x81C3E008, 0x10800002, 0xC4304000
 LINK = 15
 # The program's room: bytes of memory, words.
 MEMORY, WORDS = 2048, 132
@@ -188,7 +190,7 @@ def refused(run):
         with_region(8, REGIONS + 1 - run.regions, 0),
         with_region(24, 1, FIELDS + 1),
         with_region(0, 1, 0), with_size(sizes[region] + 4), with_size(4104),
-        with_field(half, element=0), with_field(half, element=8),
+        with_field(half, element=0, lo=0, hi=0), with_field(half, element=8, lo=0, hi=0),
         with_field(half, permission=0), with_field(half, permission=4),
         with_field(half, offset=field.offset + 1, count=1), with_field(half, count=0),
         with_field(half, **byte, count=sizes[region] - field.offset + 1),
@@ -207,19 +209,30 @@ def misplaced(run):
         yield altered(run, {"bases": bases}, end=BAD_PLACEMENT, steps=0, after=run.before)
 
 
+def stopped(run, words, values, register, fault):
+    """The run of some words, of which the second faults: some registers have other values, and all but one are set, or all."""
+    *_, codes = run.before
+    registers = [values.get(r, run.before[r]) for r in range(REGISTERS)]
+    marks = [sum(2 ** r for r in range(REGISTERS) if r != register), codes]
+    return altered(run, {"words": words, "before": registers + marks}, end=fault, steps=1, after=[0] + registers[1:] + marks)
+
+
+def slots(run):
+    """Runs that fault with 101: a branch, and a return with r15 right, in the slot of a branch."""
+    for word in BRANCH, RETURN:
+        yield stopped(run, [BRANCH, word, NOP, NOP], {LINK: run.returns}, None, NO_WORD)
+
+
 def unset(run):
-    """Runs that fault with 102 after one step: a stored register, and r15 at a return, is not set. What else they need is right: the
-    store lies in a field that allows it, r15 is the return address."""
+    """Runs that fault with 102: a stored register, and r15 at a return, is not set. What else they need is right: the store lies in a
+    field that allows it, r15 is the return address."""
     _, (half, *_) = kinds(run)
     field = run.fields[half]
-    fields = run.fields[:half] + [field._replace(permission=3)] + run.fields[half + 1:]
+    writable = copy.copy(run)
+    writable.fields = run.fields[:half] + [field._replace(permission=3)] + run.fields[half + 1:]
     address = run.bases[field.place // FIELDS] + field.offset
-    for words, values, register in ([NOP, STORE], {1: address}, 2), ([NOP, RETURN, NOP], {LINK: run.returns}, LINK):
-        *_, codes = run.before
-        registers = [values.get(r, run.before[r]) for r in range(REGISTERS)]
-        before = registers + [2 ** REGISTERS - 1 - 2 ** register, codes]
-        after = [0] + registers[1:] + before[REGISTERS:]
-        yield altered(run, {"fields": fields, "words": words, "before": before}, end=UNSET_READ, steps=1, after=after)
+    yield stopped(writable, [NOP, STORE], {1: address}, 2, UNSET_READ)
+    yield stopped(run, [NOP, RETURN, NOP], {LINK: run.returns}, LINK, UNSET_READ)
 
 
 def run_of(text):
@@ -241,7 +254,7 @@ def main(arguments):
     whole = [run for run in runs if run.end == 0 and run.regions < REGIONS and all(kinds(run))]
     if not whole:
         raise script.Problem("no run that returned can be made into others: it needs an address and two signed halves")
-    for made in refused, misplaced, unset:
+    for made in refused, misplaced, slots, unset:
         runs += made(whole[0])
     for run in runs:
         sys.stdout.buffer.write(run.record())
