@@ -25,7 +25,8 @@ implementation to tell:
   20   its policy is changed so that it breaks one rule, another each time; a run that is refused changes nothing
   22   its last region ends at 2^32, or it has one base more than regions
   101  a branch or a return stands in the slot of a branch
-  102  after a nop comes a store of a register that is not set, or a return with r15 not set
+  102  after a nop an add, a store or a return reads a register that is not set; the store also at an odd address
+  104  after a nop a half is stored at an odd address
 The first of them ends with 20, so that they are known again. How many runs there are of each end is written to
 standard error.
 
@@ -54,10 +55,10 @@ import script
 DATA = os.path.join(os.path.dirname(os.path.abspath(__file__)), "..", "crates", "runs", "stdin")
 # How the first run ends that is made here, and none of the others.
 MADE = 20
-BAD_PLACEMENT, NO_WORD, UNSET_READ = 22, 101, 102
-# The words of those that are made: a nop, the leaf return, a branch always to the second word after it, and a store of the half in r2
-# at the address in r1.
-NOP, RETURN, BRANCH, STORE = 0x01000000, 0x81C3E008, 0x10800002, 0xC4304000
+BAD_PLACEMENT, NO_WORD, UNSET_READ, UNALIGNED = 22, 101, 102, 104
+# The words of those that are made: a nop, the leaf return, a branch always to the second word after it, r1 and r2 added, and a store of
+# the half in r2 at the address in r1.
+NOP, RETURN, BRANCH, ADD, STORE = 0x01000000, 0x81C3E008, 0x10800002, 0x86004002, 0xC4304000
 LINK = 15
 # The program's room: bytes of memory, words.
 MEMORY, WORDS = 2048, 132
@@ -209,30 +210,26 @@ def misplaced(run):
         yield altered(run, {"bases": bases}, end=BAD_PLACEMENT, steps=0, after=run.before)
 
 
-def stopped(run, words, values, register, fault):
-    """The run of some words, of which the second faults: some registers have other values, and all but one are set, or all."""
-    *_, codes = run.before
-    registers = [values.get(r, run.before[r]) for r in range(REGISTERS)]
-    marks = [sum(2 ** r for r in range(REGISTERS) if r != register), codes]
-    return altered(run, {"words": words, "before": registers + marks}, end=fault, steps=1, after=[0] + registers[1:] + marks)
-
-
-def slots(run):
-    """Runs that fault with 101: a branch, and a return with r15 right, in the slot of a branch."""
-    for word in BRANCH, RETURN:
-        yield stopped(run, [BRANCH, word, NOP, NOP], {LINK: run.returns}, None, NO_WORD)
-
-
-def unset(run):
-    """Runs that fault with 102: a stored register, and r15 at a return, is not set. What else they need is right: the store lies in a
-    field that allows it, r15 is the return address."""
+def faulting(run):
+    """Runs whose second word faults, with 101, 102 or 104. What is not told is right: the store's address is that of an element which it
+    may write, r15 is the return address, and all registers are set but the one that is named."""
     _, (half, *_) = kinds(run)
     field = run.fields[half]
-    writable = copy.copy(run)
-    writable.fields = run.fields[:half] + [field._replace(permission=3)] + run.fields[half + 1:]
+    fields = run.fields[:half] + [field._replace(permission=3)] + run.fields[half + 1:]
     address = run.bases[field.place // FIELDS] + field.offset
-    yield stopped(writable, [NOP, STORE], {1: address}, 2, UNSET_READ)
-    yield stopped(run, [NOP, RETURN, NOP], {LINK: run.returns}, LINK, UNSET_READ)
+    *_, codes = run.before
+    for fault, words, at, unset in [
+            (NO_WORD, [BRANCH, BRANCH, NOP, NOP], address, None),
+            (NO_WORD, [BRANCH, RETURN, NOP, NOP], address, None),
+            (UNSET_READ, [NOP, ADD], address, 2),
+            (UNSET_READ, [NOP, STORE], address, 2),
+            (UNSET_READ, [NOP, STORE], address + 1, 2),
+            (UNSET_READ, [NOP, RETURN, NOP], address, LINK),
+            (UNALIGNED, [NOP, STORE], address + 1, None)]:
+        values = {1: at, LINK: run.returns}
+        registers = [values.get(r, run.before[r]) for r in range(REGISTERS)]
+        rest = [sum(2 ** r for r in range(REGISTERS) if r != unset), codes]
+        yield altered(run, {"fields": fields, "words": words, "before": registers + rest}, end=fault, steps=1, after=[0] + registers[1:] + rest)
 
 
 def run_of(text):
@@ -254,7 +251,7 @@ def main(arguments):
     whole = [run for run in runs if run.end == 0 and run.regions < REGIONS and all(kinds(run))]
     if not whole:
         raise script.Problem("no run that returned can be made into others: it needs an address and two signed halves")
-    for made in refused, misplaced, slots, unset:
+    for made in refused, misplaced, faulting:
         runs += made(whole[0])
     for run in runs:
         sys.stdout.buffer.write(run.record())
