@@ -23,7 +23,9 @@ changed and of every end with it unchanged, evenly over the sizes of memory; non
 come runs that are made from one run of the sample, with what document 01 says of them, which needs no
 implementation to tell:
   20   its policy is changed so that it breaks one rule, another each time; a run that is refused changes nothing
-  22   its last region ends at 2^32, or it has one base more than regions
+  20   it has no words, and its policy breaks a rule
+  21   it has neither words nor bases
+  22   its last region ends at 2^32, or lies where the first does, or it has one base more than regions
   101  a branch or a return stands in the slot of a branch
   102  after a nop an add, a store or a return reads a register that is not set; the store also at an odd address
   104  after a nop a half is stored at an odd address
@@ -55,7 +57,7 @@ import script
 DATA = os.path.join(os.path.dirname(os.path.abspath(__file__)), "..", "crates", "runs", "stdin")
 # How the first run ends that is made here, and none of the others.
 MADE = 20
-BAD_PLACEMENT, NO_WORD, UNSET_READ, UNALIGNED = 22, 101, 102, 104
+BAD_SHAPE, BAD_PLACEMENT, NO_WORD, UNSET_READ, UNALIGNED = 21, 22, 101, 102, 104
 # The words of those that are made: a nop, the leaf return, a branch always to the second word after it, r1 and r2 added, and a store of
 # the half in r2 at the address in r1.
 NOP, RETURN, BRANCH, ADD, STORE = 0x01000000, 0x81C3E008, 0x10800002, 0x86004002, 0xC4304000
@@ -205,9 +207,15 @@ def refused(run):
 
 
 def misplaced(run):
-    """Runs that are refused with 22: the last region ends at 2^32, and there is one base more than regions."""
-    for bases in run.bases[:-1] + [2 ** 32 - run.sizes[-1]], run.bases + [8]:
+    """Runs that are refused with 22: the last region ends at 2^32, or lies where the first does; there is one base more than regions."""
+    for bases in run.bases[:-1] + [2 ** 32 - run.sizes[-1]], run.bases[:-1] + run.bases[:1], run.bases + [8]:
         yield altered(run, {"bases": bases}, end=BAD_PLACEMENT, steps=0, after=run.before)
+
+
+def empty(run):
+    """Runs without a word: 20 where the policy breaks a rule too, 21 where there are no bases either."""
+    yield altered(run, {"words": [], "sizes": [4] + run.sizes[1:]}, end=MADE, steps=0, after=run.before)
+    yield altered(run, {"words": [], "bases": []}, end=BAD_SHAPE, steps=0, after=run.before)
 
 
 def faulting(run):
@@ -248,10 +256,10 @@ def main(arguments):
             runs = list(sample(run_of(each) for each in text.read().split("\n\n") if each.strip()))
     else:
         runs = list(sample(standing()))
-    whole = [run for run in runs if run.end == 0 and run.regions < REGIONS and all(kinds(run))]
+    whole = [run for run in runs if run.end == 0 and 3 <= run.regions < REGIONS and all(kinds(run))]
     if not whole:
-        raise script.Problem("no run that returned can be made into others: it needs an address and two signed halves")
-    for made in refused, misplaced, faulting:
+        raise script.Problem("no run that returned can be made into others: it needs three to seven regions, an address and two signed halves")
+    for made in refused, empty, misplaced, faulting:
         runs += made(whole[0])
     for run in runs:
         sys.stdout.buffer.write(run.record())

@@ -339,8 +339,9 @@ refusalRows =
     -- one base for each region
     ∷ laid (0x3000 ∷ []) 0x1000 sixteenBytes gives handedBack 22 sixteenBytes
     ∷ laid (0x3000 ∷ 0x2000 ∷ 0x4000 ∷ []) 0x1000 sixteenBytes gives handedBack 22 sixteenBytes
-    -- overlapping; touching, either way round
+    -- overlapping, also one that is not the region before; touching, either way round
     ∷ laid (0x3000 ∷ 0x3000 ∷ []) 0x1000 sixteenBytes gives handedBack 22 sixteenBytes
+    ∷ runs (uniform 3 8 0) (0x01000000 ∷ []) (0x3000 ∷ 0x2000 ∷ 0x3000 ∷ []) 0x1000 start 1 (replicate 24 0) gives handedBack 22 (replicate 24 0)
     ∷ laid (0x3000 ∷ 0x3008 ∷ []) 0x1000 sixteenBytes gives kept Spent 1
     ∷ laid (0x3008 ∷ 0x3000 ∷ []) 0x1000 sixteenBytes gives kept Spent 1
     -- the return address
