@@ -55,7 +55,7 @@ sys.dont_write_bytecode = True
 import script
 
 DATA = os.path.join(os.path.dirname(os.path.abspath(__file__)), "..", "crates", "runs", "stdin")
-# How the first run ends that is made here, and none of the others.
+# How the first run ends that is made here; none ends so that is not.
 MADE = 20
 BAD_SHAPE, BAD_PLACEMENT, NO_WORD, UNSET_READ, UNALIGNED = 21, 22, 101, 102, 104
 # The words of those that are made: a nop, the leaf return, a branch always to the second word after it, r1 and r2 added, and a store of
