@@ -19,10 +19,18 @@ and what the run gives: end (0 returned, 1 spent, else the number of the refusal
 regs, codes, and memory (`same`, or whole).
 
 Of the runs that fit the program's room a sample is taken: EACH runs at most of every end with the memory
-changed and of every end with it unchanged, evenly over the sizes of memory. After them come runs refused
-with 20: one run of the sample again and again, each time with its policy changed so that it breaks one
-rule of document 01. By that document such a run changes nothing, which needs no implementation to tell.
-How many runs there are of each end is written to standard error.
+changed and of every end with it unchanged, evenly over the sizes of memory; none that ends with 20. After them
+come runs that are made from one run of the sample, with what document 01 says of them, which needs no
+implementation to tell:
+  20   its policy is changed so that it breaks one rule, another each time; a run that is refused changes nothing
+  20   it has no words, and its policy breaks a rule
+  21   it has neither words nor bases
+  22   its last region ends at 2^32, or lies where the first does, or it has one base more than regions
+  101  a branch or a return stands in the slot of a branch
+  102  after a nop an add, a store or a return reads a register that is not set; the store also at an odd address
+  104  after a nop a half is stored at an odd address
+The first of them ends with 20, so that they are known again. How many runs there are of each end is written to
+standard error.
 
 A record of the data is numbers of 32 bits, big-endian, and then bytes. The first number says how many come
 after it; these are
@@ -47,12 +55,17 @@ sys.dont_write_bytecode = True
 import script
 
 DATA = os.path.join(os.path.dirname(os.path.abspath(__file__)), "..", "crates", "runs", "stdin")
-# How the runs end that are made here.
+# How the first run ends that is made here; none ends so that is not.
 MADE = 20
+BAD_SHAPE, BAD_PLACEMENT, NO_WORD, UNSET_READ, UNALIGNED = 21, 22, 101, 102, 104
+# The words of those that are made: a nop, the leaf return, a branch always to the second word after it, r1 and r2 added, and a store of
+# the half in r2 at the address in r1.
+NOP, RETURN, BRANCH, ADD, STORE = 0x01000000, 0x81C3E008, 0x10800002, 0x86004002, 0xC4304000
+LINK = 15
 # The program's room: bytes of memory, words.
 MEMORY, WORDS = 2048, 132
 EACH = 35
-REGIONS, FIELDS = 8, 16
+REGIONS, FIELDS, REGISTERS = 8, 16, 32
 EXCESS = 2 ** 31
 Field = collections.namedtuple("Field", "place element permission target offset count lo hi")
 
@@ -115,21 +128,22 @@ def run_in(data, at):
 
 
 def standing():
-    """The runs of the data that are not made here."""
+    """The runs of the data that are not made here: those before the first that is."""
     with open(DATA, "rb") as file:
         data = file.read()
     at, runs = 0, []
     while at < len(data):
         run, at = run_in(data, at)
-        if run.end != MADE:
-            runs.append(run)
+        if run.end == MADE:
+            break
+        runs.append(run)
     return runs
 
 
 def sample(runs):
     classes = collections.defaultdict(list)
     for run in runs:
-        if run.fits():
+        if run.fits() and run.end != MADE:
             classes[run.end, run.changed].append(run)
     for _, members in sorted(classes.items()):
         members.sort(key=lambda run: len(run.memory))
@@ -143,6 +157,13 @@ def kinds(run):
     addresses = [k for k, field in enumerate(run.fields) if field.element in (6, 7)]
     last = [FIELDS * region + count - 1 for region, count in enumerate(run.counts) if 2 <= count]
     return addresses, [k for k, field in enumerate(run.fields) if field.element == 4 and 2 <= field.count and field.place in last]
+
+
+def altered(run, change, **outcome):
+    """The run with some of its parts changed, and an outcome that leaves memory as it was."""
+    other = copy.copy(run)
+    vars(other).update(change, **outcome, changed=False, left=b"")
+    return other
 
 
 def refused(run):
@@ -172,7 +193,7 @@ def refused(run):
         with_region(8, REGIONS + 1 - run.regions, 0),
         with_region(24, 1, FIELDS + 1),
         with_region(0, 1, 0), with_size(sizes[region] + 4), with_size(4104),
-        with_field(half, element=0), with_field(half, element=8),
+        with_field(half, element=0, lo=0, hi=0), with_field(half, element=8, lo=0, hi=0),
         with_field(half, permission=0), with_field(half, permission=4),
         with_field(half, offset=field.offset + 1, count=1), with_field(half, count=0),
         with_field(half, **byte, count=sizes[region] - field.offset + 1),
@@ -182,9 +203,41 @@ def refused(run):
         with_pair(field._replace(place=earlier.place), earlier._replace(place=field.place)),
     ]
     for change in changes:
-        broken = copy.copy(run)
-        vars(broken).update(change, end=MADE, steps=0, after=run.before, changed=False, left=b"")
-        yield broken
+        yield altered(run, change, end=MADE, steps=0, after=run.before)
+
+
+def misplaced(run):
+    """Runs that are refused with 22: the last region ends at 2^32, or lies where the first does; there is one base more than regions."""
+    for bases in run.bases[:-1] + [2 ** 32 - run.sizes[-1]], run.bases[:-1] + run.bases[:1], run.bases + [8]:
+        yield altered(run, {"bases": bases}, end=BAD_PLACEMENT, steps=0, after=run.before)
+
+
+def empty(run):
+    """Runs without a word: 20 where the policy breaks a rule too, 21 where there are no bases either."""
+    yield altered(run, {"words": [], "sizes": [4] + run.sizes[1:]}, end=MADE, steps=0, after=run.before)
+    yield altered(run, {"words": [], "bases": []}, end=BAD_SHAPE, steps=0, after=run.before)
+
+
+def faulting(run):
+    """Runs whose second word faults, with 101, 102 or 104. What is not told is right: the store's address is that of an element which it
+    may write, r15 is the return address, and all registers are set but the one that is named."""
+    _, (half, *_) = kinds(run)
+    field = run.fields[half]
+    fields = run.fields[:half] + [field._replace(permission=3)] + run.fields[half + 1:]
+    address = run.bases[field.place // FIELDS] + field.offset
+    *_, codes = run.before
+    for fault, words, at, unset in [
+            (NO_WORD, [BRANCH, BRANCH, NOP, NOP], address, None),
+            (NO_WORD, [BRANCH, RETURN, NOP, NOP], address, None),
+            (UNSET_READ, [NOP, ADD], address, 2),
+            (UNSET_READ, [NOP, STORE], address, 2),
+            (UNSET_READ, [NOP, STORE], address + 1, 2),
+            (UNSET_READ, [NOP, RETURN, NOP], address, LINK),
+            (UNALIGNED, [NOP, STORE], address + 1, None)]:
+        values = {1: at, LINK: run.returns}
+        registers = [values.get(r, run.before[r]) for r in range(REGISTERS)]
+        rest = [sum(2 ** r for r in range(REGISTERS) if r != unset), codes]
+        yield altered(run, {"fields": fields, "words": words, "before": registers + rest}, end=fault, steps=1, after=[0] + registers[1:] + rest)
 
 
 def run_of(text):
@@ -203,10 +256,11 @@ def main(arguments):
             runs = list(sample(run_of(each) for each in text.read().split("\n\n") if each.strip()))
     else:
         runs = list(sample(standing()))
-    whole = [run for run in runs if run.end == 0 and run.regions < REGIONS and all(kinds(run))]
+    whole = [run for run in runs if run.end == 0 and 3 <= run.regions < REGIONS and all(kinds(run))]
     if not whole:
-        raise script.Problem("no run that returned can be made into refused ones: it needs an address and two signed halves")
-    runs += refused(whole[0])
+        raise script.Problem("no run that returned can be made into others: it needs three to seven regions, an address and two signed halves")
+    for made in refused, empty, misplaced, faulting:
+        runs += made(whole[0])
     for run in runs:
         sys.stdout.buffer.write(run.record())
     for end, count in sorted(collections.Counter(run.end for run in runs).items()):

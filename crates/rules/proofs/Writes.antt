@@ -17,15 +17,15 @@ use Rattle.alu.specs.Codes.{codesOf}
 use Rattle.rows.specs.declared.Entry.{Entry}
 use Rattle.rows.specs.declared.Note.{Note}
 use Rattle.rows.specs.declared.Row.{Row}
-use Rattle.rows.specs.Entry.{noEntry, isConstant, isComparison, codesSet}
+use Rattle.rows.specs.Entry.{noEntry, isConstant, isComparison, codesSet, comparison}
 use Rattle.rows.specs.Row.{entryAt, entriesWith, rowWith}
-use Rattle.rows.specs.Matches.{Holds, Matches, Held, NoteMatches}
+use Rattle.rows.specs.Matches.{Host, Holds, Matches, Held, NoteMatches}
 use Rattle.rows.specs.Laws.{EntryRules}
 use Rattle.rows.proofs.Tests.{and-went, false-true}
 use Rattle.rows.proofs.ByKind.{unset-rules}
 use Rattle.rules.specs.Result.{isSub}
 use Rattle.rules.specs.Change.{noteAfter, codesNote}
-use Rattle.rules.specs.Laws.{WritesRow, KeepsNote, MakesNote}
+use Rattle.rules.specs.Laws.{Wrote, WritesRow, KeepsNote, MakesNote}
 use Rattle.rules.proofs.RightResult.{constant-holds}
 
 -- register r of the row written, whatever is asked of what stands there
@@ -109,19 +109,25 @@ is-sub Andn x y e = false-true e
 is-sub Orn x y e = false-true e
 is-sub Xnor x y e = false-true e
 
-pub makes-note : MakesNote
-unfolding codesNote
-makes-note op h g g′ rd rs1 v b y w small mb coded codes =
-    cond-both (λ (x : Note). NoteMatches x g′) (isSub op && leb 1 rs1 && isConstant b && not (eqb rd rs1))
-    (λ t. let p = and-went (isSub op && leb 1 rs1 && isConstant b) (not (eqb rd rs1)) t in
+-- the note of a code-setting word, where the last thing that it asks, kept, is not so if rs1 is written
+made-note : (op : AluOp) (h : Host) (g g′ : Held) (rd rs1 v : ℕ) (b : Entry) (y : ℕ) → Wrote g g′ rd v → y < 4294967296 → Holds h b y
+    → g′ .coded ≡ true → g′ .codes ≡ codesOf op (g .value rs1) y
+    → (n : Note) (kept : Bool) → n ≡ cond (isSub op && leb 1 rs1 && isConstant b && kept) (comparison rs1 (b .set .lo)) codesSet
+    → (rs1 ≡ rd → kept ≡ false) → NoteMatches n g′
+made-note op h g g′ rd rs1 v b y w small mb coded codes n kept made written =
+    subst (λ (x : Note). NoteMatches x g′) (sym made)
+    (cond-both (λ (x : Note). NoteMatches x g′) (isSub op && leb 1 rs1 && isConstant b && kept)
+    (λ t. let p = and-went (isSub op && leb 1 rs1 && isConstant b) kept t in
     let q = and-went (isSub op && leb 1 rs1) (isConstant b) (p .0) in
     let r = and-went (isSub op) (leb 1 rs1) (q .0) in
     record {
       coded = λ _. coded;
       compared = λ _. codes ∙ is-sub op (g .value rs1) y (r .0)
-          ∙ rw (← constant-holds h b y small (q .1) mb, ← w .others rs1 (λ e _ _. apart (p .1) e) .1);
+          ∙ rw (← constant-holds h b y small (q .1) mb, ← w .others rs1 (λ e _ _. false-true (sym (written e) ∙ p .1)) .1);
     })
-    (λ _. set-note g′ coded)
-  where
-    apart : not (eqb rd rs1) ≡ true → rs1 ≡ rd → ⊥
-    apart t e = false-true (rw (eq-eqb rd rs1 (sym e)) at t)
+    (λ _. set-note g′ coded))
+
+pub makes-note : MakesNote
+unfolding codesNote
+makes-note op h g g′ rd rs1 v b y w small mb coded codes =
+    made-note op h g g′ rd rs1 v b y w small mb coded codes (codesNote op rd rs1 b) _ refl (λ e. ap not (eq-eqb rd rs1 (sym e)))

@@ -44,11 +44,33 @@ edgeRows =
     ∷ edge 5 0x02800003 false gives over 7 NotEqualTo
     ∷ edge 5 0x22800003 true gives over 8 EqualTo
     ∷ edge 5 0x22800003 false gives past 7 NotEqualTo
-    ∷ edge 5 0x06800003 true gives over 8 LessThan
-    ∷ edge 5 0x06800003 false gives over 7 AtLeast
+    -- the other conditions, 2 to 7 and 9 to 15: on the untaken edge the opposite one holds
     ∷ edge 5 0x04800003 true gives over 8 AtMost
     ∷ edge 5 0x04800003 false gives over 7 GreaterThan
+    ∷ edge 5 0x06800003 true gives over 8 LessThan
+    ∷ edge 5 0x06800003 false gives over 7 AtLeast
+    ∷ edge 5 0x08800003 true gives over 8 Unrelated
+    ∷ edge 5 0x08800003 false gives over 7 Unrelated
     ∷ edge 5 0x0A800003 true gives over 8 Unrelated
+    ∷ edge 5 0x0A800003 false gives over 7 Unrelated
+    ∷ edge 5 0x0C800003 true gives over 8 Unrelated
+    ∷ edge 5 0x0C800003 false gives over 7 Unrelated
+    ∷ edge 5 0x0E800003 true gives over 8 Unrelated
+    ∷ edge 5 0x0E800003 false gives over 7 Unrelated
+    ∷ edge 5 0x12800003 true gives over 8 NotEqualTo
+    ∷ edge 5 0x12800003 false gives over 7 EqualTo
+    ∷ edge 5 0x14800003 true gives over 8 GreaterThan
+    ∷ edge 5 0x14800003 false gives over 7 AtMost
+    ∷ edge 5 0x16800003 true gives over 8 AtLeast
+    ∷ edge 5 0x16800003 false gives over 7 LessThan
+    ∷ edge 5 0x18800003 true gives over 8 Unrelated
+    ∷ edge 5 0x18800003 false gives over 7 Unrelated
+    ∷ edge 5 0x1A800003 true gives over 8 Unrelated
+    ∷ edge 5 0x1A800003 false gives over 7 Unrelated
+    ∷ edge 5 0x1C800003 true gives over 8 Unrelated
+    ∷ edge 5 0x1C800003 false gives over 7 Unrelated
+    ∷ edge 5 0x1E800003 true gives over 8 Unrelated
+    ∷ edge 5 0x1E800003 false gives over 7 Unrelated
     -- distances are signed, and counted in words from the branch
     ∷ edge 5 0x12BFFFFE true gives over 3 NotEqualTo
     ∷ edge 0 0x12BFFFFF true gives over 0xFFFFFFFF NotEqualTo

@@ -63,6 +63,20 @@ uniform regions size fields =
       values = record { targets = replicate 128 0; lows = replicate 128 0; highs = replicate 128 0 };
     }
 
+-- n numbers from one on, each one more than the one before
+abbrev pub numbersFrom : ℕ → ℕ → List ℕ
+numbersFrom i zero = []
+numbersFrom i (suc n) = i ∷ numbersFrom (i + 1) n
+
+-- a policy not built by adds: one region of 24 bytes with so many fields, each one byte to be read and written, one after the other
+abbrev pub bytewise : ℕ → Policy
+bytewise fields =
+    record {
+      regions = record { count = 1; sizes = 24 ∷ replicate 7 0; fields = fields ∷ replicate 7 0 };
+      fields = record { elements = replicate 128 1; permissions = replicate 128 3; offsets = numbersFrom 0 128; counts = replicate 128 1 };
+      values = record { targets = replicate 128 0; lows = replicate 128 bias; highs = replicate 128 bias };
+    }
+
 -- regions
 abbrev pub regionRows : List Row
 regionRows =
@@ -179,6 +193,11 @@ badRows =
     -- sixteen and seventeen fields of no element: before 18
     ∷ adds (uniform 1 8 16) (region 8 ∷ field 0 (zeros 1 0 1) ∷ []) gives numbers (20 ∷ 20 ∷ [])
     ∷ adds (uniform 1 8 17) (region 8 ∷ field 0 (zeros 1 0 1) ∷ []) gives numbers (20 ∷ 20 ∷ [])
+    -- sixteen good fields, and seventeen, which no add makes
+    ∷ adds (bytewise 16) (region 8 ∷ field 0 (zeros 1 16 1) ∷ []) gives numbers (0 ∷ 18 ∷ [])
+    ∷ adds (bytewise 17) (region 8 ∷ field 0 (zeros 1 17 1) ∷ []) gives numbers (20 ∷ 20 ∷ [])
+    -- what stands at a place that is not in use means nothing: the region added has no fields
+    ∷ adds (uniform 0 8 5) (region 8 ∷ field 0 (zeros 1 0 1) ∷ []) gives numbers (0 ∷ 0 ∷ [])
     -- a full policy that obeys the rules: 18, the fields as ever
     ∷ adds (uniform 8 8 0) (region 8 ∷ field 7 (zeros 1 0 8) ∷ []) gives numbers (18 ∷ 0 ∷ [])
     ∷ []

@@ -28,6 +28,10 @@ twoRegions =
     1
     (fieldOf 4 3 0 4 1 bias (bias + 9))
 
+-- one region, with unsigned bytes at 4 to 7
+abbrev pub laterField : Policy
+laterField = withField (withRegion emptyPolicy 8) 0 (fieldOf 1 3 0 4 4 bias (bias + 255))
+
 -- region 0 lies above region 1
 abbrev pub twoBases : List ℕ
 twoBases = 0x3000 ∷ 0x2000 ∷ []
@@ -217,6 +221,8 @@ fieldFaultRows =
     ∷ one 0xCA082005 gives faults 103
     -- in region 1 and in no field: stb %g3,[%g2+6]
     ∷ one 0xC628A006 gives faults 103
+    -- below the first field of a region: ldub [%g1+3],%g5
+    ∷ runs laterField (0xCA086003 ∷ []) (0x3000 ∷ []) 0x1000 start 1 (replicate 8 0) gives left (Fault 103) 0 0 0 0 4 (replicate 8 0)
     -- another element: ldsb, lduh and ld [%g1],%g5; lduh [%g2+4],%g5; stb %g3,[%g1+4]; stb %g3,[%g2+4]
     ∷ one 0xCA484000 gives faults 103
     ∷ one 0xCA104000 gives faults 103
@@ -291,6 +297,8 @@ accessRows =
     ∷ one 0xC630A004 gives stores (0xA0 ∷ 0xA1 ∷ 0xA2 ∷ 0xA3 ∷ 0xA4 ∷ 0xA5 ∷ 0xA6 ∷ 0xA7 ∷ 0xB0 ∷ 0xB1 ∷ 0xB2 ∷ 0xB3 ∷ 0x56 ∷ 0x78 ∷ 0xB6 ∷ 0xB7 ∷ [])
     -- a store and the load of what it stored: stb %g3,[%g1+3]; ldub [%g1+3],%g5
     ∷ from start 2 (0xC6286003 ∷ 0xCA086003 ∷ []) gives left Spent 2 0x78 0 0 4 (0xA0 ∷ 0xA1 ∷ 0xA2 ∷ 0x78 ∷ 0xA4 ∷ 0xA5 ∷ 0xA6 ∷ 0xA7 ∷ 0xB0 ∷ 0xB1 ∷ 0xB2 ∷ 0xB3 ∷ 0xB4 ∷ 0xB5 ∷ 0xB6 ∷ 0xB7 ∷ [])
+    -- region 1 begins where region 0 ends, and the address there is its: stb %g3,[%g1+8]
+    ∷ runs twoRegions (0xC6286008 ∷ []) (0x3000 ∷ 0x3008 ∷ []) 0x1000 start 1 sixteenBytes gives stores (0xA0 ∷ 0xA1 ∷ 0xA2 ∷ 0xA3 ∷ 0xA4 ∷ 0xA5 ∷ 0xA6 ∷ 0xA7 ∷ 0x78 ∷ 0xB1 ∷ 0xB2 ∷ 0xB3 ∷ 0xB4 ∷ 0xB5 ∷ 0xB6 ∷ 0xB7 ∷ [])
     -- addresses add modulo 2^32: add %g1,4,%g5; ldub [%g5-3],%g6
     ∷ from start 2 (0x8A006004 ∷ 0xCC097FFD ∷ []) gives counted Spent 2 0x3004 0xA1 0
     ∷ []
@@ -335,8 +343,9 @@ refusalRows =
     -- one base for each region
     ∷ laid (0x3000 ∷ []) 0x1000 sixteenBytes gives handedBack 22 sixteenBytes
     ∷ laid (0x3000 ∷ 0x2000 ∷ 0x4000 ∷ []) 0x1000 sixteenBytes gives handedBack 22 sixteenBytes
-    -- overlapping; touching, either way round
+    -- overlapping, also one that is not the region before; touching, either way round
     ∷ laid (0x3000 ∷ 0x3000 ∷ []) 0x1000 sixteenBytes gives handedBack 22 sixteenBytes
+    ∷ runs (uniform 3 8 0) (0x01000000 ∷ []) (0x3000 ∷ 0x2000 ∷ 0x3000 ∷ []) 0x1000 start 1 (replicate 24 0) gives handedBack 22 (replicate 24 0)
     ∷ laid (0x3000 ∷ 0x3008 ∷ []) 0x1000 sixteenBytes gives kept Spent 1
     ∷ laid (0x3008 ∷ 0x3000 ∷ []) 0x1000 sixteenBytes gives kept Spent 1
     -- the return address
