@@ -197,7 +197,7 @@ def raw_outside():
         yield format3(3, 1, op3, 2, (k % 2) << 13 | 3)
     for op2 in (0, 1, 3, 5, 6, 7):
         yield from (1 << 25 | op2 << 22 | low for low in (0, 0x3FFFFF))
-    yield from (0x40000000, 0x5FFFFFFF, 0x60000000, 0x7FFFFFFF)
+    yield from (0x40000000, 0x40800002, 0x41000000, 0x5FFFFFFF, 0x60000000, 0x7FFFFFFF)
     yield from (0x81C3E008 ^ 1 << bit for bit in range(32))
 
 

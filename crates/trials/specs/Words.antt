@@ -85,6 +85,8 @@ wordRows =
     ∷ word 0xC26A0000 gives reads (Unread notRead)
     ∷ word 0xC27A0000 gives reads (Unread notRead)
     ∷ word 0x40000002 gives reads (Unread notRead)
+    ∷ word 0x40800002 gives reads (Unread notRead)
+    ∷ word 0x41000000 gives reads (Unread notRead)
     ∷ word 0x11800002 gives reads (Unread notRead)
     ∷ word 0x11C00002 gives reads (Unread notRead)
     ∷ word 0x00000000 gives reads (Unread notRead)
