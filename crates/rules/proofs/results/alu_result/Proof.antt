@@ -1,4 +1,5 @@
 -- The first rule that matches.
+use mathlib.Core.Path.{sym, _∙_}
 use Rattle.rules.specs.Result.{aluResult}
 use borrow.Author.Needs.{needs}
 use Rattle.rules.proofs.results.alu_result.Statement.{statement}
@@ -30,7 +31,7 @@ unfolding aluResult
 returns c =
     let one = c .before .before .before .before in
     rw
-    (← one .before .before .before .both-constants .ensures, one .if1 .taken, c .constant .ensures, c .before .alu .ensures, c .before .before .word-of2 .ensures, c .before .before .before .word-of .ensures)
+    (sym (one .before .before .before .both-constants .ensures) ∙ one .if1 .taken, c .constant .ensures, c .before .alu .ensures, c .before .before .word-of2 .ensures, c .before .before .before .word-of .ensures)
 
 is-zero-requires : tie.Need-is-zero-requires
 is-zero-requires c κs = search needs
