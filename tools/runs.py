@@ -53,14 +53,15 @@ import sys
 
 sys.dont_write_bytecode = True
 import script
+from parts import NOP, RETURN
 
 DATA = os.path.join(os.path.dirname(os.path.abspath(__file__)), "..", "crates", "runs", "stdin")
 # How the first run ends that is made here; none ends so that is not.
 MADE = 20
 BAD_SHAPE, BAD_PLACEMENT, NO_WORD, UNSET_READ, UNALIGNED = 21, 22, 101, 102, 104
-# The words of those that are made: a nop, the leaf return, a branch always to the second word after it, r1 and r2 added, and a store of
-# the half in r2 at the address in r1.
-NOP, RETURN, BRANCH, ADD, STORE = 0x01000000, 0x81C3E008, 0x10800002, 0x86004002, 0xC4304000
+# Words of those that are made, beside the nop and the return: a branch always to the second word after it, r1 and r2 added, and a store
+# of the half in r2 at the address in r1.
+BRANCH, ADD, STORE = 0x10800002, 0x86004002, 0xC4304000
 LINK = 15
 # The program's room: bytes of memory, words.
 MEMORY, WORDS = 2048, 132
