@@ -44,11 +44,15 @@ unlessFault number w (At place) = refuse number w place
 abbrev pub policyPass : Policy → Answer
 policyPass p = need (policyOk p) badPolicy 0 0
 
--- "21 words not 1 to 128, rows not 392 bytes a word, or the entry row or result entry badly formed", of n words
+-- of "21 words not 1 to 128, rows not 392 bytes a word, or the entry row or result entry badly formed" what is asked of n words and the entry
+-- row ..
+abbrev pub startOk : Policy → ℕ → List ℕ → Bool
+startOk p n entry = leb 1 n && leb n mostWords && eqb (length entry) rowBytes && flawless (formFault (p .regions .count) (p .regions .sizes) entry 0)
+
+-- .. and with them of the rows and the result entry
 unfoldable pub shapeOk : Policy → ℕ → List ℕ → List ℕ → List ℕ → Bool
 shapeOk p n rows entry result =
-    leb 1 n && leb n mostWords && eqb (length rows) (rowBytes * n) && eqb (length entry) rowBytes && eqb (length result) entryBytes
-    && flawless (formFault (p .regions .count) (p .regions .sizes) entry 0)
+    startOk p n entry && eqb (length rows) (rowBytes * n) && eqb (length result) entryBytes
     && entryFormed (p .regions .count) (p .regions .sizes) result 0
 
 abbrev pub shapePass : Policy → ℕ → List ℕ → List ℕ → List ℕ → Answer

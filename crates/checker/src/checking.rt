@@ -1,7 +1,7 @@
 // The check: the passes in their order (specs/Passes.antt).
 ghost use mathlib.Core.Path.{_≡_};
 ghost use lib.ListN.{length};
-ghost use Rattle.checker.specs.Passes.{shapeOk, checkOf};
+ghost use Rattle.checker.specs.Passes.{startOk, shapeOk, checkOf};
 use crate::Answer;
 use crate::answers::refuse;
 use crate::looking::word_pass;
@@ -23,10 +23,9 @@ use v8::numbers::BAD_POLICY;
 use v8::numbers::BAD_SHAPE;
 use v8::numbers::MOST_WORDS;
 
-// Whether words, rows, entry row and result entry are as many as they must be, and the last two
-// well formed.
-fn shape_ok(policy: Policy, words: &[u32], rows: &[u8], entry: &[u8], result: &[u8]) -> bool
-    ensures { λ r. ⌜ r ≡ shapeOk policy (length (now (words .entry))) (now (rows .entry)) (now (entry .entry)) (now (result .entry)) ⌝ }
+// Whether the words are as many as they may be, and the entry row is one that is well formed.
+pub fn start_ok(policy: Policy, words: &[u32], entry: &[u8]) -> bool
+    ensures { λ r. ⌜ r ≡ startOk policy (length (now (words .entry))) (now (entry .entry)) ⌝ }
 {
     let count = words.len();
     if count < 1 {
@@ -35,18 +34,28 @@ fn shape_ok(policy: Policy, words: &[u32], rows: &[u8], entry: &[u8], result: &[
     if MOST_WORDS < count {
         return false;
     }
-    if rows.len() != ROW_BYTES * count {
+    if entry.len() != ROW_BYTES {
         return false;
     }
-    if entry.len() != ROW_BYTES {
+    let flaw = form_fault(policy.regions.count, &policy.regions.sizes, entry, 0);
+    flawless(flaw)
+}
+
+// Whether words, rows, entry row and result entry are as many as they must be, and the last two
+// well formed.
+fn shape_ok(policy: Policy, words: &[u32], rows: &[u8], entry: &[u8], result: &[u8]) -> bool
+    ensures { λ r. ⌜ r ≡ shapeOk policy (length (now (words .entry))) (now (rows .entry)) (now (entry .entry)) (now (result .entry)) ⌝ }
+{
+    if !start_ok(policy, words, entry) {
+        return false;
+    }
+    if rows.len() != ROW_BYTES * words.len() {
         return false;
     }
     if result.len() != ENTRY_BYTES {
         return false;
     }
-    let flaw = form_fault(policy.regions.count, &policy.regions.sizes, entry, 0);
-    let formed = entry_formed(policy.regions.count, &policy.regions.sizes, result, 0);
-    flawless(flaw) & formed
+    entry_formed(policy.regions.count, &policy.regions.sizes, result, 0)
 }
 
 // Checks a routine: the first condition that is broken, with the word and the register named, or 0 0 0

@@ -3,7 +3,7 @@
 use v8::WordIndex;
 
 // Answers.
-mod answers;
+pub mod answers;
 // The flow of a word.
 mod landing;
 // Rows of words, and what is asked of a row that arrives.
@@ -11,13 +11,14 @@ mod arrival;
 // The edges of a word.
 mod edges;
 // The passes over the words.
-mod passes;
+pub mod passes;
 // The words' pass.
 mod looking;
 // The check.
 mod checking;
 
 pub use checking::check;
+pub use checking::start_ok;
 pub use edges::change_by;
 
 // An answer: the number of the first condition that is broken, the word and the register named;

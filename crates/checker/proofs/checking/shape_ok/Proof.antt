@@ -1,72 +1,78 @@
 -- By the tests of the definition.
-use mathlib.Core.Bool.{and-false}
-use borrow.Author.Tests.{le-leb, lt-leb, eq-eqb, ne-eqb}
+use Prim.Native.Nat.{ℕ, _≤_}
+use mathlib.Core.Path.{_≡_, sym, _∙_}
+use mathlib.Core.Bool.{Bool, true, false, and-false, _&&_}
+use mathlib.Core.List.{List}
+use native.Mathlib.Omega.{arith}
+use lib.ListN.{length}
+use denote.Ref.{now}
+use borrow.Author.Tests.{eq-eqb, ne-eqb, not-true, not-false}
 use Rattle.v8.specs.Numbers.{mostWords}
-use Rattle.rows.specs.Geometry.{rowBytes, entryBytes}
-use Rattle.checker.specs.Passes.{shapeOk}
+use Rattle.v8.proofs.Search.{needed-le}
+use Rattle.policy.specs.declared.Policy.{Policy}
+use Rattle.rows.specs.Geometry.{entryBytes}
+use Rattle.checker.specs.Passes.{startOk, shapeOk}
 use borrow.Author.Needs.{needs}
 use Rattle.checker.proofs.checking.shape_ok.Statement.{statement}
 use Rattle.checker.proofs.checking.shape_ok.Tie as tie
 
+-- the first of four tests fails; the last decides
+first-fails : (a b c d : Bool) → a ≡ false → false ≡ a && b && c && d
+first-fails a b c d e = rw e
+
+last-decides : (a b c d : Bool) → a ≡ true → b ≡ true → c ≡ true → d ≡ a && b && c && d
+last-decides a b c d e f g = rw (e, f, g)
+
+words-most : (p : Policy) (n : ℕ) (entry : List ℕ) → startOk p n entry ≡ true → n ≤ mostWords
+words-most p n entry e = needed-le (startOk p n entry) n mostWords e (λ f. simp (f, and-false))
+
+abbrev start : tie.Start → Bool
+start s = startOk (s .args .t1) (length (now (s .args .words))) (now (s .args .entry))
+
+abbrev start1 : tie.Else1 → tie.Start
+start1 c = c .before .before .before .before .before .before
+
+started : (c : tie.Else1) → start (start1 c) ≡ true
+started c = sym (c .before .start-ok .ensures) ∙ not-false _ (c .if1 .left)
+
+start-ok-requires : tie.Need-start-ok-requires
+start-ok-requires c κs = search needs
+
 returns : tie.Need-returns
 unfolding shapeOk
-returns c = rw (lt-leb 1 _ (c .if1 .taken))
+returns c = first-fails (start (c .before .before .before .before .before .before)) _ _ _ (sym (c .before .start-ok .ensures) ∙ not-true _ (c .if1 .taken))
+
+mul-if2 : tie.Need-mul-if2
+mul-if2 c =
+    let s = start1 c .args in
+    record { fits = omega (arith, words-most (s .t1) (length (now (s .words))) (now (s .entry)) (started c)) }
 
 returns-2 : tie.Need-returns-2
 unfolding shapeOk
-returns-2 c = rw (lt-leb _ mostWords (c .if2 .taken), and-false)
-
-mul-if3 : tie.Need-mul-if3
-mul-if3 c = search needs
+returns-2 c = rw (ne-eqb _ _ (c .if2 .taken), and-false)
 
 returns-3 : tie.Need-returns-3
 unfolding shapeOk
-returns-3 c = rw (ne-eqb _ _ (c .if3 .taken), and-false)
-
-returns-4 : tie.Need-returns-4
-unfolding shapeOk
-returns-4 c = rw (ne-eqb _ rowBytes (c .if4 .taken), and-false)
-
-returns-5 : tie.Need-returns-5
-unfolding shapeOk
-returns-5 c = rw (ne-eqb _ entryBytes (c .if5 .taken), and-false)
-
-form-fault-requires : tie.Need-form-fault-requires
-form-fault-requires c κs = search needs
+returns-3 c = rw (ne-eqb _ entryBytes (c .if3 .taken), and-false)
 
 entry-formed-requires : tie.Need-entry-formed-requires
 entry-formed-requires c κs = search needs
 
-flawless-requires : tie.Need-flawless-requires
-flawless-requires c κs = search needs
-
-returns-6 : tie.Need-returns-6
+returns-4 : tie.Need-returns-4
 unfolding shapeOk
-returns-6 c =
-    let fault = c .before .before .before .before in
-    let i = fault .before .before .before in
-    rw (
-      le-leb 1 _ (i .before .before .before .before .if1 .left),
-      le-leb _ mostWords (i .before .before .before .if2 .left),
-      eq-eqb _ _ (i .before .before .if3 .left),
-      eq-eqb _ rowBytes (i .before .if4 .left),
-      eq-eqb _ entryBytes (i .if5 .left),
-      ← fault .form-fault .ensures,
-      ← c .flawless .ensures,
-      ← c .before .entry-formed .ensures,
-    )
+returns-4 c =
+    let i = c .before .before .before in
+    c .entry-formed .ensures
+    ∙ last-decides (start (start1 (i .before .before))) _ _ _ (started (i .before .before)) (eq-eqb _ _ (i .before .if2 .left)) (eq-eqb _ entryBytes (i .if3 .left))
 
 pub shape-ok-spec : {M : Type 1} → statement M
 shape-ok-spec =
     tie.close
     (tie.spec
+    start-ok-requires
     returns
+    mul-if2
     returns-2
-    mul-if3
     returns-3
-    returns-4
-    returns-5
-    form-fault-requires
     entry-formed-requires
-    flawless-requires
-    returns-6)
+    returns-4)
