@@ -1,0 +1,5 @@
+pub mod Table
+pub mod Rules
+pub mod Listing
+pub mod Laws
+pub mod Work

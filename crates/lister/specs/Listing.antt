@@ -1,0 +1,76 @@
+-- The listing (document 02, request 2): "the smallest set of marks closed under these rules". It is found from a table with no marks, which
+-- is raised by all that its words send until it is closed; Laws says that it is the smallest, whatever the order of raising.
+use Prim.Native.Nat.{ℕ, zero, suc, _-_, _*_}
+use mathlib.Core.Bool.{Bool, cond, _&&_}
+use mathlib.Core.List.{List, [], _∷_, _++_}
+use lib.Dec.{eqb}
+use lib.ListN.{length, replicate}
+use Rattle.v8.specs.Numbers.{badShape}
+use Rattle.v8.specs.declared.Reading.{Reading}
+use Rattle.flow.specs.Readings.{readingsOf}
+use Rattle.policy.specs.declared.Policy.{Policy}
+use Rattle.checker.specs.declared.Answer.{Answer}
+use Rattle.checker.specs.Answer.{passes, andThen, need, passOf}
+use Rattle.checker.specs.Passes.{policyPass, startOk, readPass, flowPass}
+use Rattle.marks.specs.Marks.{notReached, registerCount}
+use Rattle.lister.specs.Table.{tableMarks, raisedAt}
+use Rattle.lister.specs.Rules.{Sent, nowhere, arriving, entrySent, sentBy, closed}
+
+-- a table raised by what is sent
+abbrev pub raisedBy : List ℕ → Sent → List ℕ
+raisedBy table nowhere = table
+raisedBy table (arriving w marks) = raisedAt table w marks
+
+abbrev pub raisedByAll : List ℕ → List Sent → List ℕ
+raisedByAll table [] = table
+raisedByAll table (s ∷ ss) = raisedByAll (raisedBy table s) ss
+
+module _ (readings : List Reading) (entry : List ℕ) where
+  -- raised by all that the words below w send in another table
+  unfoldable pub raisedByWords : List ℕ → List ℕ → ℕ → List ℕ
+  raisedByWords from table zero = table
+  raisedByWords from table (suc w) = raisedByAll (raisedByWords from table w) (sentBy readings from w)
+
+  -- raised by all that the entry row and the words send
+  unfoldable pub raisedOnce : List ℕ → List ℕ
+  raisedOnce table = raisedByWords table (raisedBy table (entrySent entry)) (length readings)
+
+  -- "raised until closed", at most n times
+  unfoldable pub raisedUntilClosed : ℕ → List ℕ → List ℕ
+  raisedUntilClosed zero table = table
+  raisedUntilClosed (suc n) table = cond (closed readings entry table) table (raisedUntilClosed n (raisedOnce table))
+
+  -- "all starting as not reached"
+  abbrev pub noMarks : List ℕ
+  noMarks = replicate (registerCount * length readings) notReached
+
+  -- the listing of the words: each raise makes the table higher, and it has height 2 at each mark
+  unfoldable pub listingOf : List ℕ
+  listingOf = raisedUntilClosed (2 * (registerCount * length readings)) noMarks
+
+-- the whole table: there are no marks behind the last word
+abbrev pub wholeTable : List ℕ → List ℕ
+wholeTable listing = listing ++ replicate (tableMarks - length listing) notReached
+
+-- "Checks: 20, 21 (without rows and result entry, which aren't handed in; also a table of another length), 2, 24 and 3 come as in the check"
+abbrev pub listable : Policy → ℕ → List ℕ → ℕ → Bool
+listable p n entry size = startOk p n entry && eqb size tableMarks
+
+unfoldable pub listingAnswer : Policy → List Reading → List ℕ → ℕ → Answer
+listingAnswer p readings entry size =
+    andThen (policyPass p)
+    (andThen (need (listable p (length readings) entry size) badShape 0 0)
+    (andThen (passOf (readPass readings) (length readings))
+    (passOf (flowPass readings) (length readings))))
+
+-- what the call leaves: the answer, and the lent table; "a refusal leaves the lent table's bytes"
+pub record Listed : Type 0 where
+  pub answer : Answer
+  pub table : List ℕ
+
+abbrev pub listedWith : Answer → List ℕ → List ℕ → Listed
+listedWith answer listing table = record { answer = answer; table = cond (passes answer) (wholeTable listing) table }
+
+unfoldable pub listed : Policy → List ℕ → List ℕ → List ℕ → Listed
+listed p words entry table =
+    listedWith (listingAnswer p (readingsOf words) entry (length table)) (listingOf (readingsOf words) entry) table

@@ -1,0 +1,71 @@
+// The listing of kinds, as an open call (specs/Listing.antt).
+ghost use mathlib.Core.Path.{_≡_};
+ghost use Prim.Native.Nat.{_≤_};
+ghost use lib.ListN.{length};
+ghost use Rattle.lister.specs.Table.{tableMarks};
+ghost use Rattle.lister.specs.Listing.{listable, listed};
+use crate::TABLE_MARKS;
+use crate::raising::raise_until_closed;
+use checker::Answer;
+use checker::answers::accept;
+use checker::answers::refuse;
+use checker::passes::flow_pass;
+use checker::passes::read_pass;
+use checker::start_ok;
+use flow::readings::examine_all;
+use flow::readings::read_all;
+use policy::Policy;
+use v8::WordIndex;
+use v8::numbers::ACCEPTED;
+use v8::numbers::BAD_POLICY;
+use v8::numbers::BAD_SHAPE;
+
+// Whether the words are as many as they may be, the entry row is well formed, and the table is of the
+// length of one.
+fn listable(policy: Policy, words: &[u32], entry: &[u8], size: usize) -> bool
+    ensures { λ r. ⌜ r ≡ listable policy (length (now (words .entry))) (now (entry .entry)) size ⌝ }
+{
+    start_ok(policy, words, entry) & (size == TABLE_MARKS)
+}
+
+// Writes all marks into a lent table of that length.
+fn copy_out(marks: &[u8; TABLE_MARKS], table: &mut [u8])
+    requires { ⌜ length (now table) ≡ tableMarks ⌝ }
+    ensures { λ _. ⌜ now (table .exit) ≡ now (marks .entry) ⌝ }
+{
+    let mut i: usize = 0;
+    while i < TABLE_MARKS {
+        table[i] = marks[i];
+        i += 1;
+    }
+}
+
+// Lists the kinds of a routine: for each word the marks of its 32 registers, in a lent table. A refusal
+// is the check's, and leaves the table as it was.
+pub fn list_kinds(policy: Policy, words: &[u32], entry: &[u8], table: &mut [u8]) -> Answer
+    ensures { λ r. ⌜
+        record { answer = r; table = now (table .exit) }
+        ≡ listed policy (now (words .entry)) (now (entry .entry)) (now (table .entry))
+        ⌝ }
+{
+    if !policy.well_formed() {
+        return refuse(BAD_POLICY, WordIndex(0), 0);
+    }
+    if !listable(policy, words, entry, table.len()) {
+        return refuse(BAD_SHAPE, WordIndex(0), 0);
+    }
+    let readings = read_all(words);
+    let read = read_pass(words, readings);
+    if read.number != ACCEPTED {
+        return read;
+    }
+    let examined = examine_all(words, readings);
+    let flows = flow_pass(words, readings, &examined);
+    if flows.number != ACCEPTED {
+        return flows;
+    }
+    let mut marks = [0u8; TABLE_MARKS];
+    raise_until_closed(words, readings, &examined, entry, &mut marks);
+    copy_out(&marks, table);
+    accept()
+}

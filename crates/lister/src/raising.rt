@@ -1,0 +1,59 @@
+// A table raised until it is closed. The words whose marks are to be passed on are flagged; the lowest
+// of them is next.
+ghost use mathlib.Core.Path.{_≡_};
+ghost use Prim.Native.Nat.{_≤_};
+ghost use lib.ListN.{length, replicate};
+ghost use Rattle.v8.specs.Numbers.{mostWords};
+ghost use Rattle.flow.specs.Readings.{readingsOf, Reads, Examines};
+ghost use Rattle.rows.specs.Geometry.{RowIn};
+ghost use Rattle.marks.specs.Marks.{notReached};
+ghost use Rattle.lister.specs.Table.{tableMarks};
+ghost use Rattle.lister.specs.Listing.{listingOf, wholeTable};
+use crate::TABLE_MARKS;
+use crate::sending::pass_on;
+use crate::table::entry_marks;
+use crate::table::raise_at;
+use v8::Reading;
+use v8::WordIndex;
+use v8::numbers::MOST_WORDS;
+use v8::numbers::NOT_READ;
+
+// Raises a table with no marks by the entry row's kinds at word 0 and by all that the words send, until
+// it is closed.
+pub fn raise_until_closed(
+    words: &[u32],
+    readings: [Reading; MOST_WORDS],
+    examined: &[bool; MOST_WORDS],
+    entry: &[u8],
+    table: &mut [u8; TABLE_MARKS],
+)
+    requires { ⌜
+        (length (now words) ≤ mostWords)
+        × Reads readings (now words)
+        × Examines (now examined) (now words)
+        × RowIn 0 (length (now entry))
+        × (now table ≡ replicate tableMarks notReached)
+        ⌝ }
+    ensures { λ _. ⌜ now (table .exit) ≡ wholeTable (listingOf (readingsOf (now (words .entry))) (now (entry .entry))) ⌝ }
+{
+    raise_at(table, 0, &entry_marks(entry));
+    let count = words.len();
+    let mut pending = [true; MOST_WORDS];
+    let mut w: usize = 0;
+    while w < count {
+        let mut next = w + 1;
+        if pending[w] & examined[w] {
+            pending[w] = false;
+            let x = readings[w];
+            let mut slot = Reading::Unread(NOT_READ);
+            if next < MOST_WORDS {
+                slot = readings[next];
+            }
+            let raised = pass_on(table, &mut pending, count, WordIndex(w as u32), x, slot);
+            if raised < next {
+                next = raised;
+            }
+        }
+        w = next;
+    }
+}
