@@ -47,5 +47,5 @@ with-related R a b r x y q la lb new old = at (eqb r 0) refl (ltb r registerCoun
     at false es false et u eu = rw (es, et) old
     at false es true et true eu =
         let l = ltb-true r registerCount et in
-        rw (es, et, eqb-true q r eu, getD-set-same a r x 0 (omega (arith, la, l)), getD-set-same b r y 0 (omega (arith, lb, l))) ?
+        rw (es, et, eqb-true q r eu, getD-set-same a r x 0 (omega (arith, la, l)), getD-set-same b r y 0 (omega (arith, lb, l))) (rw et new)
     at false es true et false eu = rw (es, et, getD-set-other a r q x 0 (eqb-false q r eu), getD-set-other b r q y 0 (eqb-false q r eu)) old
