@@ -33,7 +33,7 @@ module _ (readings : List Reading) (entry : List ℕ) where
 
   -- raised by all that the entry row and the words send
   unfoldable pub raisedOnce : List ℕ → List ℕ
-  raisedOnce table = raisedByWords table (raisedBy table (entrySent entry)) (length readings)
+  raisedOnce table = raisedByWords table (raisedBy table (entrySent (length readings) entry)) (length readings)
 
   -- "raised until closed", at most n times
   unfoldable pub raisedUntilClosed : ℕ → List ℕ → List ℕ

@@ -1,7 +1,7 @@
 -- The rules of a listing (document 02, request 2): where the marks of each word go on, and what it is that a table is closed under these
 -- rules.
 use Prim.Native.Nat.{ℕ, _+_}
-use mathlib.Core.Bool.{Bool, true, cond, _&&_}
+use mathlib.Core.Bool.{Bool, true, false, cond, _&&_}
 use mathlib.Core.List.{List, [], _∷_}
 use lib.Dec.{ltb}
 use lib.ListN.{length}
@@ -63,8 +63,8 @@ sendsReached n w x slot marks = cond (reached marks) (sends n w x slot marks) []
 unfoldable pub entryMarks : List ℕ → List ℕ
 entryMarks entry = marksBy (λ r. markOfKind (entryOf entry (entryStart 0 r) .kind))
 
-abbrev pub entrySent : List ℕ → Sent
-entrySent entry = arriving 0 (entryMarks entry)
+abbrev pub entrySent : ℕ → List ℕ → Sent
+entrySent n entry = toWord n 0 (entryMarks entry)
 
 module _ (readings : List Reading) where
   -- all that word w sends in a table; a slot that is no ordinary word too sends nothing of its own
@@ -91,4 +91,4 @@ unfoldable pub closedAt : List Reading → List ℕ → ℕ → Bool
 closedAt readings table w = allTakenIn table (sentBy readings table w)
 
 unfoldable pub closed : List Reading → List ℕ → List ℕ → Bool
-closed readings entry table = takenIn table (entrySent entry) && all (closedAt readings table) (length readings)
+closed readings entry table = takenIn table (entrySent (length readings) entry) && all (closedAt readings table) (length readings)

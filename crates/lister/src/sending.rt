@@ -2,6 +2,8 @@
 // A word that is raised by it has its own marks to pass on, and is flagged; the lowest is told, or
 // MOST_WORDS where none is raised.
 ghost use mathlib.Core.Path.{_≡_};
+ghost use mathlib.Core.Bool.{cond};
+ghost use lib.Dec.{ltb};
 ghost use Prim.Native.Nat.{_<_, _≤_};
 ghost use Rattle.v8.specs.Numbers.{mostWords};
 ghost use Rattle.v8.specs.declared.Reading.the-variants.{Read};
@@ -97,7 +99,7 @@ fn show(
 
 // The lower of two words.
 fn lower(a: usize, b: usize) -> usize
-    ensures { λ r. ⌜ (r ≤ a) × (r ≤ b) × (r < mostWords → (a ≡ r) ⊎ (b ≡ r)) ⌝ }
+    ensures { λ r. ⌜ r ≡ cond (ltb a b) a b ⌝ }
 {
     if a < b {
         return a;

@@ -63,8 +63,8 @@ pub fn is_reached(marks: &[u8; REGISTERS]) -> bool
 pub fn raise_at(table: &mut [u8; TABLE_MARKS], w: usize, marks: &[u8; REGISTERS]) -> bool
     requires { ⌜ w < mostWords ⌝ }
     ensures table { λ _. ⌜ now (table .exit) ≡ raisedAt (now (table .entry)) w (now (marks .entry)) ⌝ }
-    ensures changed { λ r. ⌜ r ≡ true → height (now (table .entry)) < height (now (table .exit)) ⌝ }
-    ensures same { λ r. ⌜ r ≡ false → now (table .exit) ≡ now (table .entry) ⌝ }
+    ensures changed { λ r. ⌜ (r ≡ true → height (now (table .entry)) < height (now (table .exit))) ⌝ }
+    ensures same { λ r. ⌜ (r ≡ false → now (table .exit) ≡ now (table .entry)) ⌝ }
 {
     let mut changed = false;
     let mut r: usize = 0;

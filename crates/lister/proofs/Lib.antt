@@ -1,0 +1,5 @@
+pub mod Places
+pub mod Tables
+pub mod Sent
+pub mod Raised
+pub mod Smallest
