@@ -3,3 +3,4 @@ pub mod Tables
 pub mod Sent
 pub mod Raised
 pub mod Smallest
+pub mod Stored

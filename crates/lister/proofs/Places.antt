@@ -1,6 +1,6 @@
 -- The places of a table: which word and register a place has, and the marks of a word, read from their places.
-use Prim.Native.Nat.{ℕ, _+_, _*_, _/_, _%_, _≤_, _<_}
-use mathlib.Core.Path.{_≡_, refl, ap, _∙_}
+use Prim.Native.Nat.{ℕ, _/_, _%_, _≤_, _<_}
+use mathlib.Core.Path.{_≡_, ap, _∙_}
 use mathlib.Core.List.{List}
 use native.Mathlib.Omega.{arith}
 use lib.ListN.{length}
@@ -33,7 +33,9 @@ mark-by f r l = rw (lt-ltb r registerCount l) (value-at f 0 registerCount r 0 l 
 
 -- the marks of a word
 pub mark-there : (table : List ℕ) (w r : ℕ) → r < registerCount → markOf (marksAt table w) r ≡ markAt table (placeOf w r)
+unfolding marksAt
 mark-there table w r l = mark-by (λ (q : ℕ). markAt table (placeOf w q)) r l
 
 pub marks-length : (table : List ℕ) (w : ℕ) → length (marksAt table w) ≡ registerCount
+unfolding marksAt
 marks-length table w = values-length (λ (q : ℕ). markAt table (placeOf w q)) 0 registerCount

@@ -20,7 +20,7 @@ abbrev pub markAt : List ℕ → ℕ → ℕ
 markAt table k = getD table k notReached
 
 -- the marks of word w
-abbrev pub marksAt : List ℕ → ℕ → List ℕ
+unfoldable pub marksAt : List ℕ → ℕ → List ℕ
 marksAt table w = marksBy (λ r. markAt table (placeOf w r))
 
 -- a word is reached if its registers have marks: all of them or none has

@@ -30,7 +30,7 @@ fn listable(policy: Policy, words: &[u32], entry: &[u8], size: usize) -> bool
 
 // Writes all marks into a lent table of that length.
 fn copy_out(marks: &[u8; TABLE_MARKS], table: &mut [u8])
-    requires { ⌜ length (now table) ≡ tableMarks ⌝ }
+    requires { ⌜ (length (now marks) ≡ tableMarks) × (length (now table) ≡ tableMarks) ⌝ }
     ensures { λ _. ⌜ now (table .exit) ≡ now (marks .entry) ⌝ }
 {
     let mut i: usize = 0;

@@ -10,7 +10,7 @@ ghost use Rattle.v8.specs.declared.Reading.the-variants.{Read};
 ghost use Rattle.lister.specs.Table.{marksAt};
 ghost use Rattle.lister.specs.Rules.{toWord, sentAlong, shown, sends, sendsReached};
 ghost use Rattle.lister.specs.Listing.{raisedBy, raisedByAll};
-ghost use Rattle.lister.specs.Work.{Worked};
+ghost use Rattle.lister.specs.Work.{Held, Worked};
 use crate::TABLE_MARKS;
 use crate::table::is_reached;
 use crate::table::marks_at;
@@ -35,7 +35,7 @@ fn send_to(
     to: WordIndex,
     marks: [u8; REGISTERS],
 ) -> usize
-    requires { ⌜ count ≤ mostWords ⌝ }
+    requires { ⌜ (count ≤ mostWords) × Held (now table) (now pending) ⌝ }
     ensures table { λ _. ⌜ now (table .exit) ≡ raisedBy (now (table .entry)) (toWord count (to .0) marks) ⌝ }
     ensures worked { λ r. ⌜ Worked (now (table .entry)) (now (pending .entry)) (now (table .exit)) (now (pending .exit)) r ⌝ }
 {
@@ -59,7 +59,7 @@ fn send_along(
     e: Edge,
     marks: [u8; REGISTERS],
 ) -> usize
-    requires { ⌜ count ≤ mostWords ⌝ }
+    requires { ⌜ (count ≤ mostWords) × Held (now table) (now pending) ⌝ }
     ensures table { λ _. ⌜ now (table .exit) ≡ raisedBy (now (table .entry)) (sentAlong count x e marks) ⌝ }
     ensures worked { λ r. ⌜ Worked (now (table .entry)) (now (pending .entry)) (now (table .exit)) (now (pending .exit)) r ⌝ }
 {
@@ -87,7 +87,7 @@ fn show(
     x: Instruction,
     marks: [u8; REGISTERS],
 ) -> usize
-    requires { ⌜ (at .0 < mostWords) × (count ≤ mostWords) ⌝ }
+    requires { ⌜ (at .0 < mostWords) × (count ≤ mostWords) × Held (now table) (now pending) ⌝ }
     ensures table { λ _. ⌜ now (table .exit) ≡ raisedBy (now (table .entry)) (shown count (at .0) x marks) ⌝ }
     ensures worked { λ r. ⌜ Worked (now (table .entry)) (now (pending .entry)) (now (table .exit)) (now (pending .exit)) r ⌝ }
 {
@@ -117,7 +117,7 @@ fn send_all(
     slot: Reading,
     marks: [u8; REGISTERS],
 ) -> usize
-    requires { ⌜ (at .0 < mostWords) × (count ≤ mostWords) ⌝ }
+    requires { ⌜ (at .0 < mostWords) × (count ≤ mostWords) × Held (now table) (now pending) ⌝ }
     ensures table { λ _. ⌜ now (table .exit) ≡ raisedByAll (now (table .entry)) (sends count (at .0) (Read x) slot marks) ⌝ }
     ensures worked { λ r. ⌜ Worked (now (table .entry)) (now (pending .entry)) (now (table .exit)) (now (pending .exit)) r ⌝ }
 {
@@ -137,7 +137,7 @@ pub fn pass_on(
     x: Reading,
     slot: Reading,
 ) -> usize
-    requires { ⌜ (at .0 < mostWords) × (count ≤ mostWords) ⌝ }
+    requires { ⌜ (at .0 < mostWords) × (count ≤ mostWords) × Held (now table) (now pending) ⌝ }
     ensures table { λ _. ⌜
         now (table .exit)
         ≡ raisedByAll (now (table .entry)) (sendsReached count (at .0) x slot (marksAt (now (table .entry)) (at .0)))

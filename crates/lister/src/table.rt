@@ -4,7 +4,7 @@ ghost use mathlib.Core.Bool.{true, false};
 ghost use Prim.Native.Nat.{_<_};
 ghost use Rattle.v8.specs.Numbers.{mostWords};
 ghost use Rattle.rows.specs.Geometry.{RowIn};
-ghost use Rattle.lister.specs.Table.{marksAt, reached, raisedAt, height};
+ghost use Rattle.lister.specs.Table.{tableMarks, marksAt, reached, raisedAt, height};
 ghost use Rattle.lister.specs.Rules.{entryMarks};
 ghost use lib.ListN.{length};
 use crate::TABLE_MARKS;
@@ -61,7 +61,7 @@ pub fn is_reached(marks: &[u8; REGISTERS]) -> bool
 
 // Raises a table by marks that arrive at word w; whether a mark has changed.
 pub fn raise_at(table: &mut [u8; TABLE_MARKS], w: usize, marks: &[u8; REGISTERS]) -> bool
-    requires { ⌜ w < mostWords ⌝ }
+    requires { ⌜ (w < mostWords) × (length (now table) ≡ tableMarks) ⌝ }
     ensures table { λ _. ⌜ now (table .exit) ≡ raisedAt (now (table .entry)) w (now (marks .entry)) ⌝ }
     ensures changed { λ r. ⌜ (r ≡ true → height (now (table .entry)) < height (now (table .exit))) ⌝ }
     ensures same { λ r. ⌜ (r ≡ false → now (table .exit) ≡ now (table .entry)) ⌝ }
