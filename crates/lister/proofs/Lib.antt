@@ -4,3 +4,4 @@ pub mod Sent
 pub mod Raised
 pub mod Smallest
 pub mod Stored
+pub mod Working

@@ -43,7 +43,7 @@ unfolding raisedAt
 raised-mark table w marks k l = from-mark w marks 0 table k l ∙ ap (λ (j : ℕ). raisedMark w marks j (markAt table k)) (omega arith)
 
 -- a place of the table, or one behind it
-inside : {C : Type 0} (table : List ℕ) (k : ℕ) → (k < length table → C) → (length table ≤ k → C) → C
+pub inside : {C : Type 0} (table : List ℕ) (k : ℕ) → (k < length table → C) → (length table ≤ k → C) → C
 inside {C} table k f g = at (ltb k (length table)) refl
   where
     at : (t : Bool) → ltb k (length table) ≡ t → C
