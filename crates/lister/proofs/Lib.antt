@@ -5,3 +5,4 @@ pub mod Raised
 pub mod Smallest
 pub mod Stored
 pub mod Working
+pub mod Closing

@@ -10,6 +10,7 @@ ghost use Rattle.marks.specs.Marks.{notReached};
 ghost use Rattle.lister.specs.Table.{tableMarks};
 ghost use Rattle.lister.specs.Listing.{listingOf, wholeTable};
 use crate::TABLE_MARKS;
+use crate::sending::lower;
 use crate::sending::pass_on;
 use crate::table::entry_marks;
 use crate::table::raise_at;
@@ -28,7 +29,8 @@ pub fn raise_until_closed(
     table: &mut [u8; TABLE_MARKS],
 )
     requires { ⌜
-        (length (now words) ≤ mostWords)
+        (1 ≤ length (now words))
+        × (length (now words) ≤ mostWords)
         × Reads readings (now words)
         × Examines (now examined) (now words)
         × RowIn 0 (length (now entry))
@@ -36,24 +38,24 @@ pub fn raise_until_closed(
         ⌝ }
     ensures { λ _. ⌜ now (table .exit) ≡ wholeTable (listingOf (readingsOf (now (words .entry))) (now (entry .entry))) ⌝ }
 {
-    raise_at(table, 0, &entry_marks(entry));
+    let marks = entry_marks(entry);
+    raise_at(table, 0, &marks);
     let count = words.len();
     let mut pending = [true; MOST_WORDS];
     let mut w: usize = 0;
     while w < count {
-        let mut next = w + 1;
-        if pending[w] & examined[w] {
-            pending[w] = false;
-            let x = readings[w];
-            let mut slot = Reading::Unread(NOT_READ);
-            if next < MOST_WORDS {
-                slot = readings[next];
-            }
-            let raised = pass_on(table, &mut pending, count, WordIndex(w as u32), x, slot);
-            if raised < next {
-                next = raised;
-            }
+        let next = w + 1;
+        if !(pending[w] & examined[w]) {
+            w = next;
+            continue;
         }
-        w = next;
+        pending[w] = false;
+        let x = readings[w];
+        let mut slot = Reading::Unread(NOT_READ);
+        if next < MOST_WORDS {
+            slot = readings[next];
+        }
+        let raised = pass_on(table, &mut pending, count, WordIndex(w as u32), x, slot);
+        w = lower(raised, next);
     }
 }

@@ -98,7 +98,7 @@ fn show(
 }
 
 // The lower of two words.
-fn lower(a: usize, b: usize) -> usize
+pub fn lower(a: usize, b: usize) -> usize
     ensures { λ r. ⌜ r ≡ cond (ltb a b) a b ⌝ }
 {
     if a < b {
