@@ -156,7 +156,7 @@ module _ (readings : List Reading) (entry : List ℕ) where
         (λ (z : v < w). still-closed v (worked .below v b) (h .below v z i))
         (eq-or-lt-of-le (omega (arith, m)))
 
-    pub raises-on : (next : ℕ) → next ≡ cond (ltb a (w + 1)) a (w + 1) → Raises after pendingAfter next
+    raises-on : (next : ℕ) → next ≡ cond (ltb a (w + 1)) a (w + 1) → Raises after pendingAfter next
     raises-on next z =
         record {
           held = worked .held;
@@ -173,7 +173,7 @@ module _ (readings : List Reading) (entry : List ℕ) where
             at true t b = (b, omega (arith, b, ltb-true a (w + 1) t))
             at false t b = (omega (arith, b, ltb-false a (w + 1) t), b)
 
-    pub falls-on : (next : ℕ) → next ≡ cond (ltb a (w + 1)) a (w + 1) → left after next < left table w
+    falls-on : (next : ℕ) → next ≡ cond (ltb a (w + 1)) a (w + 1) → left after next < left table w
     falls-on next z = subst (λ (u : ℕ). left after u < left table w) (sym z) (at (ltb a (w + 1)) refl)
       where
         at : (t : Bool) → ltb a (w + 1) ≡ t → left after (cond t a (w + 1)) < left table w
@@ -182,12 +182,19 @@ module _ (readings : List Reading) (entry : List ℕ) where
             omega (arith, worked .higher (omega (arith, b, l, most)), height-most after, worked .held .0, l, most)
         at false t = omega (arith, worked .high, height-most after, worked .held .0, l)
 
+    -- the table goes on to be raised from the lower of the next word and the lowest that was raised, and what is left falls
+    pub goes-on : (next : ℕ) → next ≡ cond (ltb a (w + 1)) a (w + 1) → Raises after pendingAfter next × (left after next < left table w)
+    goes-on next z = (raises-on next z, falls-on next z)
+
+  -- the listing has the places of a whole table
+  pub listing-whole : count ≤ mostWords → length (wholeTable (listingOf readings entry)) ≡ tableMarks
+  listing-whole most = whole-length (listingOf readings entry) (omega (arith, listing-length readings entry, most))
+
   -- in the end
   pub raises-end : (table : List ℕ) (pending : List Bool) (w : ℕ) → count ≤ mostWords → Raises table pending w → count ≤ w
       → table ≡ wholeTable (listingOf readings entry)
   raises-end table pending w most h l =
       let listing = listingOf readings entry in
-      let long = listing-length readings entry in
       let shut = closed-each readings entry table (h .entered) (λ v i. h .below v (omega (arith, i, l)) i) in
-      ext-getD notReached table (wholeTable listing) (h .held .0 ∙ sym (whole-length listing (omega (arith, long, most))))
+      ext-getD notReached table (wholeTable listing) (h .held .0 ∙ sym (listing-whole most))
       (λ k i. listing-unique readings entry table (shut, h .least) k ∙ sym (whole-mark listing k))

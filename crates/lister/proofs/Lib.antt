@@ -6,3 +6,4 @@ pub mod Smallest
 pub mod Stored
 pub mod Working
 pub mod Closing
+pub mod Answering

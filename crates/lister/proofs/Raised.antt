@@ -79,9 +79,10 @@ along-within n x e marks = cond-both (Within n) (e .exists) (λ f. end-within n 
 
 sends-within : (n w : ℕ) (x slot : Reading) (marks : List ℕ) → AllWithin n (sends n w x slot marks)
 sends-within n w (Unread number) slot marks = tt
-sends-within n w (Read x) slot marks =
-    (cond-both (Within n) (isTransfer x) (λ f. to-within n (w + 1) marks) (λ f. tt),
-    (along-within n slot (edgeOf w x true) (marksAfter marks x), (along-within n slot (edgeOf w x false) (marksAfter marks x), tt)))
+sends-within n w (Read x) slot marks = (
+  cond-both (Within n) (isTransfer x) (λ f. to-within n (w + 1) marks) (λ f. tt),
+  (along-within n slot (edgeOf w x true) (marksAfter marks x), (along-within n slot (edgeOf w x false) (marksAfter marks x), tt)),
+)
 
 pub sent-within : (readings : List Reading) (table : List ℕ) (w : ℕ) → AllWithin (length readings) (sentBy readings table w)
 unfolding sentBy

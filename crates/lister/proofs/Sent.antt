@@ -117,8 +117,10 @@ sent-taken readings a b w p e = at (examined readings w) e
   where
     n : ℕ
     n = length readings
+
     x : Reading
     x = readingAt readings w
+
     slot : Reading
     slot = readingAt readings (w + 1)
 

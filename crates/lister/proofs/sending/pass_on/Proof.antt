@@ -33,16 +33,18 @@ returns-2 : tie.Need-returns-2
 returns-2 c =
     let x = c .before .before .before .before in
     let i = x .before .before in
-    let m = i .before .before .before in
-    (rw (← m .marks-at .ensures, ← i .before .is-reached .ensures, not-false (i .before .is-reached .result) (i .if1 .left), x .x .given .1) (c .send-all .ensures .0),
-    c .send-all .ensures .1)
+    let m = i .before .before .before in (
+      rw (← m .marks-at .ensures, ← i .before .is-reached .ensures, not-false (i .before .is-reached .result) (i .if1 .left), x .x .given .1) (c .send-all .ensures .0),
+      c .send-all .ensures .1,
+    )
 
 returns-3 : tie.Need-returns-3
 returns-3 c =
     let i = c .before .before in
-    let m = i .before .before .before in
-    (rw (← m .marks-at .ensures, ← i .before .is-reached .ensures, not-false (i .before .is-reached .result) (i .if1 .left), c .enum-told .given .1),
-    worked-none _ _ (m .before .before .before .pre .2))
+    let m = i .before .before .before in (
+      rw (← m .marks-at .ensures, ← i .before .is-reached .ensures, not-false (i .before .is-reached .result) (i .if1 .left), c .enum-told .given .1),
+      worked-none _ _ (m .before .before .before .pre .2),
+    )
 
 pub pass-on-spec : {M : Type 1} → statement M
 pass-on-spec =

@@ -34,10 +34,11 @@ returns c =
     let three = c .before .before in
     let two = three .before .before .before .before in
     let after = two .before .before .before .before in
-    let one = after .before in
-    (rw (← after .marks-after .ensures, ← two .before .edge-of .ensures, ← three .before .edge-of2 .ensures, ← one .show .ensures .0, ← two .send-along .ensures .0) (three .send-along2 .ensures .0),
-    rw (c .lower2 .ensures, c .before .lower .ensures)
-    (worked-then _ _ _ _ _ _ _ _ (one .show .ensures .1) (worked-then _ _ _ _ _ _ _ _ (two .send-along .ensures .1) (three .send-along2 .ensures .1))))
+    let one = after .before in (
+      rw (← after .marks-after .ensures, ← two .before .edge-of .ensures, ← three .before .edge-of2 .ensures, ← one .show .ensures .0, ← two .send-along .ensures .0) (three .send-along2 .ensures .0),
+      rw (c .lower2 .ensures, c .before .lower .ensures)
+          (worked-then _ _ _ _ _ _ _ _ (one .show .ensures .1) (worked-then _ _ _ _ _ _ _ _ (two .send-along .ensures .1) (three .send-along2 .ensures .1))),
+    )
 
 pub send-all-spec : {M : Type 1} → statement M
 send-all-spec =

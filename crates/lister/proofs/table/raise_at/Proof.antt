@@ -1,6 +1,5 @@
 use denote.Ref.{now}
 use mathlib.Core.Logic.{⊎-elim}
-
 use Rattle.marks.specs.Marks.{registerCount}
 use Rattle.lister.specs.Table.{placeOf}
 use Rattle.lister.proofs.Stored.{Raising, raising-none, raising-new, raising-old, raising-done}

@@ -1,0 +1,89 @@
+-- The answer to a listing, pass by pass, and what the call leaves.
+use Prim.Native.Nat.{ℕ, _≤_}
+use mathlib.Core.Path.{_≡_, refl, sym, ap, _∙_}
+use mathlib.Core.Bool.{Bool, true, false, cond, not, and-false}
+use mathlib.Core.List.{List}
+use lib.ListN.{length}
+use lib.Dec.{ltb}
+use borrow.Author.Tests.{ltb-true, eq-eqb, ne-eqb}
+use Rattle.v8.specs.Numbers.{badPolicy, badShape, mostWords}
+use Rattle.v8.specs.Search.{first}
+use Rattle.v8.proofs.Search.{first-passes, needed-le, needed-eq}
+use Rattle.flow.specs.Readings.{readingsOf}
+use Rattle.flow.proofs.Fetched.{read-count}
+use Rattle.policy.specs.declared.Policy.{Policy}
+use Rattle.policy.specs.Policy.{policyOk}
+use Rattle.rows.specs.Geometry.{rowBytes}
+use Rattle.rows.proofs.Tests.{false-true}
+use Rattle.checker.specs.declared.Answer.{Answer}
+use Rattle.checker.specs.Answer.{accepted, refuse, passes, refuses, andThen, passOf}
+use Rattle.checker.specs.Passes.{readPass, flowPass}
+use Rattle.lister.specs.Table.{tableMarks}
+use Rattle.lister.specs.Listing.{Listed, listingOf, wholeTable, listable, listingAnswer, listed}
+
+-- a pass over the words whose answer has the number 0 accepts
+pub pass-accepts : (f : ℕ → Answer) (n : ℕ) (a : Answer) → a ≡ passOf f n → a .number ≡ 0 → a ≡ accepted
+unfolding passOf
+pass-accepts f n a e z = at (ltb (first (refuses f) 0 n) n) refl e
+  where
+    clash : (b : Answer) → not (passes b) ≡ true → a ≡ b → a ≡ accepted
+    clash b q r = false-true (sym (ap not (eq-eqb (a .number) 0 z)) ∙ ap (λ (c : Answer). not (passes c)) r ∙ q)
+
+    at : (t : Bool) → ltb (first (refuses f) 0 n) n ≡ t → a ≡ cond t (f (first (refuses f) 0 n)) accepted → a ≡ accepted
+    at true t r = clash (f (first (refuses f) 0 n)) (first-passes (refuses f) 0 n (ltb-true (first (refuses f) 0 n) n t)) r
+    at false t r = r
+
+module _ (p : Policy) (words entry table : List ℕ) where
+  abbrev pub answer : Answer
+  answer = listingAnswer p (readingsOf words) entry (length table)
+
+  abbrev pub fits : ℕ → Bool
+  fits n = listable p n entry (length table)
+
+  -- what a table and an entry row that may be listed tell of the lengths
+  pub record Lengths : Type 0 where
+    pub some : 1 ≤ length words
+    pub most : length words ≤ mostWords
+    pub row : length entry ≡ rowBytes
+    pub marks : length table ≡ tableMarks
+
+  pub lengths : fits (length words) ≡ true → Lengths
+  lengths e =
+      let t = fits (length words) in
+      record {
+        some = needed-le t 1 (length words) e (λ f. simp f);
+        most = needed-le t (length words) mostWords e (λ f. simp (f, and-false));
+        row = needed-eq t (length entry) rowBytes e (λ f. simp (f, and-false));
+        marks = needed-eq t (length table) tableMarks e (λ f. simp (f, and-false));
+      }
+
+  as-read : {t : Bool} → fits (length words) ≡ t → fits (length (readingsOf words)) ≡ t
+  as-read e = ap fits (read-count words) ∙ e
+
+  pub bad-policy : policyOk p ≡ false → answer ≡ refuse badPolicy 0 0
+  unfolding listingAnswer
+  bad-policy e = rw e
+
+  pub bad-shape : policyOk p ≡ true → fits (length words) ≡ false → answer ≡ refuse badShape 0 0
+  unfolding listingAnswer
+  bad-shape e f = rw (e, as-read f)
+
+  -- what is left of it from the reading and from the flow of the words on
+  abbrev pub fromFlow : Answer
+  fromFlow = passOf (flowPass (readingsOf words)) (length (readingsOf words))
+
+  abbrev pub fromReads : Answer
+  fromReads = andThen (passOf (readPass (readingsOf words)) (length (readingsOf words))) fromFlow
+
+  pub from-reads : policyOk p ≡ true → fits (length words) ≡ true → answer ≡ fromReads
+  unfolding listingAnswer
+  from-reads e f = rw (e, as-read f)
+
+  -- a refusal leaves the table; acceptance leaves the listing
+  pub refused : (a : Answer) → answer ≡ a → (a .number ≡ 0 → ⊥) → record { answer = a; table = table } ≡ listed p words entry table
+  unfolding listed
+  refused a e n = rw (e, ne-eqb (a .number) 0 n)
+
+  pub lists : answer ≡ accepted → record { answer = accepted; table = wholeTable (listingOf (readingsOf words) entry) } ≡ listed p words entry table
+  unfolding listed
+  lists e = rw e
