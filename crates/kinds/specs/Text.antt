@@ -5,6 +5,7 @@ use mathlib.Core.List.{List, [], _∷_}
 use lib.Dec.{ltb, eqb}
 use lib.ListN.{getD}
 use Rattle.marks.specs.Marks.{valuesFrom}
+use Rattle.output.specs.Line.{space}
 use Rattle.lister.specs.Table.{placeOf, markAt}
 
 -- not reached, number, address, address or null, return, unset: `.`, `n`, `a`, `z`, `r`, `-`
@@ -17,7 +18,7 @@ letterOf mark = cond (ltb mark 6) (getD letters mark 0) 63
 
 -- what stands at place k of the text: after eight letters a space
 unfoldable pub textAt : List ℕ → ℕ → ℕ → ℕ
-textAt table w k = cond (eqb (k % 9) 8) 32 (letterOf (markAt table (placeOf w (8 * (k / 9) + k % 9))))
+textAt table w k = cond (eqb (k % 9) 8) space (letterOf (markAt table (placeOf w (8 * (k / 9) + k % 9))))
 
 abbrev pub textLength : ℕ
 textLength = 35
