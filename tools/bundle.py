@@ -334,12 +334,16 @@ def read_rows(path, names, labels, words):
     return rows.named["entry"], rows.named["result"], list(rows.rows.values())
 
 
-def word_lines(words, labels, lacking):
-    """Each word with its labels and its text; those without a row are marked."""
+def words_shown(words, labels):
+    """Each word with its number, its labels and, if there is a disassembler, its text."""
     names = ["".join(f"{label}: " for label, at in labels.items() if at == k) for k in range(len(words))]
-    texts, wide = assembly.disassemble(words) or [""] * len(words), max(map(len, names))
-    return [f"  {k:3}  {names[k]:<{wide}}{word:08X}  {texts[k]:<32}  {'<- no row' if k in lacking else ''}".rstrip()
-            for k, word in enumerate(words)]
+    texts, wide = assembly.disassemble(words), max(map(len, names), default=0)
+    return [f"{k:3}  {names[k]:<{wide}}{word:08X}" + (f"  {texts[k]:<32}" if texts else "") for k, word in enumerate(words)]
+
+
+def word_lines(words, labels, lacking):
+    """Each word as it is shown; those without a row are marked."""
+    return [f"  {text}  {'<- no row' if k in lacking else ''}".rstrip() for k, text in enumerate(words_shown(words, labels))]
 
 
 # Bundle

@@ -28,7 +28,7 @@ from script import Problem
 
 ROOT = os.path.join(os.path.dirname(os.path.abspath(__file__)), "..")
 CARD = os.path.join(ROOT, "docs", "CARD.md")
-PROGRAM = os.path.join(ROOT, "target", "bin", "explain")
+PROGRAMS = os.path.join(ROOT, "target", "bin")
 SECONDS = 60  # for the program to end
 NOTE = 32  # the register that stands for the note
 KINDS = ["an unset entry", "a number", "an address", "an address that may be null", "the return address"]
@@ -62,12 +62,21 @@ def card_entry(number):
 
 # The program
 
-def run_program(data):
-    """What the program explain prints for a bundle."""
-    if not os.path.exists(PROGRAM):
-        raise Problem("target/bin/explain is not built: `rt check explain` proves and builds it")
-    done = subprocess.run([PROGRAM], input=data, capture_output=True, timeout=SECONDS)
+def is_built(name):
+    return os.path.exists(os.path.join(PROGRAMS, name))
+
+
+def run_program(name, data):
+    """What a program prints for a bundle, line by line."""
+    if not is_built(name):
+        raise Problem(f"target/bin/{name} is not built: `rt check {name}` proves and builds it")
+    done = subprocess.run([os.path.join(PROGRAMS, name)], input=data, capture_output=True, timeout=SECONDS)
     return done.stdout.decode("ascii", "replace").splitlines()
+
+
+def unknown(name):
+    """The problem that a program prints something else than is known here."""
+    return Problem(f"target/bin/{name} does not say what is known here: `rt check {name}` builds it anew")
 
 
 def said_of(lines):
@@ -90,7 +99,7 @@ def said_of(lines):
                 rows[next(key for key in rows if rows[key] is row)] = row._replace(note=tuple(values))
         return Said(answer, items, rows)
     except (ValueError, IndexError, AttributeError):
-        raise Problem("target/bin/explain does not say what is known here: `rt check explain` builds it anew") from None
+        raise unknown("explain") from None
 
 
 def first(said, name):
@@ -437,15 +446,18 @@ def policy_of(data):
         return None
 
 
+def explained(data, names, remarks):
+    """The answer to a bundle, the card's entry and what in the bundle the answer is about, line by line."""
+    said = said_of(run_program("explain", data))
+    lines = ["{} {} {}".format(*said.answer), card_entry(said.answer[0])]
+    return lines + ([""] + remarks + detail_lines(data, names, said) if said.answer[0] else [])
+
+
 def explain(path):
     folder = os.path.isdir(path)
     data = script.read_bytes(os.path.join(path, "bundle.bin") if folder else path)
     names, remarks = bundle.names_of(path, policy_of(data)) if folder else ([], [])
-    said = said_of(run_program(data))
-    lines = ["{} {} {}".format(*said.answer), card_entry(said.answer[0])]
-    if said.answer[0]:
-        lines += [""] + remarks + detail_lines(data, names, said)
-    return "\n".join(lines)
+    return "\n".join(explained(data, names, remarks))
 
 
 def main(arguments):

@@ -3,12 +3,12 @@
 
     tools/test.py
 
-Holds bundle.py and explain.py against the examples, and tries on them what can be wrong with a file, a folder, the
+Holds bundle.py, explain.py and kinds.py against the examples, and tries on them what can be wrong with a file, a folder, the
 assembler, an answer or the place where they run: each must be said in a line with the file and the line, with status 1.
 Sees that each script says what it does when asked for help, and does nothing else.
 
-What needs GNU binutils for SPARC or a program (target/bin/answer, target/bin/explain) is left out where that is not here,
-and this is said. The last line is `N passed, 0 failed`, with the number of those left out if there are any; the status is 0 if
+What needs GNU binutils for SPARC or a program (target/bin/answer, explain or kinds) is left out where that is not here, and
+this is said. The last line is `N passed, 0 failed`, with the number of those left out if there are any; the status is 0 if
 none failed.
 """
 import contextlib
@@ -24,6 +24,7 @@ import tempfile
 sys.dont_write_bytecode = True
 import assembly
 import bundle
+import kinds
 import layout
 import parts
 import script
@@ -32,14 +33,14 @@ TOOLS = os.path.dirname(os.path.abspath(__file__))
 ROOT = os.path.dirname(TOOLS)
 EXAMPLES = os.path.join(ROOT, "examples")
 NAMES = sorted(name for name in os.listdir(EXAMPLES) if os.path.isdir(os.path.join(EXAMPLES, name)))
-ANSWER, EXPLAIN = (os.path.join(ROOT, "target", "bin", program) for program in ("answer", "explain"))
+ANSWER, EXPLAIN, KINDS = (os.path.join(ROOT, "target", "bin", program) for program in ("answer", "explain", "kinds"))
 PATH = os.environ.get("PATH", "")
 AS, OBJDUMP = (assembly.BINUTILS + tool for tool in ("as", "objdump"))
 CASES = []
 
 
-def cases(needs=None):
-    """Notes a function that yields (name, whether it passed, what is shown if not); needs is a program's path."""
+def cases(*needs):
+    """Notes a function that yields (name, whether it passed, what is shown if not); needs are paths of programs."""
     def noted(function):
         CASES.append((function, needs))
         return function
@@ -238,10 +239,10 @@ def examples_are_answered():
 def text_shows_what_is_printed():
     """What examples/README.md shows of the tools."""
     text = read(EXAMPLES, "README.md").decode()
-    for command, shown in re.findall(r"^    \$ tools/(explain\.py .*)\n((?:    .+\n)+)", text, re.M):
-        if not os.path.exists(EXPLAIN):
-            continue
+    for command, shown in re.findall(r"^    \$ tools/((?:explain|kinds)\.py .*)\n((?:    .+\n)+)", text, re.M):
         tool, folder = command.split()
+        if not os.path.exists(EXPLAIN if tool == "explain.py" else KINDS):
+            continue
         _, out, _ = called(tool, os.path.join(ROOT, folder))
         lines = [line[4:] for line in shown.splitlines() if line != "    .."]
         yield f"examples/README.md shows {command}", "\n".join(lines) in out, out
@@ -496,6 +497,112 @@ def labels_of_the_assembler():
         yield "words by label, assembled", right, ""
 
 
+# Listings of kinds
+
+ENTRY = TEXTS[ROWS].split(b"\n")[0] + b"\n"
+# What kinds.py says of the words of example `name`, whose label it has from routine.s
+HELD = ["%o0 address  %o1 address  %o7 return",
+        "%g1 number  %o0 address  %o1 address  %o7 return",
+        "%g1 number  %g2 number  %o0 address  %o1 address  %o7 return"] + 6 * [
+        "%g1 number  %g2 number  %o0 address  %o1 address  %o2 address  %o7 return"]
+HELD[6], HELD[8] = HELD[6] + "  (slot)", HELD[8] + "  (slot)"
+LISTED = [f"{k:3}  {'next: ' if k == 1 else '      '}{word:08X}  {held}" for k, (word, held) in enumerate(zip(WORDS, HELD))]
+AWAY = 0x30800003  # ba,a to the third word from here
+
+
+def noisy(data):
+    """A bundle whose rows and result entry are badly formed."""
+    count = len(layout.open_bundle(data)[3])
+    rows = len(data) - layout.ROW_SIZE * count
+    code = rows - layout.WORD.size * count
+    return data[:code - layout.ENTRY.size] + b"\xff" * layout.ENTRY.size + data[code:rows] + b"\xff" * (len(data) - rows)
+
+
+def kinds_of(files, data=OBJECT, *options):
+    """What kinds.py does with the texts and other files among them, with no disassembler: its status, output and errors."""
+    with routine() as folder, assembler_giving(data):
+        before = read(folder, "bundle.bin")
+        for name, text in files.items():
+            os.remove(os.path.join(folder, name)) if text is None else write(text, folder, name)
+        status, out, said = called("kinds.py", *options, folder)
+        return (status, out, said) if read(folder, "bundle.bin") == before else (None, "bundle.bin is changed", said)
+
+
+@cases(KINDS)
+def kinds_of_examples():
+    yield "crates/kinds/stdin is an example", read(ROOT, "crates", "kinds", "stdin") == read(EXAMPLES, "name", "bundle.bin"), ""
+    for name in NAMES:
+        data = read(EXAMPLES, name, "bundle.bin")
+        with example(name) as folder:
+            path = os.path.join(folder, "bundle.bin")
+            status, out, said = called("kinds.py", path)
+            lines = [line for line in out.splitlines() if re.match(r" *\d+  [0-9A-F]{8}  ", line)]
+            yield f"kinds.py lists {name}", (status, said, len(lines)) == (0, "", len(words_of(name))), out + said
+            write(noisy(data), folder, "bundle.bin")
+            yield f"kinds.py looks at no row of {name}", called("kinds.py", path) == (status, out, said), ""
+
+
+@cases(KINDS)
+def kinds_before_rows():
+    for what, rows in [("its rows", TEXTS[ROWS]), ("no rows", ENTRY), ("rows that are wrong", b"3: nothing\n" + ENTRY + b"next 4\nresult: x\n")]:
+        status, out, said = kinds_of({ROWS: rows})
+        yield f"kinds.py with {what}", (status, out.splitlines(), said) == (0, LISTED, ""), out + said
+    status, out, said = kinds_of({ROWS: ENTRY}, OBJECT, "--table")
+    right = status == 0 and out.splitlines()[4] == "  3        82006001  nnn----- aaa----r -------- --------" and ". not reached, n number" in out
+    yield "kinds.py --table", right and out.count("\n") == 10, out + said
+    rows = b"entry: r3 = line or null\n"
+    status, out, said = kinds_of({ROWS: rows}, object_file([AWAY, parts.NOP, parts.NOP, parts.RETURN, parts.NOP]))
+    held = [line[15:] for line in out.splitlines()]
+    null = "%g3 address or null"
+    yield "kinds.py with a word that is not reached", held == [null, f"{null}  (slot)", "not reached", null, f"{null}  (slot)"], out + said
+    status, out, said = kinds_of({ROWS: b"entry:\n"}, object_file([parts.RETURN, parts.NOP]))
+    yield "kinds.py with nothing handed over", [line[15:] for line in out.splitlines()] == ["all unset", "all unset  (slot)"], out + said
+
+
+@cases()
+def mistakes_before_rows():
+    for what, files, data, expected in [
+            ("no rows.txt", {ROWS: None}, OBJECT, "rows.txt is not here: a listing needs its line `entry:`"),
+            ("no entry row", {ROWS: b"0: slot\n"}, OBJECT, "rows.txt has no line `entry:`"),
+            ("two entry rows", {ROWS: ENTRY + ENTRY}, OBJECT, "rows.txt, line 2: a second line `entry:`"),
+            ("an entry row that names no region", {ROWS: b"\nentry: r8 = x\n"}, OBJECT, "rows.txt, line 2: policy.txt has no region named `x`"),
+            ("no policy.txt", {POLICY: None}, OBJECT, "policy.txt: No such file or directory"),
+            ("a policy.txt that is wrong", {POLICY: b"region x\n"}, OBJECT, "policy.txt, line 1: expected `region NAME SIZE`"),
+            ("no routine.s", {ROUTINE: None}, OBJECT, "routine.s: No such file or directory"),
+            ("no words", {}, object_file([]), "routine.s has no words: its .text is empty"),
+            ("129 words", {ROWS: ENTRY}, object_file([parts.NOP] * 129), "routine.s has 129 words, and a routine has at most 128")]:
+        status, out, said = kinds_of(files, data)
+        yield f"kinds.py with {what}", one_line("kinds.py", status, out, said) and said.startswith(f"kinds.py: {expected}"), out + said
+    good = [f"{k} {word:08x} " + " ".join(["n" * 8] * 4) for k, word in enumerate(WORDS)]
+    yield "a listing that is known", kinds.marks_of(good, WORDS) == ["n" * 32] * len(WORDS), ""
+    for what, lines in [("no lines", []), ("a line less", good[:-1]), ("another word", good[:-1] + [good[-1].replace("90", "91", 1)]),
+                        ("a letter less", good[:-1] + [good[-1][:-1]]), ("an unknown letter", good[:-1] + [good[-1][:-1] + "x"])]:
+        yield f"a listing with {what}", refused(kinds.marks_of, lines, WORDS), ""
+
+
+@cases(KINDS, EXPLAIN)
+def refusals_before_rows():
+    whole = read(EXAMPLES, "name", "bundle.bin")
+    less = struct.pack(">I", WORDS[5])
+    entry = len(whole) - (layout.ROW_SIZE + layout.WORD.size) * len(WORDS) - layout.ENTRY.size - layout.ROW_SIZE
+    call, privileged, far = (whole.replace(less, struct.pack(">I", word), 1) for word in (0x40000000, 0xC4820141, 0x06800040))
+    for what, data, answer, expected in [
+            ("a call", call, "2 5 0", "wrong: this is no instruction of the subset"),
+            ("lda", privileged, "24 5 0", "wrong: this is lda, which only the supervisor may run"),
+            ("a branch out of the code", far, "3 5 0", "wrong: its target is word 69, and the code has words 0 to 8"),
+            ("an element 9", whole[:16] + b"\x09" + whole[17:], "20 0 0", "the element is none of 1 to 7"),
+            ("a region of 41 bytes", whole[:9] + b"\x29" + whole[10:], "19 0 0", "wrong: region 0, at byte 8 of the bundle: size 41"),
+            ("r0 that is an address", whole[:entry] + b"\2" + whole[entry + 1:], "21 0 0", f"wrong: the entry at byte {entry} of the bundle"),
+            ("a byte less", whole[:-1], "23 0 0", f"wrong: it has {len(whole) - 1} bytes, and its counts give {len(whole)}"),
+            ("no bytes", b"", "23 0 0", "wrong: it has 0 bytes")]:
+        with example() as folder:
+            write(noisy(data) if len(data) == len(whole) else data, folder, "bundle.bin")
+            status, out, said = called("kinds.py", os.path.join(folder, "bundle.bin"))
+        yield f"kinds.py with {what}", status == 0 and out.startswith(answer + "\n") and expected in out and not said, out + said
+    status, out, said = kinds_of({POLICY: TEXTS[POLICY].replace(b"at 0:  30", b"at 0:  41"), ROWS: ENTRY})
+    yield "kinds.py with a field past its region", status == 0 and out.startswith("20 0 0\n") and "it does not end inside its region" in out, out + said
+
+
 # How the tools are called, and where
 
 @cases()
@@ -505,7 +612,8 @@ def wrong_calls():
             ("bundle.py", []), ("bundle.py", [name, name]), ("bundle.py", ["--lst", name]), ("bundle.py", [os.path.join(ROOT, "none")]),
             ("bundle.py", [os.path.join(ROOT, "README.md")]), ("bundle.py", ["--list", EXAMPLES]),
             ("explain.py", []), ("explain.py", [name, "7", "6", "10"]), ("explain.py", [os.path.join(ROOT, "none")]),
-            ("explain.py", [EXAMPLES]), ("parts.py", ["x"]), ("listings.py", ["x"]), ("vectors.py", ["x"]),
+            ("explain.py", [EXAMPLES]), ("kinds.py", []), ("kinds.py", ["--table"]), ("kinds.py", [name, name]), ("kinds.py", ["--tabel", name]),
+            ("kinds.py", [os.path.join(ROOT, "none")]), ("kinds.py", [EXAMPLES]), ("parts.py", ["x"]), ("listings.py", ["x"]), ("vectors.py", ["x"]),
             ("corpus.py", ["x"]), ("corpus.py", ["none", "none"]), ("mutants.py", ["x"]), ("runs.py", ["x", "y"]), ("runs.py", ["none"]), ("speed.py", ["x"])]:
         status, out, said = called(tool, *arguments)
         yield f"{tool} {' '.join(arguments)[:60]}", one_line(tool, status, out, said), f"{status} {out} {said}"
@@ -619,9 +727,10 @@ def main(arguments):
         raise script.Problem("call it as `test.py`, with no arguments")
     passed, failed, left = 0, 0, 0
     for function, needs in CASES:
-        if needs and not shutil.which(needs):
+        missing = [os.path.basename(need) for need in needs if not shutil.which(need)]
+        if missing:
             left += 1
-            print(f"left out: {function.__name__.replace('_', ' ')} ({os.path.basename(needs)} is not here)")
+            print(f"left out: {function.__name__.replace('_', ' ')} ({', '.join(missing)} is not here)")
             continue
         for name, right, shown in tried(function):
             passed, failed = passed + bool(right), failed + (not right)
