@@ -1,0 +1,42 @@
+-- The table holds: the definitions give each row's outcome, by computation.
+use mathlib.Core.Path.{refl}
+use Rattle.v8.specs.Search.{all, lowest, first}
+use Rattle.v8.specs.Signed.{signExtend}
+use Rattle.v8.specs.Read.{operandOf, countOf, format00, format10, format11, readingOf}
+use Rattle.flow.specs.Transfer.{slotRuns, targetOf}
+use Rattle.flow.specs.Readings.{isSlot}
+use Rattle.policy.specs.Element.{widthOf, leastOf, mostOf}
+use Rattle.policy.specs.Policy.{fieldAt, valuesOk, fieldOk, endBefore, fieldFits, fieldAtOk, regionOk, policyOk}
+use Rattle.sets.specs.Sets.{setOk}
+use Rattle.rows.specs.Entry.{sizeIn, entryOk, noteOk}
+use Rattle.rows.specs.Row.{entryOf, noteOf, formedAt, formFault}
+use Rattle.rows.specs.Flaw.{flawFrom}
+use Rattle.checker.specs.Answer.{passOf}
+use Rattle.checker.specs.Passes.{readPass, flowPass}
+use Rattle.marks.specs.Marks.{meet, markOf, marksWith}
+use Rattle.marks.specs.Effect.{ofNumbers, sumMark, differenceMark, orMark}
+use Rattle.lister.specs.Table.{marksAt, reached, raisedAt}
+use Rattle.lister.specs.Rules.{entryMarks, sentBy, takenIn, closedAt, closed}
+use Rattle.lister.specs.Listing.{raisedByWords, raisedOnce, raisedUntilClosed, listingOf, listingAnswer, listed}
+use Rattle.kindrows.specs.MarkRows.{meetRows, wordRows}
+use Rattle.kindrows.specs.ListRows.{listRows, refusedRows}
+use Rattle.kindrows.specs.Table.{Holds, TableHolds}
+
+meets-hold : Holds meetRows
+unfolding meet
+meets-hold = refl
+
+words-hold : Holds wordRows
+unfolding readingOf format00 format10 format11 operandOf countOf signExtend markOf marksWith ofNumbers sumMark differenceMark orMark
+words-hold = refl
+
+lists-hold : Holds listRows
+unfolding readingOf format00 format10 format11 operandOf countOf signExtend lowest first all slotRuns targetOf isSlot widthOf leastOf mostOf fieldAt valuesOk fieldOk endBefore fieldFits fieldAtOk regionOk policyOk setOk sizeIn entryOk noteOk entryOf noteOf formedAt flawFrom formFault passOf readPass flowPass meet markOf marksWith ofNumbers sumMark differenceMark orMark marksAt reached raisedAt entryMarks sentBy takenIn closedAt closed raisedByWords raisedOnce raisedUntilClosed listingOf listingAnswer listed
+lists-hold = refl
+
+refusals-hold : Holds refusedRows
+unfolding readingOf format00 format10 format11 operandOf countOf signExtend lowest first all slotRuns targetOf isSlot widthOf leastOf mostOf fieldAt valuesOk fieldOk endBefore fieldFits fieldAtOk regionOk policyOk setOk sizeIn entryOk noteOk entryOf noteOf formedAt flawFrom formFault passOf readPass flowPass meet markOf marksWith ofNumbers sumMark differenceMark orMark marksAt reached raisedAt entryMarks sentBy takenIn closedAt closed raisedByWords raisedOnce raisedUntilClosed listingOf listingAnswer listed
+refusals-hold = refl
+
+pub table-holds : TableHolds
+table-holds = record { meets = meets-hold; words = words-hold; lists = lists-hold; refusals = refusals-hold }

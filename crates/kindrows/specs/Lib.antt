@@ -1,0 +1,4 @@
+pub mod Case
+pub mod MarkRows
+pub mod ListRows
+pub mod Table
