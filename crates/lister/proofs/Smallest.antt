@@ -170,12 +170,12 @@ module _ (readings : List Reading) (entry : List ℕ) where
   pub listing-length : length (listingOf readings entry) ≡ registerCount * length readings
   unfolding listingOf
   listing-length =
-      until-length (2 * (registerCount * length readings)) (noMarks readings entry) ∙ length-replicate (registerCount * length readings) notReached
+      until-length (2 * (registerCount * length readings)) (noMarks readings entry) ∙ length-replicate (registerCount * length readings) _
 
 pub listing-closed : ListingClosed
 unfolding listingOf
 listing-closed readings entry =
-    until-closed readings entry (2 * (registerCount * length readings)) (noMarks readings entry) (length-replicate (registerCount * length readings) notReached)
+    until-closed readings entry (2 * (registerCount * length readings)) (noMarks readings entry) (length-replicate (registerCount * length readings) _)
     (omega arith)
 
 pub listing-smallest : ListingSmallest
