@@ -184,7 +184,7 @@ static void list(const struct code *c, struct listing *l)
 /* ---- Records ---- */
 
 enum {
-    RECORD_WORDS = 17,      /* numbers before the words */
+    RECORD_WORDS = 25,      /* numbers before the words */
     MOST_NUMBERS = 1024,
     MOST_ENTRY = 512,
     MOST_TABLE = 8192,
@@ -193,7 +193,7 @@ enum {
 
 enum {
     TABLE_LENGTH = 3, ENTRY_LENGTH, WORD_COUNT, REGION_COUNT, FIELD_COUNT,
-    MARK_COUNT, REGION
+    MARK_COUNT, SIZES, COUNTS = SIZES + MAX_REGIONS
 };
 
 struct record {
@@ -220,10 +220,11 @@ static bool raw_policy(const uint32_t *n, struct policy *p)
 
     p->regions = 0;
     for (uint32_t r = 0; r < n[REGION_COUNT]; r++)
-        if (r == MAX_REGIONS || add_region(p, n[REGION + r] >> 16) != ACCEPTED)
+        if (r == MAX_REGIONS ||
+            add_region(p, (uint16_t)n[SIZES + r]) != ACCEPTED)
             return false;
     for (int r = 0; r < p->regions; r++)
-        for (uint32_t k = n[REGION + r] & 0xffff; k > 0; k--, field += 4) {
+        for (uint32_t k = n[COUNTS + r]; k > 0; k--, field += 4) {
             struct field f = raw_field(field);
 
             if (add_field(p, r, &f) != ACCEPTED)
