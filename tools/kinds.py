@@ -146,6 +146,36 @@ def many_rounds():
     return body + [branch(EQUAL, -len(body)), NOP] + END
 
 
+def backward_blocks():
+    """Blocks that are run from the last to the first, in a loop: each has a copy, and each round makes one register more unset."""
+    most = (WORDS - 4) // 3
+    copies = [word("or", 2 + k % 30, 0, f"r{1 + k % 30}") for k in range(most)]
+    into_last = branch(ALWAYS, 3 * most - 1)
+    blocks = [one for k in range(1, most) for one in (copies[k], branch(ALWAYS, -4), NOP)]
+    return [into_last, NOP, copies[0], branch(EQUAL, 3 * most - 4), NOP] + blocks + END
+
+
+def branches_back():
+    """Many branches back to some of the first words, each after a copy that no other has."""
+    most, first = 45, 30
+    back = [one for k in range(most) for one in (branch(EQUAL, k % first - first - 2 * k), word("or", 2 + k % 30, 0, "r1"))]
+    return [NOP] * first + back + END
+
+
+def ordinary():
+    """Adds up the bytes of a field that has a zero at its end."""
+    return [word("or", 9, 0, 0), word("or", 8, 0, 0), word("ldub", 10, 2, "r9"), word("subcc", 0, 10, 0), branch(EQUAL, 6), word("add", 8, 8, "r10"),
+            word("add", 9, 9, 1), word("subcc", 0, 9, 30), branch(LESS, -6), NOP] + END
+
+
+def measured():
+    """Routines that the listing is measured on. The first has nearly the most raises that there can be."""
+    yield listed("listing, 128 words, 31 rounds", many_rounds(), None, NUMBERS)
+    yield listed("listing, 41 blocks from the last to the first", backward_blocks(), None, NUMBERS)
+    yield listed("listing, 45 branches back", branches_back(), None, NUMBERS)
+    yield listed("listing, a loop of 12 words", ordinary(), None)
+
+
 def loops():
     """Marks that meet: an edge back raises words that were passed before."""
     yield listed("back-to-word-0", [word("or", 6, 0, "r7"), branch(EQUAL, -1), word("or", 7, 0, "r1")] + END,
@@ -185,7 +215,7 @@ def lengths():
         yield refused(f"entry-of-{size}", "21 0 0", entry=(ENTRY + bytes(100))[:size])
     yield refused("no-words", "21 0 0", [])
     yield refused("words-129", "21 0 0", [NOP] * 127 + END)
-    yield listed("words-128", [NOP] * 126 + END, None)
+    yield listed("words-128", [NOP] * 126 + [branch(ALWAYS, -126), word("or", 6, 0, "r2")], " ".join(["11234552"] * 128))
     yield listed("entry-of-each-mark", END, f"{FIRST} {FIRST}")
     yield listed("entry-unset", END, "15555555 15555555", {15: cases.NONE})
 

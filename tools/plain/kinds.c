@@ -59,17 +59,17 @@ static uint8_t meet(uint8_t a, uint8_t b)
 }
 
 /* Marks arrive at a word; has one of its own changed? */
-static bool arrive(uint8_t *at, const uint8_t *marks)
+static bool arrive(uint8_t *restrict at, const uint8_t *restrict marks)
 {
-    bool changed = false;
+    uint8_t changed = 0;
 
     for (int r = 0; r < REGISTERS; r++) {
         uint8_t met = meet(at[r], marks[r]);
 
-        changed |= met != at[r];
+        changed |= met ^ at[r];
         at[r] = met;
     }
-    return changed;
+    return changed != 0;
 }
 
 /* ---- What each word does to the marks ---- */
