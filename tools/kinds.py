@@ -49,11 +49,10 @@ def refused(name, answer, words=END, policy=POLICY, entry=ENTRY, length=TABLE):
 
 
 def one_after_another(name, steps):
-    """Instructions (name, rs1, second operand) that each give r6 a mark. It is an address or null before each, so that it
-    is seen to be written, but where that is what it is given."""
+    """Steps are (mark, instruction, rs1, second operand): each instruction gives r6 that mark. r6 is an address or null before
+    each, and unset before one that makes it that, so that it is seen to be written."""
     words, marks = [], ["1"]
-    for mark, *step in steps:
-        operation, rs1, second = step
+    for mark, operation, rs1, second in steps:
         words += [word("or", 6, 0, "r5" if mark == 3 else "r3"), word(operation, 6, rs1, second)]
         marks += ["5" if mark == 3 else "3", str(mark)]
     return listed(name, words + END, " ".join(f"{FIRST[:6]}{mark}{FIRST[7]}" for mark in marks + marks[-1:]))
@@ -139,8 +138,8 @@ NUMBERS = {register: cases.FULL for register in range(2, MARKS)}
 
 
 def many_rounds():
-    """As many words as there may be, in a loop that is passed through 31 times: with r1 unset and all others numbers, each round makes one register
-    more unset."""
+    """As many words as there may be, in a loop that is passed through 31 times: with r1 unset and all others numbers, each round
+    makes one register more unset."""
     copies = [word("or", register, 0, f"r{register - 1}") for register in range(MARKS - 1, 1, -1)]
     body = copies + [NOP] * (WORDS - len(copies) - 4)
     return body + [branch(EQUAL, -len(body)), NOP] + END
@@ -156,7 +155,7 @@ def backward_blocks():
 
 
 def branches_back():
-    """Many branches back to some of the first words, each after a copy that no other has."""
+    """Many branches back to the first words, each over a slot that makes another register unset."""
     most, first = 45, 30
     back = [one for k in range(most) for one in (branch(EQUAL, k % first - first - 2 * k), word("or", 2 + k % 30, 0, "r1"))]
     return [NOP] * first + back + END
@@ -186,9 +185,12 @@ def loops():
     # Each loop inside raises the one around it, which is passed again.
     nest = [NOP] * 20 + [one for k in range(20) for one in (branch(EQUAL, -(20 + k)), word("or", 8 + k, 0, f"r{7 + k}"))]
     yield listed("nested-loops", nest + END, None)
-    yield listed("unset-arrives-late", [branch(EQUAL, 6), NOP, word("or", 7, 0, "r3"), branch(ALWAYS, 3), NOP, NOP, NOP, NOP] + END, None)
-    diamond = [branch(EQUAL, 6), NOP, word("or", 6, 0, "r2"), word("or", 7, 0, "r1"), branch(ALWAYS, 2), NOP, word("add", 8, 6, "r7")]
-    yield listed("crossed-operands", diamond + END, None)
+    behind = [branch(EQUAL, 6), NOP, word("or", 7, 0, "r3"), branch(ALWAYS, 3), NOP, NOP, NOP]
+    yield listed("meeting-behind-an-unreached-word", behind + END, f"{FIRST} {FIRST} {FIRST} 11234513 11234513 - 11234515 11234515 11234515")
+    # On each way the sum is an address, but its operands meet before it is made.
+    ways = [branch(EQUAL, 6), NOP, word("or", 6, 0, "r2"), word("or", 7, 0, "r1"), branch(ALWAYS, 2), NOP, word("add", 1, 6, "r7")]
+    yield listed("sum-of-operands-that-meet", ways + END,
+                 f"{FIRST} {FIRST} {FIRST} 11234522 11234521 11234521 11234555 15234555 15234555")
 
 
 def meetings():

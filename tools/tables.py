@@ -65,7 +65,7 @@ def field_bytes(place, field):
 
 
 def record(case):
-    """The record of a case; a region behind the eighth has no room in it, and of a region's fields those behind the sixteenth have the place of that."""
+    """The record of a case. There is no room in it for a ninth region; a region's fields behind the sixteenth have the place of that."""
     answer, marks = case.expected
     regions = case.policy.regions[:REGIONS]
     fields = [field_bytes(FIELDS * r + min(k, FIELDS - 1), field) for r, (_, _, own) in enumerate(regions) for k, field in enumerate(own)]
