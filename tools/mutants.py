@@ -49,12 +49,13 @@ class Version:
             first = next((at for at, line in enumerate(lines) if self.after in line), len(lines))
         places = [at for at in range(first, len(lines)) if lines[at].strip() == self.old]
         if not places or (self.after is None and len(places) > 1):
-            raise Problem(f"{self.name}: {len(places)} lines of answer.c read `{self.old}`")
+            raise Problem(f"{self.name}: {len(places)} lines read `{self.old}`")
         return "\n".join(lines[:places[0]] + [self.new] + lines[places[0] + 1:])
 
 
-def versions():
-    with open(LIST, encoding="utf-8") as file:
+def versions(path=LIST):
+    """The wrong versions that a list has."""
+    with open(path, encoding="utf-8") as file:
         text = file.read()
     blocks = [block.strip("\n").split("\n") for block in text.split("\n\n")[1:] if block.strip()]
     listed = [Version(block[0], block[1:]) for block in blocks if not block[0].startswith("#")]
@@ -77,7 +78,7 @@ def records(data):
 
 def compiled(source, folder):
     path = os.path.join(folder, "answer")
-    subprocess.run(["gcc", "-O1", "-w", "-o", path, "-x", "c", "-"], input=source.encode(), check=True)
+    subprocess.run(["gcc", "-O1", "-w", "-I", os.path.dirname(SOURCE), "-o", path, "-x", "c", "-"], input=source.encode(), check=True)
     return path
 
 

@@ -3,7 +3,7 @@
 
     tools/speed.py
 
-Needs target/bin/answer, corpus and speed (rt check answer corpus speed), gcc, which builds tools/plain with -O2,
+Needs target/bin/answer, corpus, tables and speed (rt check answer corpus tables speed), gcc, which builds tools/plain with -O2,
 and valgrind and size for the memory. Each time is the best of five runs of the whole program, start and reading
 included. The memory of a program is the most that its stack and heap take (valgrind's massif) and its static data.
 """
@@ -16,9 +16,11 @@ import tempfile
 import time
 
 sys.dont_write_bytecode = True
+import kindcases
 import layout
 import parts
 import script
+import tables
 
 ROOT = os.path.join(os.path.dirname(os.path.abspath(__file__)), "..")
 RUNS = 5
@@ -49,7 +51,7 @@ def best(command, data):
 
 def expect(right, program):
     if not right:
-        raise script.Problem(f"{program} does not answer 0 0 0 to an accepted bundle")
+        raise script.Problem(f"{program} does not answer 0 0 0 to what is accepted")
 
 
 def answers(name, bundle, count, plain):
@@ -58,6 +60,17 @@ def answers(name, bundle, count, plain):
     theirs, lines = best([plain, "-s"], (struct.pack(">I", len(bundle)) + bundle) * count)
     expect(lines[:-1] == ["0 0 0"] * count, "the plain answer")
     print(f"{name}: {count / ours:,.0f} bundles a second, plain {count / theirs:,.0f}, time ratio {ours / theirs:.2f}")
+
+
+def listings(name, case, count, plain):
+    """The listing of a routine that is accepted; the proved program reads the record each time, and compares."""
+    (_, marks), = tables.tables(plain, [tables.record(case._replace(expected=(kindcases.ACCEPTED, b"")))])
+    record = tables.record(case._replace(expected=(kindcases.ACCEPTED, bytes(map(int, marks)))))
+    ours, wrote = best([f"{ROOT}/target/bin/tables"], record * count)
+    expect(wrote[-2:-1] == [f"{count} cases, 0 wrong"], "tables")
+    theirs, lines = best([plain, "-n", str(count)], record)
+    expect(lines[0] == kindcases.ACCEPTED, "the plain listing")
+    print(f"{name}: {count / ours:,.0f} listings a second, plain {count / theirs:,.0f}, time ratio {ours / theirs:.2f}")
 
 
 def steps(name, routine, plain):
@@ -89,13 +102,15 @@ def main(arguments):
     if arguments:
         raise script.Problem("call it as `speed.py`, with no arguments")
     with tempfile.TemporaryDirectory() as folder:
-        for job in ("answer", "machine"):
+        for job in ("answer", "kinds", "machine"):
             subprocess.run(["gcc", "-O2", "-o", f"{folder}/{job}", f"{ROOT}/tools/plain/{job}.c"], check=True)
         answers("128 words, 8 full regions", full_bundle(), 400, f"{folder}/answer")
         for name in ("name", "charge", "linked", "sum"):
             with open(f"{ROOT}/examples/{name}/bundle.bin", "rb") as file:
                 answers(f"example {name}", file.read(), 4000, f"{folder}/answer")
         memory("128 words, 8 full regions", full_bundle(), f"{folder}/answer", folder)
+        for case in kindcases.measured():
+            listings(case.name, case, 400, f"{folder}/kinds")
         steps("arithmetic loop", 0, f"{folder}/machine")
         steps("loop with a load and a store", 1, f"{folder}/machine")
 

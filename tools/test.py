@@ -614,7 +614,8 @@ def wrong_calls():
             ("explain.py", []), ("explain.py", [name, "7", "6", "10"]), ("explain.py", [os.path.join(ROOT, "none")]),
             ("explain.py", [EXAMPLES]), ("kinds.py", []), ("kinds.py", ["--table"]), ("kinds.py", [name, name]), ("kinds.py", ["--tabel", name]),
             ("kinds.py", [os.path.join(ROOT, "none")]), ("kinds.py", [EXAMPLES]), ("parts.py", ["x"]), ("listings.py", ["x"]), ("vectors.py", ["x"]),
-            ("corpus.py", ["x"]), ("corpus.py", ["none", "none"]), ("mutants.py", ["x"]), ("runs.py", ["x", "y"]), ("runs.py", ["none"]), ("speed.py", ["x"])]:
+            ("corpus.py", ["x"]), ("corpus.py", ["none", "none"]), ("mutants.py", ["x"]), ("runs.py", ["x", "y"]), ("runs.py", ["none"]), ("speed.py", ["x"]),
+            ("tables.py", ["x", "y"]), ("tables.py", ["none"]), ("tables.py", [os.path.join(ROOT, "README.md")])]:
         status, out, said = called(tool, *arguments)
         yield f"{tool} {' '.join(arguments)[:60]}", one_line(tool, status, out, said), f"{status} {out} {said}"
 

@@ -12,9 +12,9 @@
 // A state is 34 numbers: 32 registers, their marks (bit r is that of register r), and the codes NZVC,
 // 16 more if they are set. A field is 4 numbers: place, element, permission and target, a byte each;
 // offset and count, 16 bits each; lo; hi. The bytes are memory before, and memory after if it is changed.
-use libc::STDIN_FILENO;
-use memory::load;
-use v8::LoadOp;
+use records::MOST_NUMBERS;
+use records::reading::count_of;
+use records::reading::fill;
 ghost use Prim.Native.Nat.{_≤_};
 
 pub const END: usize = 0;
@@ -39,8 +39,6 @@ pub const CHANGED: usize = 9;
 
 pub const SIZES: usize = 10;
 
-pub const COUNTS: usize = 18;
-
 pub const BASES: usize = 26;
 
 pub const BEFORE: usize = 34;
@@ -49,107 +47,20 @@ pub const AFTER: usize = 68;
 
 pub const WORDS: usize = 102;
 
-// The most words, bases and fields of a record, and so the most numbers.
+// The most words, bases and fields of a record.
 const MOST_WORDS: u32 = 132;
 
 const MOST_BASES: u32 = 8;
 
 const MOST_FIELDS: u32 = 128;
 
-pub const MOST_NUMBERS: usize = 746;
 // The most bytes of memory.
 pub const MOST_BYTES: usize = 2048;
-
-// Whether there is a record.
-pub enum Found {
-    Whole,
-    // The record is cut short, or it is too long.
-    Bad,
-    // There is no further record.
-    End,
-}
-
-// The numbers of a record; those that it does not have are 0.
-pub struct Record {
-    pub numbers: [u32; MOST_NUMBERS],
-    pub found: Found,
-}
 
 // Some bytes of memory with zeros after them.
 pub struct Bytes {
     pub bytes: [u8; MOST_BYTES],
     pub whole: bool,
-}
-
-// Fills a part with bytes that are read, and answers whether there were as many.
-fn fill(part: &mut [u8]) -> bool {
-    let n = io::read_full(STDIN_FILENO, part);
-    n == part.len()
-}
-
-// The numbers that stand in bytes.
-fn numbers_in(bytes: &[u8]) -> [u32; MOST_NUMBERS] {
-    let mut numbers = [0u32; MOST_NUMBERS];
-    let mut i = 0;
-    while i < MOST_NUMBERS {
-        let at = 4 * i;
-        if bytes.len() < at + 4 {
-            break;
-        }
-        numbers[i] = load(LoadOp::Ld, bytes, at);
-        i += 1;
-    }
-    numbers
-}
-
-fn without_numbers(found: Found) -> Record {
-    let numbers = [0u32; MOST_NUMBERS];
-    Record { numbers, found }
-}
-
-// Reads the numbers that fill a part.
-fn numbers_read(part: &mut [u8]) -> Record {
-    if !fill(part) {
-        return without_numbers(Found::Bad);
-    }
-    let numbers = numbers_in(part);
-    Record {
-        numbers,
-        found: Found::Whole,
-    }
-}
-
-// Reads so many numbers.
-fn read_numbers(count: usize) -> Record {
-    if MOST_NUMBERS < count {
-        return without_numbers(Found::Bad);
-    }
-    let mut room = [0u8; 4 * MOST_NUMBERS];
-    let end = 4 * count;
-    numbers_read(&mut room[..end])
-}
-
-// Reads the numbers of the next record.
-pub fn next_record() -> Record {
-    let mut head = [0u8; 4];
-    let n = io::read_full(STDIN_FILENO, &mut head);
-    if n == 0 {
-        return without_numbers(Found::End);
-    }
-    if n < 4 {
-        return without_numbers(Found::Bad);
-    }
-    read_numbers(load(LoadOp::Ld, &head, 0) as usize)
-}
-
-// A count, or the most that it may be.
-fn count_of(number: u32, most: u32) -> usize
-    ensures { λ r. ⌜ r ≤ most ⌝ }
-{
-    if most < number {
-        return most as usize;
-    }
-    number as usize
 }
 
 // Where the bases end.

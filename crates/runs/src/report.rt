@@ -1,11 +1,11 @@
 // All runs of the input, one after another, and what is printed of them.
 use crate::judge::Verdict;
 use crate::judge::judge;
-use crate::record::Found;
-use crate::record::next_record;
 use output::print;
 use output::print_number;
 use output::print_wrong;
+use records::reading::Found;
+use records::reading::next_record;
 ghost use Prim.Native.Nat.{_≤_};
 
 // The most runs that are read.

@@ -1,10 +1,10 @@
--- `record::numbers_in` is safe and ends. The measure is how many numbers may still be read. Assumes nothing.
+-- `reading::numbers_in` is safe and ends. The measure is how many numbers may still be read. Assumes nothing.
 use Prim.Native.Nat.{_≤_, _-_}
 use mathlib.Core.Path.{_≡_}
 use lib.ListN.{length}
 use borrow.Author.Needs.{needs}
-use Rattle.runs.proofs.record.numbers_in.Statement.{statement}
-use Rattle.runs.proofs.record.numbers_in.Tie as tie
+use Rattle.records.proofs.reading.numbers_in.Statement.{statement}
+use Rattle.records.proofs.reading.numbers_in.Tie as tie
 
 abbrev Inv-loop : tie.InvT-loop
 Inv-loop bytes numbers₀ i₀ numbers i = (i ≤ 746) × (length numbers ≡ 746)

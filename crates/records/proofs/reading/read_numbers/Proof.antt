@@ -1,9 +1,9 @@
--- `record::read_numbers` is safe. Assumes nothing.
+-- `reading::read_numbers` is safe. Assumes nothing.
 use mathlib.Core.Path.{sym}
 use lib.Seq.{length-take-le}
 use borrow.Author.Needs.{needs}
-use Rattle.runs.proofs.record.read_numbers.Statement.{statement}
-use Rattle.runs.proofs.record.read_numbers.Tie as tie
+use Rattle.records.proofs.reading.read_numbers.Statement.{statement}
+use Rattle.records.proofs.reading.read_numbers.Tie as tie
 
 without-numbers-requires : tie.Need-without-numbers-requires
 without-numbers-requires c κs = search needs

@@ -1,23 +1,17 @@
--- `start::policy_of` is safe and ends. The measure is how many fields are left. Assumes nothing.
+-- `given::policy_at` is safe and ends. The measure is how many fields are left. Assumes nothing.
 use Prim.Native.Nat.{_≤_, _-_}
 use borrow.Author.Needs.{needs}
-use Rattle.runs.proofs.start.policy_of.Statement.{statement}
-use Rattle.runs.proofs.start.policy_of.Tie as tie
+use Rattle.records.proofs.given.policy_at.Statement.{statement}
+use Rattle.records.proofs.given.policy_at.Tie as tie
 
 abbrev Inv-loop : tie.InvT-loop
-Inv-loop numbers policy₀ first count i₀ policy i = (first ≤ 234) × (count ≤ 128) × (i ≤ count)
+Inv-loop numbers regions sizes first count policy₀ i₀ policy i = i ≤ count
 
 abbrev μ-loop : tie.MeasureT-loop
-μ-loop numbers policy₀ first count i₀ policy i = count - i
+μ-loop numbers regions sizes first count policy₀ i₀ policy i = count - i
 
-regions-of-requires : tie.Need-regions-of-requires Inv-loop μ-loop
-regions-of-requires c κs = search needs
-
-words-end-requires : tie.Need-words-end-requires Inv-loop μ-loop
-words-end-requires c κs = search needs
-
-field-count-requires : tie.Need-field-count-requires Inv-loop μ-loop
-field-count-requires c κs = search needs
+regions-at-requires : tie.Need-regions-at-requires Inv-loop μ-loop
+regions-at-requires c κs = search needs
 
 loop-holds : tie.Need-loop-holds Inv-loop μ-loop
 loop-holds c = search needs
@@ -43,15 +37,13 @@ loop-again c = search needs
 returns : tie.Need-returns Inv-loop μ-loop
 returns c = search needs
 
-pub policy-of-spec : {M : Type 1} → statement M
-policy-of-spec =
+pub policy-at-spec : {M : Type 1} → statement M
+policy-at-spec =
     tie.close
     (tie.spec
     Inv-loop
     μ-loop
-    regions-of-requires
-    words-end-requires
-    field-count-requires
+    regions-at-requires
     loop-holds
     mul-with-field
     add-with-field
