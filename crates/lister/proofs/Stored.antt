@@ -2,7 +2,7 @@
 -- higher.
 use Prim.Native.Nat.{ℕ, _+_, _*_, _/_, _%_, _≤_, _<_}
 use mathlib.Core.Path.{_≡_, refl, sym, ap, subst, _∙_}
-use mathlib.Core.Bool.{Bool, true, false, cond, _&&_, and-true, and-false}
+use mathlib.Core.Bool.{Bool, true, false, cond, not, _&&_, _||_, and-true, and-false, or-true, or-false}
 use mathlib.Core.List.{List}
 use native.Mathlib.Omega.{arith}
 use lib.Dec.{ltb, eqb}
@@ -106,10 +106,10 @@ module _ (table : List ℕ) (w : ℕ) (marks : List ℕ) where
   raising-none =
       record { most = omega arith; long = refl; raised = raised-none; high = omega arith; higher = λ e. false-true e; same = λ e. refl }
 
-  -- one register more, whose mark changes, or stays
+  -- one register more: its mark changes, or stays
   module _ (r v : ℕ) (after : List ℕ) (changed : Bool) (l : r < registerCount) (fits : placeOf w r < length after)
       (e : v ≡ meet (markAt after (placeOf w r)) (getD marks r notReached)) (h : Raising r after changed) where
-    pub raising-new : (v ≡ markAt after (placeOf w r) → ⊥) → Raising (r + 1) (set after (placeOf w r) v) true
+    raising-new : (v ≡ markAt after (placeOf w r) → ⊥) → Raising (r + 1) (set after (placeOf w r) v) true
     raising-new n =
         let above = subst (AtMost (markAt after (placeOf w r))) (sym e) (meets-lowest (markAt after (placeOf w r)) (getD marks r notReached) .0) in
         let up = set-higher after (placeOf w r) v fits above n in
@@ -122,7 +122,7 @@ module _ (table : List ℕ) (w : ℕ) (marks : List ℕ) where
           same = λ t. false-true (sym t);
         }
 
-    pub raising-old : v ≡ markAt after (placeOf w r) → Raising (r + 1) after changed
+    raising-old : v ≡ markAt after (placeOf w r) → Raising (r + 1) after changed
     raising-old q =
         record {
           most = omega (arith, l);
@@ -132,6 +132,15 @@ module _ (table : List ℕ) (w : ℕ) (marks : List ℕ) where
           higher = h .higher;
           same = h .same;
         }
+
+    pub raising-step : Raising (r + 1) (set after (placeOf w r) v) (changed || not (eqb v (markAt after (placeOf w r))))
+    raising-step = at (eqb v (markAt after (placeOf w r))) refl
+      where
+        at : (t : Bool) → eqb v (markAt after (placeOf w r)) ≡ t → Raising (r + 1) (set after (placeOf w r) v) (changed || not t)
+        at true t =
+            let q = eqb-true v (markAt after (placeOf w r)) t in
+            rw (q, set-getD after (placeOf w r) notReached, or-false) (raising-old q)
+        at false t = rw or-true (raising-new (eqb-false v (markAt after (placeOf w r)) t))
 
   pub raising-done : (r : ℕ) (after : List ℕ) (changed : Bool) → Raising r after changed → registerCount ≤ r → after ≡ raisedAt table w marks
   raising-done r after changed h l =

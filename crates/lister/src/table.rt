@@ -49,14 +49,13 @@ pub fn entry_marks(entry: &[u8]) -> [u8; REGISTERS]
 pub fn is_reached(marks: &[u8; REGISTERS]) -> bool
     ensures { λ r. ⌜ r ≡ reached (now (marks .entry)) ⌝ }
 {
+    let mut reached = true;
     let mut r: usize = 0;
     while r < REGISTERS {
-        if marks[r] == NOT_REACHED {
-            return false;
-        }
+        reached = reached & (marks[r] != NOT_REACHED);
         r += 1;
     }
-    true
+    reached
 }
 
 // Raises a table by marks that arrive at word w; whether a mark has changed.
@@ -71,10 +70,8 @@ pub fn raise_at(table: &mut [u8; TABLE_MARKS], w: usize, marks: &[u8; REGISTERS]
     while r < REGISTERS {
         let old = table[REGISTERS * w + r];
         let new = meet(old, marks[r]);
-        if new != old {
-            table[REGISTERS * w + r] = new;
-            changed = true;
-        }
+        table[REGISTERS * w + r] = new;
+        changed = changed | (new != old);
         r += 1;
     }
     changed

@@ -1,45 +1,37 @@
+-- The loop's invariant: whether the registers so far have marks.
+use Prim.Native.Nat.{ℕ, _+_, _-_, _≤_, _<_}
+use mathlib.Core.Path.{_≡_, sym, ap, _∙_}
+use mathlib.Core.Bool.{Bool, not, _&&_}
 use mathlib.Core.List.{List}
-use borrow.Author.Tests.{ne-eqb}
-use Rattle.lister.proofs.Stored.{mark-in}
-use Rattle.v8.proofs.Search.{all-none, all-more, all-not}
-use Rattle.lister.specs.Table.{reached}
-use Rattle.marks.specs.Marks.{notReached, registerCount, hasMark}
-use Rattle.v8.specs.Search.{all}
-use mathlib.Core.Bool.{true, false}
-use Prim.Native.Nat.{ℕ, _≤_, _-_, _<_}
-use mathlib.Core.Path.{_≡_, refl, sym, ap, _∙_}
 use native.Mathlib.Omega.{arith}
+use native.Mathlib.Numerals.{add-one}
+use lib.Dec.{eqb}
 use lib.ListN.{getD}
 use borrow.Author.Needs.{needs}
+use Rattle.v8.specs.Search.{all}
+use Rattle.v8.proofs.Search.{all-none}
+use Rattle.marks.specs.Marks.{notReached, registerCount, hasMark}
+use Rattle.lister.specs.Table.{reached}
+use Rattle.lister.proofs.Stored.{mark-in}
 use Rattle.lister.proofs.table.is_reached.Statement.{statement}
 use Rattle.lister.proofs.table.is_reached.Tie as tie
 
 abbrev Inv-loop : tie.InvT-loop
-Inv-loop marks r₀ r = (r ≤ registerCount) × (all (hasMark marks) r ≡ true)
+Inv-loop marks reached₀ r₀ reached r = (r ≤ registerCount) × (reached ≡ all (hasMark marks) r)
 
 abbrev μ-loop : tie.MeasureT-loop
-μ-loop marks r₀ r = registerCount - r
+μ-loop marks reached₀ r₀ reached r = registerCount - r
 
--- whether the mark of a register in the array is there
-has-here : (marks : List ℕ) (r : ℕ) → r < registerCount → (getD marks r notReached ≡ notReached → ⊥) → hasMark marks r ≡ true
-has-here marks r l n = rw (mark-in marks r l, ne-eqb (getD marks r notReached) notReached n)
-
-none-here : (marks : List ℕ) (r : ℕ) → r < registerCount → getD marks r notReached ≡ notReached → hasMark marks r ≡ false
-none-here marks r l e = rw (mark-in marks r l, e)
+-- one register more
+all-next : (marks : List ℕ) (r : ℕ) (t : Bool) → r < registerCount → t ≡ all (hasMark marks) r → t && not (eqb (getD marks r notReached) notReached) ≡ all (hasMark marks) (r + 1)
+unfolding all
+all-next marks r t l e = rw (e, add-one, mark-in marks r l)
 
 loop-holds : tie.Need-loop-holds Inv-loop μ-loop
-loop-holds c = (omega arith, all-none (hasMark (c .args .marks .now)))
+loop-holds c = (omega arith, sym (all-none (hasMark (c .args .marks .now))))
 
-element-copy-out-if1 : tie.Need-element-copy-out-if1 Inv-loop μ-loop
-element-copy-out-if1 c = search needs
-
-returns : tie.Need-returns Inv-loop μ-loop
-unfolding reached
-returns c =
-    let l = c .before .before .before in
-    let m = l .before .args .marks .now in
-    let t = c .before .before .loop-test .taken in
-    sym (all-not (hasMark m) registerCount (l .loop .r) t (none-here m (l .loop .r) t (c .if1 .taken)))
+element-copy-out-reached : tie.Need-element-copy-out-reached Inv-loop μ-loop
+element-copy-out-reached c = search needs
 
 add-r : tie.Need-add-r Inv-loop μ-loop
 add-r c = search needs
@@ -49,15 +41,15 @@ loop-less c = search needs
 
 loop-again : tie.Need-loop-again Inv-loop μ-loop
 loop-again c =
-    let l = c .before .before .before in
-    let t = c .before .before .loop-test .taken in
-    (omega (arith, t), all-more (hasMark (l .before .args .marks .now)) (l .loop .r) (l .loop .inv .1) (has-here (l .before .args .marks .now) (l .loop .r) t (c .if1 .left)))
+    let l = c .before .before .loop in
+    let t = c .before .loop-test .taken in
+    (omega (arith, t), all-next (c .before .before .before .args .marks .now) (l .r) (l .reached) t (l .inv .1))
 
-returns-2 : tie.Need-returns-2 Inv-loop μ-loop
+returns : tie.Need-returns Inv-loop μ-loop
 unfolding reached
-returns-2 c =
-    let l = c .before in
-    sym (ap (all (hasMark (l .before .args .marks .now))) (omega (arith, l .loop .inv .0, c .loop-test .left)) ∙ l .loop .inv .1)
+returns c =
+    let l = c .before .loop in
+    l .inv .1 ∙ ap (all (hasMark (c .before .before .args .marks .now))) (omega (arith, l .inv .0, c .loop-test .left))
 
 pub is-reached-spec : {M : Type 1} → statement M
 is-reached-spec =
@@ -66,9 +58,8 @@ is-reached-spec =
     Inv-loop
     μ-loop
     loop-holds
-    element-copy-out-if1
-    returns
+    element-copy-out-reached
     add-r
     loop-less
     loop-again
-    returns-2)
+    returns)

@@ -1,14 +1,12 @@
+-- The marks are raised register by register (Stored).
+use Prim.Native.Nat.{_-_, _<_}
+use native.Mathlib.Omega.{arith}
+use lib.ListN.{length}
 use denote.Ref.{now}
-use mathlib.Core.Logic.{⊎-elim}
+use borrow.Author.Needs.{needs}
 use Rattle.marks.specs.Marks.{registerCount}
 use Rattle.lister.specs.Table.{placeOf}
-use Rattle.lister.proofs.Stored.{Raising, raising-none, raising-new, raising-old, raising-done}
-use mathlib.Core.Bool.{true, false}
-use Prim.Native.Nat.{_≤_, _-_, _<_}
-use mathlib.Core.Path.{_≡_, refl, sym, ap, _∙_}
-use native.Mathlib.Omega.{arith}
-use lib.ListN.{length, length-set}
-use borrow.Author.Needs.{needs}
+use Rattle.lister.proofs.Stored.{Raising, raising-none, raising-step, raising-done}
 use Rattle.lister.proofs.table.raise_at.Statement.{statement}
 use Rattle.lister.proofs.table.raise_at.Tie as tie
 
@@ -53,18 +51,11 @@ loop-less c = search needs
 
 loop-again : tie.Need-loop-again Inv-loop μ-loop
 loop-again c =
-    let l = c .before .before .before .before in
+    let l = c .before .before .before in
     let s = l .before .before in
     let t = l .before .loop in
     let fits : placeOf (s .args .w) (t .r) < length (t .table) = omega (arith, l .loop-test .taken, s .pre .0, s .pre .1, t .inv .long) in
-    let v = c .before .meet in
-    let a = now (s .args .table) in
-    let m = now (s .args .marks) in
-    let r = l .loop-test .taken in
-    ⊎-elim
-    (λ k. rw (k .1, k .2) (raising-new a (s .args .w) m (t .r) (v .result) (t .table) (t .changed) r fits (v .ensures) (t .inv) (k .0 .taken)))
-    (λ k. rw (k .1, k .2) (raising-old a (s .args .w) m (t .r) (v .result) (t .table) (t .changed) r fits (v .ensures) (t .inv) (k .0 .left)))
-    (c .if1 .came)
+    raising-step (now (s .args .table)) (s .args .w) (now (s .args .marks)) (t .r) (c .meet .result) (t .table) (t .changed) (l .loop-test .taken) fits (c .meet .ensures) (t .inv)
 
 returns : tie.Need-returns Inv-loop μ-loop
 returns c =
