@@ -45,14 +45,14 @@ abbrev pub policyPass : Policy → Answer
 policyPass p = need (policyOk p) badPolicy 0 0
 
 -- of "21 words not 1 to 128, rows not 392 bytes a word, or the entry row or result entry badly formed" what is asked of n words and the entry
--- row ..
-abbrev pub startOk : Policy → ℕ → List ℕ → Bool
-startOk p n entry = leb 1 n && leb n mostWords && eqb (length entry) rowBytes && flawless (formFault (p .regions .count) (p .regions .sizes) entry 0)
+-- row, by how many regions there are and their sizes ..
+abbrev pub startOk : ℕ → List ℕ → ℕ → List ℕ → Bool
+startOk regions sizes n entry = leb 1 n && leb n mostWords && eqb (length entry) rowBytes && flawless (formFault regions sizes entry 0)
 
 -- .. and with them of the rows and the result entry
 unfoldable pub shapeOk : Policy → ℕ → List ℕ → List ℕ → List ℕ → Bool
 shapeOk p n rows entry result =
-    startOk p n entry && eqb (length rows) (rowBytes * n) && eqb (length result) entryBytes
+    startOk (p .regions .count) (p .regions .sizes) n entry && eqb (length rows) (rowBytes * n) && eqb (length result) entryBytes
     && entryFormed (p .regions .count) (p .regions .sizes) result 0
 
 abbrev pub shapePass : Policy → ℕ → List ℕ → List ℕ → List ℕ → Answer

@@ -24,8 +24,8 @@ use v8::numbers::BAD_SHAPE;
 use v8::numbers::MOST_WORDS;
 
 // Whether the words are as many as they may be, and the entry row is one that is well formed.
-pub fn start_ok(policy: Policy, words: &[u32], entry: &[u8]) -> bool
-    ensures { λ r. ⌜ r ≡ startOk policy (length (now (words .entry))) (now (entry .entry)) ⌝ }
+pub fn start_ok(regions: u8, sizes: &[u16; 8], words: &[u32], entry: &[u8]) -> bool
+    ensures { λ r. ⌜ r ≡ startOk regions (now (sizes .entry)) (length (now (words .entry))) (now (entry .entry)) ⌝ }
 {
     let count = words.len();
     if count < 1 {
@@ -37,7 +37,7 @@ pub fn start_ok(policy: Policy, words: &[u32], entry: &[u8]) -> bool
     if entry.len() != ROW_BYTES {
         return false;
     }
-    let flaw = form_fault(policy.regions.count, &policy.regions.sizes, entry, 0);
+    let flaw = form_fault(regions, sizes, entry, 0);
     flawless(flaw)
 }
 
@@ -46,7 +46,7 @@ pub fn start_ok(policy: Policy, words: &[u32], entry: &[u8]) -> bool
 fn shape_ok(policy: Policy, words: &[u32], rows: &[u8], entry: &[u8], result: &[u8]) -> bool
     ensures { λ r. ⌜ r ≡ shapeOk policy (length (now (words .entry))) (now (rows .entry)) (now (entry .entry)) (now (result .entry)) ⌝ }
 {
-    if !start_ok(policy, words, entry) {
+    if !start_ok(policy.regions.count, &policy.regions.sizes, words, entry) {
         return false;
     }
     if rows.len() != ROW_BYTES * words.len() {

@@ -38,7 +38,7 @@ module _ (p : Policy) (words entry table : List ℕ) where
   answer = listingAnswer p (readingsOf words) entry (length table)
 
   abbrev pub fits : ℕ → Bool
-  fits n = listable p n entry (length table)
+  fits n = listable (p .regions .count) (p .regions .sizes) n entry (length table)
 
   -- what a table and an entry row that may be listed tell of the lengths
   pub record Lengths : Type 0 where

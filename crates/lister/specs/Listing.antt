@@ -53,13 +53,13 @@ abbrev pub wholeTable : List ℕ → List ℕ
 wholeTable listing = listing ++ replicate (tableMarks - length listing) notReached
 
 -- "Checks: 20, 21 (without rows and result entry, which aren't handed in; also a table of another length), 2, 24 and 3 come as in the check"
-abbrev pub listable : Policy → ℕ → List ℕ → ℕ → Bool
-listable p n entry size = startOk p n entry && eqb size tableMarks
+abbrev pub listable : ℕ → List ℕ → ℕ → List ℕ → ℕ → Bool
+listable regions sizes n entry size = startOk regions sizes n entry && eqb size tableMarks
 
 unfoldable pub listingAnswer : Policy → List Reading → List ℕ → ℕ → Answer
 listingAnswer p readings entry size =
     andThen (policyPass p)
-    (andThen (need (listable p (length readings) entry size) badShape 0 0)
+    (andThen (need (listable (p .regions .count) (p .regions .sizes) (length readings) entry size) badShape 0 0)
     (andThen (passOf (readPass readings) (length readings))
     (passOf (flowPass readings) (length readings))))
 

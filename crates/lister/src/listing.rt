@@ -22,10 +22,10 @@ use v8::numbers::BAD_SHAPE;
 
 // Whether the words are as many as they may be, the entry row is well formed, and the table is of the
 // length of one.
-fn listable(policy: Policy, words: &[u32], entry: &[u8], size: usize) -> bool
-    ensures { λ r. ⌜ r ≡ listable policy (length (now (words .entry))) (now (entry .entry)) size ⌝ }
+fn listable(regions: u8, sizes: &[u16; 8], words: &[u32], entry: &[u8], size: usize) -> bool
+    ensures { λ r. ⌜ r ≡ listable regions (now (sizes .entry)) (length (now (words .entry))) (now (entry .entry)) size ⌝ }
 {
-    start_ok(policy, words, entry) & (size == TABLE_MARKS)
+    start_ok(regions, sizes, words, entry) & (size == TABLE_MARKS)
 }
 
 // Writes all marks into a lent table of that length.
@@ -51,7 +51,14 @@ pub fn list_kinds(policy: Policy, words: &[u32], entry: &[u8], table: &mut [u8])
     if !policy.well_formed() {
         return refuse(BAD_POLICY, WordIndex(0), 0);
     }
-    if !listable(policy, words, entry, table.len()) {
+    let size = table.len();
+    if !listable(
+        policy.regions.count,
+        &policy.regions.sizes,
+        words,
+        entry,
+        size,
+    ) {
         return refuse(BAD_SHAPE, WordIndex(0), 0);
     }
     let readings = read_all(words);

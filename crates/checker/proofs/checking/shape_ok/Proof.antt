@@ -9,7 +9,6 @@ use denote.Ref.{now}
 use borrow.Author.Tests.{eq-eqb, ne-eqb, not-true, not-false}
 use Rattle.v8.specs.Numbers.{mostWords}
 use Rattle.v8.proofs.Search.{needed-le}
-use Rattle.policy.specs.declared.Policy.{Policy}
 use Rattle.rows.specs.Geometry.{entryBytes}
 use Rattle.checker.specs.Passes.{startOk, shapeOk}
 use borrow.Author.Needs.{needs}
@@ -23,14 +22,14 @@ first-fails a b c d e = rw e
 last-decides : (a b c d : Bool) → a ≡ true → b ≡ true → c ≡ true → d ≡ a && b && c && d
 last-decides a b c d e f g = rw (e, f, g)
 
-words-most : (p : Policy) (n : ℕ) (entry : List ℕ) → startOk p n entry ≡ true → n ≤ mostWords
-words-most p n entry e = needed-le (startOk p n entry) n mostWords e (λ f. simp (f, and-false))
+words-most : (regions : ℕ) (sizes : List ℕ) (n : ℕ) (entry : List ℕ) → startOk regions sizes n entry ≡ true → n ≤ mostWords
+words-most regions sizes n entry e = needed-le (startOk regions sizes n entry) n mostWords e (λ f. simp (f, and-false))
 
 abbrev start : tie.Start → Bool
-start s = startOk (s .args .t1) (length (now (s .args .words))) (now (s .args .entry))
+start s = startOk (s .args .t1 .regions .count) (s .args .t1 .regions .sizes) (length (now (s .args .words))) (now (s .args .entry))
 
 abbrev start1 : tie.Else1 → tie.Start
-start1 c = c .before .before .before .before .before .before
+start1 c = c .before .before .before .before .before .before .before .before
 
 started : (c : tie.Else1) → start (start1 c) ≡ true
 started c = sym (c .before .start-ok .ensures) ∙ not-false _ (c .if1 .left)
@@ -40,12 +39,12 @@ start-ok-requires c κs = search needs
 
 returns : tie.Need-returns
 unfolding shapeOk
-returns c = first-fails (start (c .before .before .before .before .before .before)) _ _ _ (sym (c .before .start-ok .ensures) ∙ not-true _ (c .if1 .taken))
+returns c = first-fails (start (c .before .before .before .before .before .before .before .before)) _ _ _ (sym (c .before .start-ok .ensures) ∙ not-true _ (c .if1 .taken))
 
 mul-if2 : tie.Need-mul-if2
 mul-if2 c =
     let s = start1 c .args in
-    record { fits = omega (arith, words-most (s .t1) (length (now (s .words))) (now (s .entry)) (started c)) }
+    record { fits = omega (arith, words-most (s .t1 .regions .count) (s .t1 .regions .sizes) (length (now (s .words))) (now (s .entry)) (started c)) }
 
 returns-2 : tie.Need-returns-2
 unfolding shapeOk

@@ -25,7 +25,7 @@ flawless-requires c κs = search needs
 returns-4 : tie.Need-returns-4
 returns-4 c =
     let fault = c .before in
-    let i = fault .before .before .before in
+    let i = fault .before in
     rw (
       le-leb 1 _ (i .before .before .if1 .left),
       le-leb _ mostWords (i .before .if2 .left),

@@ -33,7 +33,7 @@ abbrev table : tie.Start → List ℕ
 table s = now (s .args .table)
 
 abbrev whole : tie.Start → Answer
-whole s = answer (s .args .policy) (words s) (entry s) (table s)
+whole s = answer (s .args .t1) (words s) (entry s) (table s)
 
 -- a pass over the words is one over the words as they are read
 over : (s : tie.Start) (f : ℕ → Answer) → passOf f (length (words s)) ≡ passOf f (length (readingsOf (words s)))
@@ -43,27 +43,30 @@ over s f = ap (passOf f) (sym (read-count (words s)))
 abbrev start1 : tie.Else1 → tie.Start
 start1 c = c .before .before .before .before .before
 
-right-policy : (c : tie.Else1) → policyOk (start1 c .args .policy) ≡ true
+right-policy : (c : tie.Else1) → policyOk (start1 c .args .t1) ≡ true
 right-policy c = sym (c .before .well-formed .ensures) ∙ not-false _ (c .if1 .left)
 
 -- after 21
-abbrev start2 : tie.Else2 → tie.Start
-start2 c = start1 (c .before .before)
+abbrev shape1 : tie.Else2 → tie.Else1
+shape1 c = c .before .before .before .before
 
-right-shape : (c : tie.Else2) → fits (start2 c .args .policy) (words (start2 c)) (entry (start2 c)) (table (start2 c)) (length (words (start2 c))) ≡ true
+abbrev start2 : tie.Else2 → tie.Start
+start2 c = start1 (shape1 c)
+
+right-shape : (c : tie.Else2) → fits (start2 c .args .t1) (words (start2 c)) (entry (start2 c)) (table (start2 c)) (length (words (start2 c))) ≡ true
 right-shape c = sym (c .before .listable .ensures) ∙ not-false _ (c .if2 .left)
 
-long : (c : tie.Else2) → Lengths (start2 c .args .policy) (words (start2 c)) (entry (start2 c)) (table (start2 c))
-long c = lengths (start2 c .args .policy) (words (start2 c)) (entry (start2 c)) (table (start2 c)) (right-shape c)
+long : (c : tie.Else2) → Lengths (start2 c .args .t1) (words (start2 c)) (entry (start2 c)) (table (start2 c))
+long c = lengths (start2 c .args .t1) (words (start2 c)) (entry (start2 c)) (table (start2 c)) (right-shape c)
 
-left2 : (c : tie.Else2) → whole (start2 c) ≡ fromReads (start2 c .args .policy) (words (start2 c)) (entry (start2 c)) (table (start2 c))
-left2 c = from-reads (start2 c .args .policy) (words (start2 c)) (entry (start2 c)) (table (start2 c)) (right-policy (c .before .before)) (right-shape c)
+left2 : (c : tie.Else2) → whole (start2 c) ≡ fromReads (start2 c .args .t1) (words (start2 c)) (entry (start2 c)) (table (start2 c))
+left2 c = from-reads (start2 c .args .t1) (words (start2 c)) (entry (start2 c)) (table (start2 c)) (right-policy (shape1 c)) (right-shape c)
 
 -- after 2 and 24
 abbrev shape3 : tie.Else3 → tie.Else2
 shape3 c = c .before .before .before .before
 
-left3 : (c : tie.Else3) → whole (start2 (shape3 c)) ≡ fromFlow (start2 (shape3 c) .args .policy) (words (start2 (shape3 c))) (entry (start2 (shape3 c))) (table (start2 (shape3 c)))
+left3 : (c : tie.Else3) → whole (start2 (shape3 c)) ≡ fromFlow (start2 (shape3 c) .args .t1) (words (start2 (shape3 c))) (entry (start2 (shape3 c))) (table (start2 (shape3 c)))
 left3 c = left2 (shape3 c) ∙ goes _ _ _ (c .before .before .read-pass .ensures ∙ over (start2 (shape3 c)) _) (c .if3 .left)
 
 -- after 3
@@ -82,8 +85,8 @@ refuse-requires c κs = search needs
 returns : tie.Need-returns
 returns c =
     let s = c .before .before .before .before .before .before in
-    let e = bad-policy (s .args .policy) (words s) (entry s) (table s) (sym (c .before .before .well-formed .ensures) ∙ not-true _ (c .before .if1 .taken)) in
-    refused (s .args .policy) (words s) (entry s) (table s) (c .refuse .result) (e ∙ sym (c .refuse .ensures)) (λ z. absurd (omega (arith, ap (λ (a : Answer). a .number) (c .refuse .ensures), z)))
+    let e = bad-policy (s .args .t1) (words s) (entry s) (table s) (sym (c .before .before .well-formed .ensures) ∙ not-true _ (c .before .if1 .taken)) in
+    refused (s .args .t1) (words s) (entry s) (table s) (c .refuse .result) (e ∙ sym (c .refuse .ensures)) (λ z. absurd (omega (arith, ap (λ (a : Answer). a .number) (c .refuse .ensures), z)))
 
 listable-requires : tie.Need-listable-requires
 listable-requires c κs = search needs
@@ -93,10 +96,10 @@ refuse-requires-2 c κs = search needs
 
 returns-2 : tie.Need-returns-2
 returns-2 c =
-    let d = c .before .before .before in
+    let d = c .before .before .before .before .before in
     let s = start1 d in
-    let e = bad-shape (s .args .policy) (words s) (entry s) (table s) (right-policy d) (sym (c .before .before .listable .ensures) ∙ not-true _ (c .before .if2 .taken)) in
-    refused (s .args .policy) (words s) (entry s) (table s) (c .refuse2 .result) (e ∙ sym (c .refuse2 .ensures)) (λ z. absurd (omega (arith, ap (λ (a : Answer). a .number) (c .refuse2 .ensures), z)))
+    let e = bad-shape (s .args .t1) (words s) (entry s) (table s) (right-policy d) (sym (c .before .before .listable .ensures) ∙ not-true _ (c .before .if2 .taken)) in
+    refused (s .args .t1) (words s) (entry s) (table s) (c .refuse2 .result) (e ∙ sym (c .refuse2 .ensures)) (λ z. absurd (omega (arith, ap (λ (a : Answer). a .number) (c .refuse2 .ensures), z)))
 
 read-all-requires : tie.Need-read-all-requires
 read-all-requires c κs = long c .most
@@ -109,7 +112,7 @@ returns-3 c =
     let d = c .before .before in
     let t = d .before .before in
     let s = start2 t in
-    refused (s .args .policy) (words s) (entry s) (table s) (d .read-pass .result) (left2 t ∙ stops _ _ _ (d .read-pass .ensures ∙ over s _) (c .if3 .taken)) (c .if3 .taken)
+    refused (s .args .t1) (words s) (entry s) (table s) (d .read-pass .result) (left2 t ∙ stops _ _ _ (d .read-pass .ensures ∙ over s _) (c .if3 .taken)) (c .if3 .taken)
 
 examine-all-requires : tie.Need-examine-all-requires
 examine-all-requires c κs = (long (shape3 c) .most, c .before .before .before .read-all .ensures)
@@ -124,7 +127,7 @@ returns-4 c =
     let d = c .before .before in
     let r = d .before .before .before in
     let s = start2 (shape3 r) in
-    refused (s .args .policy) (words s) (entry s) (table s) (d .flow-pass .result) (left3 r ∙ sym (d .flow-pass .ensures ∙ over s _)) (c .if4 .taken)
+    refused (s .args .t1) (words s) (entry s) (table s) (d .flow-pass .result) (left3 r ∙ sym (d .flow-pass .ensures ∙ over s _)) (c .if4 .taken)
 
 raise-until-closed-requires : tie.Need-raise-until-closed-requires
 raise-until-closed-requires c κs =
@@ -153,7 +156,7 @@ returns-5 c =
     let s = start2 (shape4 f) in
     let p = f .before .before .flow-pass in
     let e = left3 (read4 f) ∙ sym (p .ensures ∙ over s _) ∙ pass-accepts _ _ (p .result) (p .ensures) (f .if4 .left) in
-    rw (c .accept .ensures, o .copy-out .ensures, u .raise-until-closed .ensures) (lists (s .args .policy) (words s) (entry s) (table s) e)
+    rw (c .accept .ensures, o .copy-out .ensures, u .raise-until-closed .ensures) (lists (s .args .t1) (words s) (entry s) (table s) e)
 
 pub list-kinds-spec : {M : Type 1} → statement M
 list-kinds-spec =
