@@ -1,6 +1,6 @@
 -- Whole listings, and refusals (document 02, request 2). The words are those that GNU as gives, and stand above each row.
 use Prim.Native.Nat.{ℕ}
-use mathlib.Core.Bool.{Bool, true}
+use mathlib.Core.Bool.{true}
 use mathlib.Core.List.{List, [], _∷_, _++_}
 use lib.ListN.{replicate, take}
 use Rattle.v8.specs.Signed.{bias}

@@ -19,7 +19,7 @@ use Rattle.checker.specs.declared.Answer.{Answer}
 use Rattle.checker.specs.Answer.{accepted, refuse, passes, refuses, andThen, passOf}
 use Rattle.checker.specs.Passes.{readPass, flowPass}
 use Rattle.lister.specs.Table.{tableMarks}
-use Rattle.lister.specs.Listing.{Listed, listingOf, wholeTable, listable, listingAnswer, listed}
+use Rattle.lister.specs.Listing.{listingOf, wholeTable, listable, listingAnswer, listed}
 
 -- a pass over the words whose answer has the number 0 accepts
 pub pass-accepts : (f : ℕ → Answer) (n : ℕ) (a : Answer) → a ≡ passOf f n → a .number ≡ 0 → a ≡ accepted

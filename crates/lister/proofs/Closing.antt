@@ -2,19 +2,19 @@
 use Prim.Native.Nat.{ℕ, _+_, _*_, _-_, _≤_, _<_}
 use mathlib.Core.Path.{_≡_, refl, sym, ap, subst, _∙_}
 use mathlib.Core.Bool.{Bool, true, false, cond, _&&_}
-use mathlib.Core.List.{List, [], _∷_, _++_}
+use mathlib.Core.List.{List, []}
 use mathlib.Core.Logic.{⊎-elim}
 use native.Mathlib.Nat.{eq-or-lt-of-le}
 use native.Mathlib.Omega.{arith}
 use lib.Dec.{ltb, eqb}
-use lib.ListN.{length, getD, set, replicate, length-replicate, getD-replicate, length-append, List·getD-append}
+use lib.ListN.{length, set, replicate, length-replicate, getD-replicate, length-append, List·getD-append}
 use lib.Seq.{ext-getD, getD-set-other, getD-append-add}
 use borrow.Author.Tests.{ltb-true, ltb-false, lt-ltb, eqb-true, eqb-false}
 use Rattle.v8.specs.Numbers.{mostWords}
 use Rattle.v8.specs.declared.Reading.{Reading}
 use Rattle.flow.specs.Readings.{readingAt, examined}
 use Rattle.rows.proofs.Tests.{false-true}
-use Rattle.marks.specs.Marks.{notReached, registerCount}
+use Rattle.marks.specs.Marks.{notReached}
 use Rattle.lister.specs.Table.{tableMarks, markAt, marksAt, raisedAt, TableAtMost, height}
 use Rattle.lister.specs.Rules.{entryMarks, entrySent, sendsReached, sentBy, takenIn, allTakenIn, closedAt, closed}
 use Rattle.lister.specs.Listing.{raisedBy, raisedByAll, listingOf, wholeTable}

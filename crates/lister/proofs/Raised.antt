@@ -1,7 +1,7 @@
 -- Tables raised by what is sent, one after the other: the lowest that are at least the one before and take all of it in.
 use Prim.Native.Nat.{ℕ, _+_, _*_, _≤_, _<_}
-use mathlib.Core.Path.{_≡_, refl, sym, _∙_}
-use mathlib.Core.Bool.{Bool, true, false, cond, _&&_}
+use mathlib.Core.Path.{_≡_, refl, _∙_}
+use mathlib.Core.Bool.{true, false}
 use mathlib.Core.List.{List, [], _∷_}
 use native.Mathlib.Omega.{arith}
 use lib.Dec.{ltb}
@@ -20,8 +20,8 @@ use Rattle.flow.specs.Readings.{readingAt, examined}
 use Rattle.rows.proofs.Tests.{and-went}
 use Rattle.marks.specs.Marks.{registerCount}
 use Rattle.marks.specs.Effect.{marksAfter}
-use Rattle.lister.specs.Table.{marksAt, reached, raisedAt, TableAtMost}
-use Rattle.lister.specs.Rules.{Sent, nowhere, arriving, toWord, toEnd, carried, sentAlong, shown, sends, sendsReached, sentBy, takenIn, allTakenIn}
+use Rattle.lister.specs.Table.{marksAt, reached, TableAtMost}
+use Rattle.lister.specs.Rules.{Sent, nowhere, arriving, toWord, toEnd, carried, sentAlong, sends, sentBy, takenIn, allTakenIn}
 use Rattle.lister.specs.Listing.{raisedBy, raisedByAll}
 use Rattle.lister.proofs.Tables.{raised-length, raised-least, raised-taken, raised-lowest, table-self, table-trans, taken-nowhere, taken-higher}
 

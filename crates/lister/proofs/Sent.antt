@@ -1,13 +1,11 @@
 -- What a word sends in a lower table is taken in wherever what it sends in a higher one is: each word raises what its marks raise.
 use Prim.Native.Nat.{ℕ, _+_, _≤_, _<_}
-use mathlib.Core.Path.{_≡_, refl, sym, ap, subst, _∙_}
-use mathlib.Core.Bool.{Bool, true, false, cond, not, _&&_}
-use mathlib.Core.List.{List, [], _∷_}
-use native.Mathlib.Omega.{arith}
+use mathlib.Core.Path.{_≡_, refl, sym, subst, _∙_}
+use mathlib.Core.Bool.{Bool, true, false, cond, not}
+use mathlib.Core.List.{List, []}
 use lib.Dec.{ltb, eqb}
 use lib.ListN.{length}
-use borrow.Author.Tests.{ltb-true, ltb-false, eqb-false, ne-eqb, not-true}
-use Rattle.v8.specs.Search.{all}
+use borrow.Author.Tests.{ltb-true, ltb-false, eqb-false, not-true}
 use Rattle.v8.specs.declared.Instruction.{Instruction}
 use Rattle.v8.specs.declared.Reading.{Reading}
 use Rattle.v8.specs.declared.Reading.the-variants.{Read, Unread}
@@ -19,7 +17,7 @@ use Rattle.flow.specs.Transfer.{isTransfer}
 use Rattle.flow.specs.Edge.{edgeOf}
 use Rattle.flow.specs.Readings.{readingAt, examined}
 use Rattle.rows.proofs.Tests.{and-went, false-true}
-use Rattle.marks.specs.Marks.{notReached, unset, AtMost, registerCount, markOf, MarksAtMost, hasMark}
+use Rattle.marks.specs.Marks.{notReached, unset, registerCount, markOf, MarksAtMost, hasMark}
 use Rattle.marks.specs.Effect.{marksAfter, marksAfterWord}
 use Rattle.marks.specs.Laws.{AllMarked}
 use Rattle.marks.proofs.Order.{at-most-ways, at-most-trans, at-most-self}
@@ -27,7 +25,7 @@ use Rattle.marks.proofs.Rising.{after-rises, after-marked}
 use Rattle.lister.specs.Table.{placeOf, markAt, marksAt, reached, TableAtMost}
 use Rattle.lister.specs.Rules.{Sent, nowhere, arriving, toWord, toEnd, carried, sentAlong, shown, sends, sendsReached, sentBy, takenIn, allTakenIn, closedAt}
 use Rattle.lister.proofs.Places.{mark-out, mark-there, marks-length}
-use Rattle.lister.proofs.Tables.{taken-each, taken-at, taken-nowhere}
+use Rattle.lister.proofs.Tables.{taken-each, taken-at}
 
 -- a register, or one after the last
 register : {C : Type 0} (r : ℕ) → (r < registerCount → C) → (registerCount ≤ r → C) → C

@@ -1,9 +1,9 @@
 -- The listing is closed, and at most every closed table: raising keeps a table at most each closed one, and while it is not closed makes it
 -- higher, which ends.
 use Prim.Native.Nat.{ℕ, zero, suc, _+_, _*_, _≤_, _<_}
-use mathlib.Core.Path.{_≡_, refl, sym, ap, subst, _∙_}
-use mathlib.Core.Bool.{Bool, true, false, cond, _&&_}
-use mathlib.Core.List.{List, [], _∷_}
+use mathlib.Core.Path.{_≡_, refl, sym, subst, _∙_}
+use mathlib.Core.Bool.{Bool, true, false}
+use mathlib.Core.List.{List}
 use mathlib.Core.Logic.{⊎-elim}
 use native.Mathlib.Nat.{eq-or-lt-of-le, le-of-suc-le-suc, not-suc-le-zero}
 use native.Mathlib.Omega.{arith}
@@ -63,31 +63,31 @@ module _ (readings : List Reading) (entry : List ℕ) where
   entry-lowest table other c p = by-lowest table other (entrySent (length readings) entry) p (closed-entry other c)
 
   module _ (from : List ℕ) where
-    words-length : (table : List ℕ) (w : ℕ) → length (raisedByWords readings entry from table w) ≡ length table
+    words-length : (table : List ℕ) (w : ℕ) → length (raisedByWords readings from table w) ≡ length table
     unfolding raisedByWords
     words-length table zero = refl
-    words-length table (suc w) = all-length (raisedByWords readings entry from table w) (sentBy readings from w) ∙ words-length table w
+    words-length table (suc w) = all-length (raisedByWords readings from table w) (sentBy readings from w) ∙ words-length table w
 
-    words-least : (table : List ℕ) (w : ℕ) → TableAtMost table (raisedByWords readings entry from table w)
+    words-least : (table : List ℕ) (w : ℕ) → TableAtMost table (raisedByWords readings from table w)
     unfolding raisedByWords
     words-least table zero = table-self table
     words-least table (suc w) =
-        let before = raisedByWords readings entry from table w in
+        let before = raisedByWords readings from table w in
         table-trans table before (raisedByAll before (sentBy readings from w)) (words-least table w) (all-least before (sentBy readings from w))
 
     words-lowest : (table other : List ℕ) → closed readings entry other ≡ true → TableAtMost from other → TableAtMost table other
-        → (w : ℕ) → w ≤ length readings → TableAtMost (raisedByWords readings entry from table w) other
+        → (w : ℕ) → w ≤ length readings → TableAtMost (raisedByWords readings from table w) other
     unfolding raisedByWords
     words-lowest table other c f p zero l = p
     words-lowest table other c f p (suc w) l =
-        word-lowest from (raisedByWords readings entry from table w) other c f (words-lowest table other c f p w (omega (arith, l))) w l
+        word-lowest from (raisedByWords readings from table w) other c f (words-lowest table other c f p w (omega (arith, l))) w l
 
     words-taken : (table : List ℕ) → length table ≡ registerCount * length readings → (n w : ℕ) → w < n
-        → allTakenIn (raisedByWords readings entry from table n) (sentBy readings from w) ≡ true
+        → allTakenIn (raisedByWords readings from table n) (sentBy readings from w) ≡ true
     unfolding raisedByWords
     words-taken table long zero w l = absurd (not-suc-le-zero l)
     words-taken table long (suc n) w l =
-        let before = raisedByWords readings entry from table n in
+        let before = raisedByWords readings from table n in
         let after = raisedByAll before (sentBy readings from n) in
         ⊎-elim
         (λ (e : w ≡ n). subst (λ (v : ℕ). allTakenIn after (sentBy readings from v) ≡ true) (sym e)
@@ -104,7 +104,7 @@ module _ (readings : List Reading) (entry : List ℕ) where
   unfolding raisedOnce
   once-least table =
       let first = raisedBy table (entrySent (length readings) entry) in
-      table-trans table first (raisedByWords readings entry table first (length readings)) (by-least table (entrySent (length readings) entry))
+      table-trans table first (raisedByWords readings table first (length readings)) (by-least table (entrySent (length readings) entry))
       (words-least table first (length readings))
 
   once-lowest : (table other : List ℕ) → closed readings entry other ≡ true → TableAtMost table other → TableAtMost (raisedOnce readings entry table) other
@@ -120,7 +120,7 @@ module _ (readings : List Reading) (entry : List ℕ) where
       let sent = entrySent (length readings) entry in
       closed-each table
       (subst (λ (t : List ℕ). takenIn t sent ≡ true) e
-      (taken-higher first (raisedByWords readings entry table first (length readings)) sent (words-least table first (length readings))
+      (taken-higher first (raisedByWords readings table first (length readings)) sent (words-least table first (length readings))
       (by-taken (length readings) table sent (omega (arith, long)) (to-within (length readings) 0 (entryMarks entry)))))
       (λ w l. subst (λ (t : List ℕ). allTakenIn t (sentBy readings table w) ≡ true) e
       (words-taken table first (by-length table sent ∙ long) (length readings) w l))
@@ -170,18 +170,18 @@ module _ (readings : List Reading) (entry : List ℕ) where
   pub listing-length : length (listingOf readings entry) ≡ registerCount * length readings
   unfolding listingOf
   listing-length =
-      until-length (2 * (registerCount * length readings)) (noMarks readings entry) ∙ length-replicate (registerCount * length readings) _
+      until-length (2 * (registerCount * length readings)) (noMarks readings) ∙ length-replicate (registerCount * length readings) _
 
 pub listing-closed : ListingClosed
 unfolding listingOf
 listing-closed readings entry =
-    until-closed readings entry (2 * (registerCount * length readings)) (noMarks readings entry) (length-replicate (registerCount * length readings) _)
+    until-closed readings entry (2 * (registerCount * length readings)) (noMarks readings) (length-replicate (registerCount * length readings) _)
     (omega arith)
 
 pub listing-smallest : ListingSmallest
 unfolding listingOf
 listing-smallest readings entry other c =
-    until-lowest readings entry (2 * (registerCount * length readings)) (noMarks readings entry) other c (none-below (registerCount * length readings) other)
+    until-lowest readings entry (2 * (registerCount * length readings)) (noMarks readings) other c (none-below (registerCount * length readings) other)
 
 pub listing-unique : ListingUnique
 listing-unique readings entry table s k =

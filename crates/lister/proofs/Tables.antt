@@ -7,12 +7,11 @@ use mathlib.Core.List.{List, [], _∷_}
 use native.Mathlib.Nat.{not-suc-le-zero, le-of-suc-le-suc}
 use native.Mathlib.Omega.{arith}
 use lib.Dec.{ltb, eqb}
-use lib.ListN.{length, getD, List·getD-eq-default}
+use lib.ListN.{length, List·getD-eq-default}
 use borrow.Author.Tests.{ltb-true, ltb-false, eqb-true, eq-eqb}
-use Rattle.v8.specs.Search.{all}
 use Rattle.v8.proofs.Choice.{cond-both}
 use Rattle.v8.proofs.Search.{all-at, all-each}
-use Rattle.marks.specs.Marks.{notReached, meet, AtMost, rank, registerCount, markOf}
+use Rattle.marks.specs.Marks.{notReached, AtMost, registerCount, markOf}
 use Rattle.marks.proofs.Order.{meets-lowest, rank-rises, none-at-most, at-most-self, at-most-trans}
 use Rattle.lister.specs.Table.{placeOf, markAt, raisedMark, raisedFrom, raisedAt, TableAtMost, height}
 use Rattle.lister.specs.Rules.{Sent, nowhere, arriving, atMostAt, takenIn}

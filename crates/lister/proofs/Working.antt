@@ -4,13 +4,13 @@ use mathlib.Core.Path.{_≡_, refl, sym, ap, subst, _∙_}
 use mathlib.Core.Bool.{Bool, true, false, cond}
 use mathlib.Core.List.{List}
 use native.Mathlib.Omega.{arith}
-use lib.Dec.{ltb, eqb}
+use lib.Dec.{ltb}
 use lib.ListN.{length, set, length-set}
 use lib.Seq.{getD-set-same, getD-set-other}
-use borrow.Author.Tests.{ltb-true, ltb-false, eqb-true, eqb-false, ne-eqb}
+use borrow.Author.Tests.{ltb-true, ltb-false, ne-eqb}
 use Rattle.v8.specs.Numbers.{mostWords}
 use Rattle.rows.proofs.Tests.{false-true}
-use Rattle.marks.specs.Marks.{notReached, registerCount}
+use Rattle.marks.specs.Marks.{registerCount}
 use Rattle.marks.proofs.Values.{values-length, value-at, has-all}
 use Rattle.lister.specs.Table.{placeOf, markAt, marksAt, raisedAt, height}
 use Rattle.lister.specs.Work.{isPending, Held, Worked}

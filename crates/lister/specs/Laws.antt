@@ -1,7 +1,7 @@
 -- The listing is the smallest table that is closed under the rules. The proofs are in proofs/.
 use Prim.Native.Nat.{ℕ, _*_, _≤_, _<_}
 use mathlib.Core.Path.{_≡_}
-use mathlib.Core.Bool.{Bool, true, false}
+use mathlib.Core.Bool.{true, false}
 use mathlib.Core.List.{List}
 use lib.ListN.{length}
 use Rattle.v8.specs.declared.Reading.{Reading}

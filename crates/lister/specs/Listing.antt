@@ -25,28 +25,29 @@ abbrev pub raisedByAll : List ℕ → List Sent → List ℕ
 raisedByAll table [] = table
 raisedByAll table (s ∷ ss) = raisedByAll (raisedBy table s) ss
 
-module _ (readings : List Reading) (entry : List ℕ) where
+module _ (readings : List Reading) where
   -- raised by all that the words below w send in another table
   unfoldable pub raisedByWords : List ℕ → List ℕ → ℕ → List ℕ
   raisedByWords from table zero = table
   raisedByWords from table (suc w) = raisedByAll (raisedByWords from table w) (sentBy readings from w)
 
+  -- "all starting as not reached"
+  abbrev pub noMarks : List ℕ
+  noMarks = replicate (registerCount * length readings) notReached
+
+module _ (readings : List Reading) (entry : List ℕ) where
   -- raised by all that the entry row and the words send
   unfoldable pub raisedOnce : List ℕ → List ℕ
-  raisedOnce table = raisedByWords table (raisedBy table (entrySent (length readings) entry)) (length readings)
+  raisedOnce table = raisedByWords readings table (raisedBy table (entrySent (length readings) entry)) (length readings)
 
   -- "raised until closed", at most n times
   unfoldable pub raisedUntilClosed : ℕ → List ℕ → List ℕ
   raisedUntilClosed zero table = table
   raisedUntilClosed (suc n) table = cond (closed readings entry table) table (raisedUntilClosed n (raisedOnce table))
 
-  -- "all starting as not reached"
-  abbrev pub noMarks : List ℕ
-  noMarks = replicate (registerCount * length readings) notReached
-
   -- the listing of the words: each raise makes the table higher, and it has height 2 at each mark
   unfoldable pub listingOf : List ℕ
-  listingOf = raisedUntilClosed (2 * (registerCount * length readings)) noMarks
+  listingOf = raisedUntilClosed (2 * (registerCount * length readings)) (noMarks readings)
 
 -- the whole table: there are no marks behind the last word
 abbrev pub wholeTable : List ℕ → List ℕ

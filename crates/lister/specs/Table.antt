@@ -1,6 +1,5 @@
 -- A table of marks (document 02, request 2): "word by word: for each register"; 32 marks a word, one word after the other.
 use Prim.Native.Nat.{ℕ, suc, _+_, _*_, _/_, _%_}
-use mathlib.Core.Path.{_≡_}
 use mathlib.Core.Bool.{Bool, cond}
 use mathlib.Core.List.{List, [], _∷_}
 use lib.Dec.{eqb}

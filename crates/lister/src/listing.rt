@@ -1,6 +1,5 @@
 // The listing of kinds, as an open call (specs/Listing.antt).
 ghost use mathlib.Core.Path.{_≡_};
-ghost use Prim.Native.Nat.{_≤_};
 ghost use lib.ListN.{length};
 ghost use Rattle.lister.specs.Table.{tableMarks};
 ghost use Rattle.lister.specs.Listing.{listable, listed};

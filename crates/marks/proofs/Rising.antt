@@ -1,14 +1,14 @@
 -- A word raises what its registers' marks raise, and leaves every register with a mark: unset makes what is made of it unset, so that
 -- marks which differ only where one is unset are no trouble.
-use Prim.Native.Nat.{ℕ, _<_}
-use mathlib.Core.Path.{_≡_, refl, sym, ap, subst, _∙_}
-use mathlib.Core.Bool.{Bool, true, false, cond, not, _&&_, _||_, and-false}
+use Prim.Native.Nat.{ℕ}
+use mathlib.Core.Path.{_≡_, refl, _∙_}
+use mathlib.Core.Bool.{Bool, true, false, cond, not, _||_, and-false}
 use mathlib.Core.List.{List}
 use native.Mathlib.Omega.{arith}
 use lib.Dec.{ltb, eqb}
-use lib.ListN.{length, getD, set, length-set}
+use lib.ListN.{length, length-set}
 use lib.Seq.{getD-set-same, getD-set-other}
-use borrow.Author.Tests.{eqb-true, eqb-false, ltb-true, eq-eqb, ne-eqb, not-true}
+use borrow.Author.Tests.{eqb-true, eqb-false, ltb-true, not-true}
 use Rattle.v8.proofs.Choice.{cond-both}
 use Rattle.v8.specs.declared.AluOp.{AluOp}
 use Rattle.v8.specs.declared.AluOp.the-variants.{Add, And, Or, Xor, Sub, Andn, Orn, Xnor}
@@ -22,11 +22,10 @@ use Rattle.v8.specs.declared.Operation.{Operation}
 use Rattle.v8.specs.declared.Operation.the-variants.{Sethi, Alu, Shift, Memory}
 use Rattle.v8.specs.declared.Instruction.{Instruction}
 use Rattle.v8.specs.declared.Instruction.the-variants.{Plain, Branch, Return}
-use Rattle.v8.specs.declared.Reading.{Reading}
 use Rattle.v8.specs.declared.Reading.the-variants.{Read, Unread}
 use Rattle.flow.specs.Transfer.{registerWritten}
-use Rattle.marks.specs.Marks.{notReached, number, address, unset, AtMost, registerCount, markOf, marksWith, MarksAtMost, hasMark}
-use Rattle.marks.specs.Effect.{operandMark, isR0, both, ofNumbers, sumMark, differenceMark, orMark, aluMark, loadMark, accessMark, operationMark, instructionMark, marksAfter, marksAfterWord}
+use Rattle.marks.specs.Marks.{notReached, number, address, unset, AtMost, registerCount, markOf, marksWith, MarksAtMost}
+use Rattle.marks.specs.Effect.{operandMark, isR0, both, ofNumbers, sumMark, differenceMark, orMark, aluMark, loadMark, accessMark, operationMark, instructionMark}
 use Rattle.marks.specs.Laws.{AllMarked, AfterRises, AfterMarked}
 use Rattle.marks.proofs.Order.{at-most-ways, at-most-self, at-most-unset}
 

@@ -22,9 +22,6 @@ value-at f i (suc n) (suc k) d l = value-at f (i + 1) n k d (le-of-suc-le-suc l)
 abbrev pub HasTo : (ℕ → ℕ) → ℕ → List ℕ → Type 0
 HasTo f n xs = (k : ℕ) → k < n → getD xs k 0 ≡ f k
 
-pub has-none : (f : ℕ → ℕ) (xs : List ℕ) → HasTo f 0 xs
-has-none f xs k l = absurd (not-suc-le-zero l)
-
 -- one more
 pub has-more : (f : ℕ → ℕ) (n v : ℕ) (xs : List ℕ) → n < length xs → v ≡ f n → HasTo f n xs → HasTo f (n + 1) (set xs n v)
 has-more f n v xs l e h k m =

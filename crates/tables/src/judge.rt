@@ -18,7 +18,6 @@ use policy::Policy;
 use records::MOST_NUMBERS;
 use records::given::policy_at;
 use v8::numbers::ACCEPTED;
-ghost use Prim.Native.Nat.{_≤_};
 
 // What a case shows.
 pub enum Verdict {

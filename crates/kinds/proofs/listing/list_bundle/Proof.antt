@@ -1,5 +1,5 @@
 -- `list_bundle` meets its contract: the refusal of what is opened, or the listing of what it lends.
-use mathlib.Core.Path.{sym, ap, _∙_}
+use mathlib.Core.Path.{sym}
 use borrow.Author.Needs.{needs}
 use native.Mathlib.Omega.{arith}
 use lib.Seq.{length-take-le}

@@ -1,14 +1,15 @@
+-- The loop's invariant: the bytes so far are the marks.
+use Prim.Native.Nat.{ℕ, _≤_, _-_}
+use mathlib.Core.Path.{_≡_, refl, sym, _∙_}
 use native.Mathlib.Nat.{not-suc-le-zero}
-use denote.Ref.{now}
-use Rattle.marks.proofs.Values.{HasTo, has-none, has-more, has-all}
-use Rattle.lister.specs.Table.{tableMarks}
+use native.Mathlib.Omega.{arith}
 use lib.ListN.{getD}
 use lib.Seq.{ext-getD}
-use Prim.Native.Nat.{ℕ, _≤_, _-_, _<_}
-use mathlib.Core.Path.{_≡_, refl, sym, ap, _∙_}
-use native.Mathlib.Omega.{arith}
 use lib.ListN.{length, length-set}
+use denote.Ref.{now}
 use borrow.Author.Needs.{needs}
+use Rattle.marks.proofs.Values.{HasTo, has-more}
+use Rattle.lister.specs.Table.{tableMarks}
 use Rattle.lister.proofs.listing.copy_out.Statement.{statement}
 use Rattle.lister.proofs.listing.copy_out.Tie as tie
 

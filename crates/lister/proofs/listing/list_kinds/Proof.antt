@@ -1,22 +1,19 @@
 -- After each pass stands what is left of the answer; the table is written after the last alone.
 use mathlib.Core.Path.{_≡_, refl, sym, ap, _∙_}
-use mathlib.Core.Bool.{Bool, true}
+use mathlib.Core.Bool.{true}
 use mathlib.Core.List.{List}
 use native.Mathlib.Omega.{arith}
 use Prim.Native.Nat.{ℕ}
-use lib.ListN.{length, length-replicate}
+use lib.ListN.{length}
 use denote.Ref.{now}
 use borrow.Author.Needs.{needs}
 use borrow.Author.Tests.{not-true, not-false}
-use Rattle.policy.specs.declared.Policy.{Policy}
 use Rattle.policy.specs.Policy.{policyOk}
 use Rattle.flow.specs.Readings.{readingsOf}
 use Rattle.flow.proofs.Fetched.{read-count}
 use Rattle.checker.specs.declared.Answer.{Answer}
-use Rattle.checker.specs.Answer.{accepted, passOf}
+use Rattle.checker.specs.Answer.{passOf}
 use Rattle.checker.proofs.Stages.{goes, stops}
-use Rattle.marks.specs.Marks.{notReached}
-use Rattle.lister.specs.Table.{tableMarks}
 use Rattle.lister.proofs.Closing.{listing-whole}
 use Rattle.lister.proofs.Answering.{pass-accepts, answer, fits, Lengths, lengths, bad-policy, bad-shape, fromFlow, fromReads, from-reads, refused, lists}
 use Rattle.lister.proofs.listing.list_kinds.Statement.{statement}

@@ -1,3 +1,4 @@
+-- By both tests.
 use borrow.Author.Needs.{needs}
 use Rattle.lister.proofs.listing.listable.Statement.{statement}
 use Rattle.lister.proofs.listing.listable.Tie as tie

@@ -1,5 +1,5 @@
+-- By the test.
 use Rattle.v8.proofs.Choice.{tests}
-use borrow.Author.Needs.{needs}
 use Rattle.lister.proofs.sending.lower.Statement.{statement}
 use Rattle.lister.proofs.sending.lower.Tie as tie
 

@@ -1,8 +1,7 @@
-use mathlib.Core.Path.{_≡_, refl, sym, _∙_}
-use denote.Ref.{now}
+-- By whether the word is reached, and read.
 use borrow.Author.Tests.{not-true, not-false}
-use Rattle.lister.proofs.Working.{worked-none}
 use borrow.Author.Needs.{needs}
+use Rattle.lister.proofs.Working.{worked-none}
 use Rattle.lister.proofs.sending.pass_on.Statement.{statement}
 use Rattle.lister.proofs.sending.pass_on.Tie as tie
 

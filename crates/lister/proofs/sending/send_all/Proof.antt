@@ -1,7 +1,6 @@
-use mathlib.Core.Path.{_≡_, refl, sym, _∙_}
-use denote.Ref.{now}
-use Rattle.lister.proofs.Working.{worked-then}
+-- Three parts of the work, one after the other (Working).
 use borrow.Author.Needs.{needs}
+use Rattle.lister.proofs.Working.{worked-then}
 use Rattle.lister.proofs.sending.send_all.Statement.{statement}
 use Rattle.lister.proofs.sending.send_all.Tie as tie
 

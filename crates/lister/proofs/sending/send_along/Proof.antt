@@ -1,8 +1,7 @@
-use mathlib.Core.Path.{_≡_, refl, sym, _∙_}
-use denote.Ref.{now}
+-- By where the edge ends, and whether its slot runs.
 use borrow.Author.Tests.{not-true, not-false}
-use Rattle.lister.proofs.Working.{worked-none}
 use borrow.Author.Needs.{needs}
+use Rattle.lister.proofs.Working.{worked-none}
 use Rattle.lister.proofs.sending.send_along.Statement.{statement}
 use Rattle.lister.proofs.sending.send_along.Tie as tie
 

@@ -1,9 +1,8 @@
-use mathlib.Core.Path.{_≡_, refl, sym, _∙_}
+-- The word is of the code, and is raised or not (Working).
 use native.Mathlib.Omega.{arith}
-use denote.Ref.{now}
 use borrow.Author.Tests.{lt-ltb, le-ltb}
-use Rattle.lister.proofs.Working.{worked-none, worked-same, worked-raised}
 use borrow.Author.Needs.{needs}
+use Rattle.lister.proofs.Working.{worked-none, worked-same, worked-raised}
 use Rattle.lister.proofs.sending.send_to.Statement.{statement}
 use Rattle.lister.proofs.sending.send_to.Tie as tie
 

@@ -1,7 +1,7 @@
-use mathlib.Core.Path.{_≡_, refl, sym, _∙_}
-use denote.Ref.{now}
-use Rattle.lister.proofs.Working.{worked-none}
+-- By whether the instruction is a transfer.
+use mathlib.Core.Path.{sym, _∙_}
 use borrow.Author.Needs.{needs}
+use Rattle.lister.proofs.Working.{worked-none}
 use Rattle.lister.proofs.sending.show.Statement.{statement}
 use Rattle.lister.proofs.sending.show.Tie as tie
 

@@ -1,15 +1,16 @@
-use Rattle.rows.specs.declared.Entry.{Entry}
+-- The loop's invariant: the marks so far are those of the entries' kinds.
+use Prim.Native.Nat.{ℕ, _≤_, _-_}
+use mathlib.Core.Path.{_≡_, refl, ap, _∙_}
 use native.Mathlib.Nat.{not-suc-le-zero}
-use Rattle.marks.specs.Marks.{registerCount, markOfKind}
-use Rattle.marks.proofs.Values.{HasTo, has-none, has-more, has-all}
-use Rattle.rows.specs.Geometry.{entryStart}
-use Rattle.rows.specs.Row.{entryOf}
-use Rattle.lister.specs.Rules.{entryMarks}
-use Prim.Native.Nat.{ℕ, _≤_, _-_, _<_}
-use mathlib.Core.Path.{_≡_, refl, sym, ap, _∙_}
 use native.Mathlib.Omega.{arith}
 use lib.ListN.{length, length-set}
 use borrow.Author.Needs.{needs}
+use Rattle.rows.specs.declared.Entry.{Entry}
+use Rattle.rows.specs.Geometry.{entryStart}
+use Rattle.rows.specs.Row.{entryOf}
+use Rattle.marks.specs.Marks.{registerCount, markOfKind}
+use Rattle.marks.proofs.Values.{HasTo, has-more, has-all}
+use Rattle.lister.specs.Rules.{entryMarks}
 use Rattle.lister.proofs.table.entry_marks.Statement.{statement}
 use Rattle.lister.proofs.table.entry_marks.Tie as tie
 

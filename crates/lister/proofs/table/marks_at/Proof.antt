@@ -1,14 +1,13 @@
+-- The loop's invariant: the marks so far are those at their places.
+use Prim.Native.Nat.{ℕ, _≤_, _-_}
+use mathlib.Core.Path.{_≡_, refl, _∙_}
 use native.Mathlib.Nat.{not-suc-le-zero}
-use Rattle.marks.specs.Marks.{registerCount, markOfKind}
-use Rattle.marks.proofs.Values.{HasTo, has-none, has-more, has-all}
-use Rattle.rows.specs.Geometry.{entryStart}
-use Rattle.rows.specs.Row.{entryOf}
-use Rattle.lister.specs.Table.{placeOf, markAt, marksAt}
-use Prim.Native.Nat.{ℕ, _≤_, _-_, _<_}
-use mathlib.Core.Path.{_≡_, refl, sym, ap, _∙_}
 use native.Mathlib.Omega.{arith}
 use lib.ListN.{length, length-set}
 use borrow.Author.Needs.{needs}
+use Rattle.marks.specs.Marks.{registerCount}
+use Rattle.marks.proofs.Values.{HasTo, has-more, has-all}
+use Rattle.lister.specs.Table.{placeOf, markAt, marksAt}
 use Rattle.lister.proofs.table.marks_at.Statement.{statement}
 use Rattle.lister.proofs.table.marks_at.Tie as tie
 
