@@ -83,7 +83,7 @@ always-holds : (f : Codes) → condHolds always f ≡ true
 unfolding condHolds
 always-holds f = refl
 
-decided : (cnd : ℕ) (f : Codes) (taken : Bool) → condHolds cnd f ≡ taken → hasEdge cnd taken ≡ true
+pub decided : (cnd : ℕ) (f : Codes) (taken : Bool) → condHolds cnd f ≡ taken → hasEdge cnd taken ≡ true
 decided cnd f true e = at (eqb cnd never) refl
   where
     at : (t : Bool) → eqb cnd never ≡ t → not (eqb cnd never) ≡ true

@@ -60,7 +60,7 @@ module _ (g : Registers) where
       at true t = rw t
       at false t = rw (getD-set-other (g .marks) 0 r true false (eqb-false r 0 t))
 
-  zero-words : Words g → Words (withZero g)
+  pub zero-words : Words g → Words (withZero g)
   zero-words w =
       record {
         values = length-set (g .values) 0 0 ∙ w .values;
@@ -72,7 +72,7 @@ module _ (g : Registers) where
       at r true t = rw (eqb-true r 0 t, getD-set-same (g .values) 0 0 0 (subst (λ (k : ℕ). 0 < k) (sym (w .values)) (omega arith))) (omega arith)
       at r false t = rw (getD-set-other (g .values) 0 r 0 0 (eqb-false r 0 t)) (w .small r)
 
-  zero-matches : (h : Host) (row : Row) → RowMatches h row (heldOf g) → RowMatches h row (heldOf (withZero g))
+  pub zero-matches : (h : Host) (row : Row) → RowMatches h row (heldOf g) → RowMatches h row (heldOf (withZero g))
   zero-matches h row m =
       record {
         entries = λ r u. let k = m .entries r u in (zero-mark r ∙ k .0, subst (Holds h (entryAt row r)) (sym (zero-value r)) (k .1));

@@ -1,0 +1,5 @@
+pub mod Holding
+pub mod Agreeing
+pub mod Landing
+pub mod Stepping
+pub mod Running
