@@ -1,19 +1,18 @@
 -- What an accepted check shows: of passes in a row each accepts, of a pass over the words each word does.
-use Prim.Native.Nat.{ℕ, _+_, _*_, _≤_, _<_}
+use Prim.Native.Nat.{ℕ, _+_, _*_, _<_}
 use mathlib.Core.Path.{_≡_, refl, sym, ap, _∙_}
 use mathlib.Core.Bool.{Bool, true, false, not, cond, and-false}
 use native.Mathlib.Omega.{arith}
 use lib.Dec.{ltb, eqb}
 use borrow.Author.Tests.{ltb-true, ltb-false, not-false}
-use Rattle.v8.specs.Numbers.{badPolicy, badShape, badRow, badFlow, entryMisfit, mostWords}
+use Rattle.v8.specs.Numbers.{badPolicy, badShape, badRow, badFlow, entryMisfit}
 use Rattle.v8.specs.Search.{first}
-use Rattle.v8.proofs.Search.{first-passes, first-least, needed, needed-le}
+use Rattle.v8.proofs.Search.{first-passes, first-least, needed}
 use Rattle.flow.specs.Readings.{readingAt, examined}
 use Rattle.policy.specs.Policy.{policyOk}
 use Rattle.rows.specs.declared.Flaw.{Flaw}
 use Rattle.rows.specs.declared.Flaw.the-variants.{None, At}
 use Rattle.rows.specs.Geometry.{rowBytes}
-use Rattle.rows.specs.Flaw.{flawless}
 use Rattle.rows.specs.Row.{entryFormed, formFault, misfit}
 use Rattle.rows.proofs.Tests.{false-true}
 use Rattle.rows.proofs.LowestFlaw.{flawless-none}
@@ -22,6 +21,7 @@ use Rattle.checker.specs.Answer.{accepted, passes, andThen, need, refuse
 use Rattle.checker.specs.Routine.{Routine, routineOf, count, rowAt, entryRow}
 use Rattle.checker.specs.Passes.{unlessFault, policyPass, shapeOk, shapePass, rowPass, readPass, flowOf, flowPass, entryPass, look, wordPass, answerOf, checkOf}
 use Rattle.checker.specs.Laws.{Checked, Accepts}
+use Rattle.checker.proofs.Started.{shape-started}
 
 -- both of two passes accept
 pub both-pass : (a b : Answer) → passes (andThen a b) ≡ true → (passes a ≡ true) × (passes b ≡ true)
@@ -76,21 +76,9 @@ module _ (t : Routine) where
   abbrev shapes : Bool
   shapes = shapeOk (t .policy) (count t) (t .rows) (t .entry) (t .result)
 
-  record Shape : Type 0 where
-    some : 1 ≤ count t
-    most : count t ≤ mostWords
-    entry : flawless (formFault (t .policy .regions .count) (t .policy .regions .sizes) (t .entry) 0) ≡ true
-    result : entryFormed (t .policy .regions .count) (t .policy .regions .sizes) (t .result) 0 ≡ true
-
-  shape : shapes ≡ true → Shape
+  shaped-result : shapes ≡ true → entryFormed (t .policy .regions .count) (t .policy .regions .sizes) (t .result) 0 ≡ true
   unfolding shapeOk
-  shape e =
-      record {
-        some = needed-le shapes 1 (count t) e (λ f. simp f);
-        most = needed-le shapes (count t) mostWords e (λ f. simp (f, and-false));
-        entry = needed shapes (flawless (formFault (t .policy .regions .count) (t .policy .regions .sizes) (t .entry) 0)) e (λ f. rw (f, and-false));
-        result = needed shapes (entryFormed (t .policy .regions .count) (t .policy .regions .sizes) (t .result) 0) e (λ f. rw (f, and-false));
-      }
+  shaped-result e = needed shapes (entryFormed (t .policy .regions .count) (t .policy .regions .sizes) (t .result) 0) e (λ f. rw (f, and-false))
 
   pub checked : passes (answerOf t) ≡ true → Checked t
   unfolding answerOf
@@ -102,13 +90,14 @@ module _ (t : Routine) where
       let f = both-pass (passOf (flowPass (t .readings)) (count t)) _ (d .1) in
       let words = wordPass (t .policy) (t .readings) (t .rows) (t .result) in
       let g = both-pass (entryPass (t .rows) (t .entry)) (passOf words (count t)) (f .1) in
-      let s = shape (need-holds shapes badShape 0 0 refl (b .0)) in
+      let right = need-holds shapes badShape 0 0 refl (b .0) in
+      let s = shape-started (t .policy) (count t) (t .rows) (t .entry) (t .result) right in
       record {
         policy = need-holds (policyOk (t .policy)) badPolicy 0 0 refl (a .0);
         some = s .some;
         most = s .most;
-        entry-formed = flawless-none (formFault (t .policy .regions .count) (t .policy .regions .sizes) (t .entry) 0) (s .entry);
-        result-formed = s .result;
+        entry-formed = flawless-none (formFault (t .policy .regions .count) (t .policy .regions .sizes) (t .entry) 0) (s .formed);
+        result-formed = shaped-result right;
         rows-formed = λ w l. row-formed w (each-passes (rowPass (t .policy) (t .rows)) (count t) (c .0) w l);
         reads = each-passes (readPass (t .readings)) (count t) (d .0);
         flows = λ w l. word-flows w (each-passes (flowPass (t .readings)) (count t) (f .0) w l);

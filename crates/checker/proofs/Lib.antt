@@ -1,3 +1,4 @@
+pub mod Started
 pub mod Accepted
 pub mod Looked
 pub mod Inside

@@ -6,13 +6,14 @@ use lib.ListN.{length}
 use borrow.Author.Tests.{eq-eqb, ne-eqb}
 use Rattle.v8.specs.Numbers.{badPolicy, badShape, mostWords}
 use Rattle.flow.proofs.Fetched.{read-count}
-use Rattle.v8.proofs.Search.{needed-le, needed-eq}
+use Rattle.v8.proofs.Search.{needed-eq}
 use Rattle.policy.specs.Policy.{policyOk}
 use Rattle.rows.specs.Geometry.{rowBytes, entryBytes}
 use Rattle.checker.specs.declared.Answer.{Answer}
 use Rattle.checker.specs.Answer.{refuse, andThen, passOf}
 use Rattle.checker.specs.Routine.{count}
 use Rattle.checker.specs.Passes.{shapeOk, rowPass, readPass, flowPass, entryPass, wordPass, answerOf, checkOf}
+use Rattle.checker.proofs.Started.{shape-started}
 use Rattle.checker.proofs.Parts.{Given, whole}
 
 -- a pass that accepts, and one that does not, with what follows it
@@ -73,10 +74,11 @@ module _ (g : Given) where
   unfolding shapeOk
   shaped e =
       let t = shapes (length (g .words)) in
+      let s = shape-started (g .policy) (length (g .words)) (g .rows) (g .entry) (g .result) e in
       record {
-        some = needed-le t 1 (length (g .words)) e (λ f. simp f);
-        most = needed-le t (length (g .words)) mostWords e (λ f. simp (f, and-false));
+        some = s .some;
+        most = s .most;
         rows = needed-eq t (length (g .rows)) (rowBytes * length (g .words)) e (λ f. simp (f, and-false));
-        entry = needed-eq t (length (g .entry)) rowBytes e (λ f. simp (f, and-false));
+        entry = s .row;
         result = needed-eq t (length (g .result)) entryBytes e (λ f. simp (f, and-false));
       }

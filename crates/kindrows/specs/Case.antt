@@ -1,10 +1,11 @@
 -- The worked cases of the listing of kinds (document 02, request 2): what is given, what comes of it, and what the definitions give for it. Marks
 -- of registers stand as one number, a digit each, r0's first.
 use Prim.Native.Nat.{ℕ, _+_, _*_}
-use mathlib.Core.Bool.{Bool, true, false, cond, _&&_}
+use mathlib.Core.Bool.{Bool, cond, _&&_}
 use mathlib.Core.List.{List, [], _∷_}
 use lib.Dec.{eqb}
 use lib.ListN.{length, take, drop, replicate}
+use Rattle.v8.specs.Table.{every}
 use Rattle.v8.specs.Read.{readingOf}
 use Rattle.policy.specs.declared.Policy.{Policy}
 use Rattle.checker.specs.Answer.{passes}
@@ -52,8 +53,7 @@ behind (w ∷ ws) table = behind ws (drop registerCount table)
 
 -- every byte is this one
 abbrev pub allAre : ℕ → List ℕ → Bool
-allAre x [] = true
-allAre x (y ∷ ys) = cond (eqb y x) (allAre x ys) false
+allAre x table = every (λ (k y : ℕ). eqb y x) 0 table
 
 -- what each byte of a lent table is before the call
 abbrev pub lent : ℕ

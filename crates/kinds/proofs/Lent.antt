@@ -14,7 +14,7 @@ use Rattle.bundle.specs.Layout.{wordCount, wordsPlace, bundleOk}
 use Rattle.bundle.specs.Bundle.{part, builtOf}
 use Rattle.bundle.specs.Open.{openedWith, openedOf}
 use Rattle.bundle.proofs.Words.{words-held}
-use Rattle.kinds.specs.Bundled.{unlisted, listedWith, bundleListed}
+use Rattle.kinds.specs.Bundled.{unlisted, listedBy, bundleListed}
 
 -- how many bytes stand between two places
 between : (a n : ℕ) → a + n - a ≡ n
@@ -25,7 +25,7 @@ module _ (b table : List ℕ) where
   abbrev pub listedIn : Opened → Listed
   listedIn o = listed (o .policy) (take (o .count) (o .words)) (part b (o .entry) (o .result - o .entry)) table
 
-  same-listing : (p : Policy) → listedIn (openedWith b p) ≡ listedWith b table p
+  same-listing : (p : Policy) → listedIn (openedWith b p) ≡ listedBy b table p
   same-listing p = rw (words-held b (wordCount b) (wordsPlace b)) (simp between)
 
   -- the listing by what is opened

@@ -20,11 +20,11 @@ unlisted table number = record { answer = refuse number 0 0; table = table }
 
 module _ (b table : List ℕ) where
   -- the listing of what stands in the bundle
-  abbrev pub listedWith : Policy → Listed
-  listedWith p = listed p (wordsFrom b (wordsPlace b) (wordCount b)) (part b (entryPlace b) rowBytes) table
+  abbrev pub listedBy : Policy → Listed
+  listedBy p = listed p (wordsFrom b (wordsPlace b) (wordCount b)) (part b (entryPlace b) rowBytes) table
 
   abbrev pub listedBuilt : Built → Listed
-  listedBuilt built = cond (eqb (built .number) acceptance) (listedWith (built .policy)) (unlisted table (built .number))
+  listedBuilt built = cond (eqb (built .number) acceptance) (listedBy (built .policy)) (unlisted table (built .number))
 
   unfoldable pub bundleListed : Listed
   bundleListed = cond (bundleOk b) (listedBuilt (builtOf b)) (unlisted table badBundle)

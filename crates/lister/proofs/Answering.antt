@@ -1,23 +1,23 @@
 -- The answer to a listing, pass by pass, and what the call leaves.
-use Prim.Native.Nat.{ℕ, _≤_}
+use Prim.Native.Nat.{ℕ}
 use mathlib.Core.Path.{_≡_, refl, sym, ap, _∙_}
-use mathlib.Core.Bool.{Bool, true, false, cond, not, and-false}
+use mathlib.Core.Bool.{Bool, true, false, cond, not}
 use mathlib.Core.List.{List}
 use lib.ListN.{length}
-use lib.Dec.{ltb}
-use borrow.Author.Tests.{ltb-true, eq-eqb, ne-eqb}
-use Rattle.v8.specs.Numbers.{badPolicy, badShape, mostWords}
+use lib.Dec.{ltb, eqb}
+use borrow.Author.Tests.{ltb-true, eqb-true, eq-eqb, ne-eqb}
+use Rattle.v8.specs.Numbers.{badPolicy, badShape}
 use Rattle.v8.specs.Search.{first}
-use Rattle.v8.proofs.Search.{first-passes, needed-le, needed-eq}
+use Rattle.v8.proofs.Search.{first-passes}
 use Rattle.flow.specs.Readings.{readingsOf}
 use Rattle.flow.proofs.Fetched.{read-count}
 use Rattle.policy.specs.declared.Policy.{Policy}
 use Rattle.policy.specs.Policy.{policyOk}
-use Rattle.rows.specs.Geometry.{rowBytes}
-use Rattle.rows.proofs.Tests.{false-true}
+use Rattle.rows.proofs.Tests.{and-went, false-true}
 use Rattle.checker.specs.declared.Answer.{Answer}
 use Rattle.checker.specs.Answer.{accepted, refuse, passes, refuses, andThen, passOf}
-use Rattle.checker.specs.Passes.{readPass, flowPass}
+use Rattle.checker.specs.Passes.{startOk, readPass, flowPass}
+use Rattle.checker.proofs.Started.{Started, started}
 use Rattle.lister.specs.Table.{tableMarks}
 use Rattle.lister.specs.Listing.{listingOf, wholeTable, listable, listingAnswer, listed}
 
@@ -42,20 +42,13 @@ module _ (p : Policy) (words entry table : List ℕ) where
 
   -- what a table and an entry row that may be listed tell of the lengths
   pub record Lengths : Type 0 where
-    pub some : 1 ≤ length words
-    pub most : length words ≤ mostWords
-    pub row : length entry ≡ rowBytes
+    pub start : Started (p .regions .count) (p .regions .sizes) (length words) entry
     pub marks : length table ≡ tableMarks
 
   pub lengths : fits (length words) ≡ true → Lengths
   lengths e =
-      let t = fits (length words) in
-      record {
-        some = needed-le t 1 (length words) e (λ f. simp f);
-        most = needed-le t (length words) mostWords e (λ f. simp (f, and-false));
-        row = needed-eq t (length entry) rowBytes e (λ f. simp (f, and-false));
-        marks = needed-eq t (length table) tableMarks e (λ f. simp (f, and-false));
-      }
+      let both = and-went (startOk (p .regions .count) (p .regions .sizes) (length words) entry) (eqb (length table) tableMarks) e in
+      record { start = started (p .regions .count) (p .regions .sizes) (length words) entry (both .0); marks = eqb-true (length table) tableMarks (both .1) }
 
   as-read : {t : Bool} → fits (length words) ≡ t → fits (length (readingsOf words)) ≡ t
   as-read e = ap fits (read-count words) ∙ e

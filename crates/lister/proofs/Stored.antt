@@ -142,6 +142,11 @@ module _ (table : List ℕ) (w : ℕ) (marks : List ℕ) where
             rw (q, set-getD after (placeOf w r) notReached, or-false) (raising-old q)
         at false t = rw or-true (raising-new (eqb-false v (markAt after (placeOf w r)) t))
 
+  -- it has changed exactly if it is higher
+  pub raising-told : (r : ℕ) (after : List ℕ) (changed : Bool) → Raising r after changed → changed ≡ ltb (height table) (height after)
+  raising-told r after true h = sym (lt-ltb (height table) (height after) (h .higher refl))
+  raising-told r after false h = sym (le-ltb (height table) (height after) (omega (arith, ap height (h .same refl))))
+
   pub raising-done : (r : ℕ) (after : List ℕ) (changed : Bool) → Raising r after changed → registerCount ≤ r → after ≡ raisedAt table w marks
   raising-done r after changed h l =
       let e : r ≡ registerCount = omega (arith, h .most, l) in

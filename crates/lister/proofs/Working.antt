@@ -12,10 +12,10 @@ use Rattle.v8.specs.Numbers.{mostWords}
 use Rattle.rows.proofs.Tests.{false-true}
 use Rattle.marks.specs.Marks.{registerCount}
 use Rattle.marks.proofs.Values.{values-length, value-at, has-all}
-use Rattle.lister.specs.Table.{placeOf, markAt, marksAt, raisedAt, height}
+use Rattle.lister.specs.Table.{placeOf, markAt, marksAt, raisedAt, TableAtMost, height}
 use Rattle.lister.specs.Work.{isPending, Held, Worked}
 use Rattle.lister.proofs.Places.{word-of}
-use Rattle.lister.proofs.Tables.{inside, mark-behind, raised-length, raised-mark}
+use Rattle.lister.proofs.Tables.{inside, mark-behind, raised-length, raised-mark, raised-least, height-rises, height-same}
 
 -- a word that nothing arrives at keeps its marks
 pub marks-other : (table : List ℕ) (w : ℕ) (marks : List ℕ) (v : ℕ) → (v ≡ w → ⊥) → marksAt (raisedAt table w marks) v ≡ marksAt table v
@@ -41,9 +41,19 @@ pub worked-none : (table : List ℕ) (pending : List Bool) → Held table pendin
 worked-none table pending h =
     record { held = h; below = λ w l. refl; kept = λ w e. (e, refl); higher = λ l. absurd (omega (arith, l)); high = omega arith }
 
--- nothing is changed
-pub worked-same : (table : List ℕ) (pending : List Bool) (after : List ℕ) → after ≡ table → Held table pending → Worked table pending after pending mostWords
-worked-same table pending after e h = subst (λ (t : List ℕ). Worked table pending t pending mostWords) (sym e) (worked-none table pending h)
+-- nothing is changed: a raised table that is no higher is the same
+pub worked-same : (table : List ℕ) (pending : List Bool) (after : List ℕ) (w : ℕ) (marks : List ℕ) → after ≡ raisedAt table w marks
+    → Held table pending → ltb (height table) (height after) ≡ false → Worked table pending after pending mostWords
+worked-same table pending after w marks e h f = subst (λ (t : List ℕ). Worked table pending t pending mostWords) same (worked-none table pending h)
+  where
+    above : TableAtMost table after
+    above = subst (TableAtMost table) (sym e) (raised-least table w marks)
+
+    long : length table ≡ length after
+    long = sym (ap length e ∙ raised-length table w marks)
+
+    same : table ≡ after
+    same = height-same table after long above (omega (arith, height-rises table after long above, ltb-false (height table) (height after) f))
 
 -- word w is raised, and flagged
 pub worked-raised : (table : List ℕ) (pending : List Bool) (after : List ℕ) (w : ℕ) (marks : List ℕ) → w < mostWords → after ≡ raisedAt table w marks

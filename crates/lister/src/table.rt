@@ -1,6 +1,6 @@
 // A table of marks, 32 a word (specs/Table.antt).
 ghost use mathlib.Core.Path.{_≡_};
-ghost use mathlib.Core.Bool.{true, false};
+ghost use lib.Dec.{ltb};
 ghost use Prim.Native.Nat.{_<_};
 ghost use Rattle.v8.specs.Numbers.{mostWords};
 ghost use Rattle.rows.specs.Geometry.{RowIn};
@@ -62,8 +62,7 @@ pub fn is_reached(marks: &[u8; REGISTERS]) -> bool
 pub fn raise_at(table: &mut [u8; TABLE_MARKS], w: usize, marks: &[u8; REGISTERS]) -> bool
     requires { ⌜ (w < mostWords) × (length (now table) ≡ tableMarks) ⌝ }
     ensures table { λ _. ⌜ now (table .exit) ≡ raisedAt (now (table .entry)) w (now (marks .entry)) ⌝ }
-    ensures changed { λ r. ⌜ (r ≡ true → height (now (table .entry)) < height (now (table .exit))) ⌝ }
-    ensures same { λ r. ⌜ (r ≡ false → now (table .exit) ≡ now (table .entry)) ⌝ }
+    ensures changed { λ r. ⌜ r ≡ ltb (height (now (table .entry))) (height (now (table .exit))) ⌝ }
 {
     let mut changed = false;
     let mut r: usize = 0;

@@ -6,7 +6,7 @@ use mathlib.Core.Bool.{Bool, true, false, cond, not, _||_, and-false}
 use mathlib.Core.List.{List}
 use native.Mathlib.Omega.{arith}
 use lib.Dec.{ltb, eqb}
-use lib.ListN.{length, length-set}
+use lib.ListN.{length, set, length-set}
 use lib.Seq.{getD-set-same, getD-set-other}
 use borrow.Author.Tests.{eqb-true, eqb-false, ltb-true, not-true}
 use Rattle.v8.proofs.Choice.{cond-both}
@@ -193,11 +193,16 @@ after-rises a b (Read x) la lb all h r =
     with-related AtMost a b (registerWritten x) (instructionMark a x) (instructionMark b x) r la lb (instruction-rises a b all h x) (h r)
 after-rises a b (Unread n) la lb all h r = h r
 
+-- as many registers stand after a write, whatever is kept of each
+pub list-written : {A : Type 0} (xs : List A) (r : ℕ) (x : A) → length xs ≡ registerCount
+    → length (cond (eqb r 0) xs (cond (ltb r registerCount) (set xs r x) xs)) ≡ registerCount
+list-written {A} xs r x e =
+    cond-both (λ (ys : List A). length ys ≡ registerCount) (eqb r 0) (λ f. e)
+    (λ f. cond-both (λ (ys : List A). length ys ≡ registerCount) (ltb r registerCount) (λ g. length-set xs r x ∙ e) (λ g. e))
+
 with-length : (a : List ℕ) (r x : ℕ) → length a ≡ registerCount → length (marksWith a r x) ≡ registerCount
 unfolding marksWith
-with-length a r x e =
-    cond-both (λ (m : List ℕ). length m ≡ registerCount) (eqb r 0) (λ f. e)
-    (λ f. cond-both (λ (m : List ℕ). length m ≡ registerCount) (ltb r registerCount) (λ g. length-set a r x ∙ e) (λ g. e))
+with-length a r x e = list-written a r x e
 
 pub after-marked : AfterMarked
 after-marked a (Read x) e all = (

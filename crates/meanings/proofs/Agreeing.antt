@@ -2,12 +2,12 @@
 -- copies the value with the mark, and no other register changes.
 use Prim.Native.Nat.{ℕ, _+_}
 use mathlib.Core.Path.{_≡_, refl, sym, ap, subst, _∙_}
-use mathlib.Core.Bool.{Bool, true, false, cond, not, _&&_}
+use mathlib.Core.Bool.{Bool, true, false, not, _&&_}
 use mathlib.Core.List.{List}
 use native.Mathlib.Omega.{arith}
 use lib.Bits.{bitOr, or-zero-l, or-zero-r}
 use lib.Dec.{ltb, eqb}
-use lib.ListN.{length, set, length-set}
+use lib.ListN.{length}
 use lib.Seq.{getD-set-same, getD-set-other}
 use borrow.Author.Tests.{eqb-true, eqb-false, ltb-true, ne-eqb}
 use Rattle.v8.proofs.Choice.{cond-both}
@@ -42,6 +42,7 @@ use Rattle.rows.proofs.Tests.{and-went, false-true}
 use Rattle.marks.specs.Marks.{notReached, registerCount, markOf, marksWith}
 use Rattle.marks.specs.Effect.{operandMark, isR0, ofNumbers, orMark, aluMark, accessMark, marksAfter}
 use Rattle.marks.specs.Laws.{AllMarked}
+use Rattle.marks.proofs.Rising.{list-written}
 use Rattle.meanings.specs.Meaning.{MarkHolds}
 use Rattle.meanings.proofs.Holding.{number-holds, numbers-hold, sum-holds, difference-holds, load-holds}
 
@@ -56,12 +57,6 @@ pub record Agrees (h : Host) (entry : List ℕ) (marks : List ℕ) (g : Register
 abbrev pub AgreesAfter : Host → List ℕ → List ℕ → Effect → Type 0
 AgreesAfter h entry marks (fault n) = Unit {0}
 AgreesAfter h entry marks (done c) = Agrees h entry marks (c .registers)
-
-list-written : {A : Type 0} (xs : List A) (r : ℕ) (x : A) → length xs ≡ registerCount
-    → length (cond (eqb r 0) xs (cond (ltb r registerCount) (set xs r x) xs)) ≡ registerCount
-list-written {A} xs r x e =
-    cond-both (λ (ys : List A). length ys ≡ registerCount) (eqb r 0) (λ _. e)
-    (λ _. cond-both (λ (ys : List A). length ys ≡ registerCount) (ltb r registerCount) (λ _. length-set xs r x ∙ e) (λ _. e))
 
 -- r0 reads as zero
 zero-reads : (g : Registers) (r : ℕ) → eqb r 0 ≡ true → valueOf g r ≡ 0

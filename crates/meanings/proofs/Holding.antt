@@ -1,7 +1,7 @@
 -- Marks that hold of a register. A mark that is raised says less; number, address and unset say nothing of the value, and they are all that is
 -- made of marks, but for copies.
 use Prim.Native.Nat.{ℕ}
-use mathlib.Core.Path.{refl, sym, subst}
+use mathlib.Core.Path.{_≡_, refl, sym, subst}
 use mathlib.Core.Bool.{Bool, true, _||_}
 use mathlib.Core.List.{List}
 use native.Mathlib.Omega.{arith}
@@ -9,38 +9,25 @@ use Rattle.v8.proofs.Choice.{cond-both}
 use Rattle.v8.specs.declared.LoadOp.{LoadOp}
 use Rattle.v8.specs.declared.LoadOp.the-variants.{Ld, Ldub, Lduh, Ldsb, Ldsh}
 use Rattle.rows.specs.Matches.{Host}
-use Rattle.marks.specs.Marks.{number, address, unset, AtMost}
+use Rattle.marks.specs.Marks.{notReached, number, address, addressOrNull, returnAddress, unset, AtMost}
 use Rattle.marks.specs.Effect.{both, ofNumbers, sumMark, differenceMark, loadMark}
 use Rattle.marks.proofs.Order.{at-most-ways}
 use Rattle.meanings.specs.Meaning.{MarkHolds}
 
 module _ (h : Host) (entry : List ℕ) where
+  -- a mark that says nothing of the value
+  value-free : (k : ℕ) (s : Bool) (v : ℕ) → (k ≡ notReached → ⊥) → (k ≡ addressOrNull → ⊥) → (k ≡ returnAddress → ⊥)
+      → ((k ≡ unset → ⊥) → s ≡ true) → MarkHolds h entry k s v
+  value-free k s v none start back known = record { reached = none; known = known; start = λ e. absurd (start e); returns = λ e. absurd (back e) }
+
   pub unset-holds : (s : Bool) (v : ℕ) → MarkHolds h entry unset s v
-  unset-holds s v =
-      record {
-        reached = λ e. omega (arith, e);
-        known = λ n. absurd (n refl);
-        start = λ e. absurd (omega (arith, e));
-        returns = λ e. absurd (omega (arith, e));
-      }
+  unset-holds s v = value-free unset s v (λ e. omega (arith, e)) (λ e. omega (arith, e)) (λ e. omega (arith, e)) (λ n. absurd (n refl))
 
   pub number-holds : (v : ℕ) → MarkHolds h entry number true v
-  number-holds v =
-      record {
-        reached = λ e. omega (arith, e);
-        known = λ n. refl;
-        start = λ e. absurd (omega (arith, e));
-        returns = λ e. absurd (omega (arith, e));
-      }
+  number-holds v = value-free number true v (λ e. omega (arith, e)) (λ e. omega (arith, e)) (λ e. omega (arith, e)) (λ n. refl)
 
   address-holds : (v : ℕ) → MarkHolds h entry address true v
-  address-holds v =
-      record {
-        reached = λ e. omega (arith, e);
-        known = λ n. refl;
-        start = λ e. absurd (omega (arith, e));
-        returns = λ e. absurd (omega (arith, e));
-      }
+  address-holds v = value-free address true v (λ e. omega (arith, e)) (λ e. omega (arith, e)) (λ e. omega (arith, e)) (λ n. refl)
 
   -- a mark that is raised
   pub raised-holds : (a b : ℕ) (s : Bool) (v : ℕ) → AtMost a b → MarkHolds h entry a s v → MarkHolds h entry b s v

@@ -13,6 +13,7 @@ use crate::record::read_marks;
 use crate::record::table_length;
 use crate::record::words_end;
 use checker::Answer;
+use lister::TABLE_MARKS;
 use lister::list_kinds;
 use policy::Policy;
 use records::MOST_NUMBERS;
@@ -31,8 +32,6 @@ pub enum Verdict {
 
 // A byte of the table before the call.
 const UNTOUCHED: u8 = 170;
-// How many bytes an accepted listing writes.
-const TABLE_MARKS: usize = 4096;
 
 fn same_answer(a: Answer, numbers: &[u32; MOST_NUMBERS]) -> bool {
     (a.number as u32 == numbers[NUMBER])

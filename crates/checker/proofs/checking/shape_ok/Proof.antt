@@ -1,29 +1,20 @@
 -- By the tests of the definition.
-use Prim.Native.Nat.{ℕ, _≤_}
 use mathlib.Core.Path.{_≡_, sym, _∙_}
-use mathlib.Core.Bool.{Bool, true, false, and-false, _&&_}
-use mathlib.Core.List.{List}
+use mathlib.Core.Bool.{Bool, true, and-false, _&&_}
 use native.Mathlib.Omega.{arith}
 use lib.ListN.{length}
 use denote.Ref.{now}
 use borrow.Author.Tests.{eq-eqb, ne-eqb, not-true, not-false}
-use Rattle.v8.specs.Numbers.{mostWords}
-use Rattle.v8.proofs.Search.{needed-le}
 use Rattle.rows.specs.Geometry.{entryBytes}
 use Rattle.checker.specs.Passes.{startOk, shapeOk}
+use Rattle.checker.proofs.Started.{started, first-fails}
 use borrow.Author.Needs.{needs}
 use Rattle.checker.proofs.checking.shape_ok.Statement.{statement}
 use Rattle.checker.proofs.checking.shape_ok.Tie as tie
 
--- the first of four tests fails; the last decides
-first-fails : (a b c d : Bool) → a ≡ false → false ≡ a && b && c && d
-first-fails a b c d e = rw e
-
+-- the last of four tests decides
 last-decides : (a b c d : Bool) → a ≡ true → b ≡ true → c ≡ true → d ≡ a && b && c && d
 last-decides a b c d e f g = rw (e, f, g)
-
-words-most : (regions : ℕ) (sizes : List ℕ) (n : ℕ) (entry : List ℕ) → startOk regions sizes n entry ≡ true → n ≤ mostWords
-words-most regions sizes n entry e = needed-le (startOk regions sizes n entry) n mostWords e (λ f. simp (f, and-false))
 
 abbrev start : tie.Start → Bool
 start s = startOk (s .args .t1 .regions .count) (s .args .t1 .regions .sizes) (length (now (s .args .words))) (now (s .args .entry))
@@ -31,8 +22,8 @@ start s = startOk (s .args .t1 .regions .count) (s .args .t1 .regions .sizes) (l
 abbrev start1 : tie.Else1 → tie.Start
 start1 c = c .before .before .before .before .before .before .before .before
 
-started : (c : tie.Else1) → start (start1 c) ≡ true
-started c = sym (c .before .start-ok .ensures) ∙ not-false _ (c .if1 .left)
+right-start : (c : tie.Else1) → start (start1 c) ≡ true
+right-start c = sym (c .before .start-ok .ensures) ∙ not-false _ (c .if1 .left)
 
 start-ok-requires : tie.Need-start-ok-requires
 start-ok-requires c κs = search needs
@@ -44,7 +35,7 @@ returns c = first-fails (start (c .before .before .before .before .before .befor
 mul-if2 : tie.Need-mul-if2
 mul-if2 c =
     let s = start1 c .args in
-    record { fits = omega (arith, words-most (s .t1 .regions .count) (s .t1 .regions .sizes) (length (now (s .words))) (now (s .entry)) (started c)) }
+    record { fits = omega (arith, started (s .t1 .regions .count) (s .t1 .regions .sizes) (length (now (s .words))) (now (s .entry)) (right-start c) .most) }
 
 returns-2 : tie.Need-returns-2
 unfolding shapeOk
@@ -62,7 +53,7 @@ unfolding shapeOk
 returns-4 c =
     let i = c .before .before .before in
     c .entry-formed .ensures
-    ∙ last-decides (start (start1 (i .before .before))) _ _ _ (started (i .before .before)) (eq-eqb _ _ (i .before .if2 .left)) (eq-eqb _ entryBytes (i .if3 .left))
+    ∙ last-decides (start (start1 (i .before .before))) _ _ _ (right-start (i .before .before)) (eq-eqb _ _ (i .before .if2 .left)) (eq-eqb _ entryBytes (i .if3 .left))
 
 pub shape-ok-spec : {M : Type 1} → statement M
 shape-ok-spec =

@@ -99,10 +99,10 @@ returns-2 c =
     refused (s .args .t1) (words s) (entry s) (table s) (c .refuse2 .result) (e ∙ sym (c .refuse2 .ensures)) (λ z. absurd (omega (arith, ap (λ (a : Answer). a .number) (c .refuse2 .ensures), z)))
 
 read-all-requires : tie.Need-read-all-requires
-read-all-requires c κs = long c .most
+read-all-requires c κs = long c .start .most
 
 read-pass-requires : tie.Need-read-pass-requires
-read-pass-requires c κs = (long (c .before) .most, c .read-all .ensures)
+read-pass-requires c κs = (long (c .before) .start .most, c .read-all .ensures)
 
 returns-3 : tie.Need-returns-3
 returns-3 c =
@@ -112,12 +112,12 @@ returns-3 c =
     refused (s .args .t1) (words s) (entry s) (table s) (d .read-pass .result) (left2 t ∙ stops _ _ _ (d .read-pass .ensures ∙ over s _) (c .if3 .taken)) (c .if3 .taken)
 
 examine-all-requires : tie.Need-examine-all-requires
-examine-all-requires c κs = (long (shape3 c) .most, c .before .before .before .read-all .ensures)
+examine-all-requires c κs = (long (shape3 c) .start .most, c .before .before .before .read-all .ensures)
 
 flow-pass-requires : tie.Need-flow-pass-requires
 flow-pass-requires c κs =
     let r = c .before .before in
-    (long (shape3 r) .most, r .before .before .before .read-all .ensures, c .before .examine-all .ensures)
+    (long (shape3 r) .start .most, r .before .before .before .read-all .ensures, c .before .examine-all .ensures)
 
 returns-4 : tie.Need-returns-4
 returns-4 c =
@@ -130,14 +130,14 @@ raise-until-closed-requires : tie.Need-raise-until-closed-requires
 raise-until-closed-requires c κs =
     let f = c .before .before in
     let l = long (shape4 f) in
-    (l .some, l .most, read4 f .before .before .before .read-all .ensures, f .before .before .before .before .examine-all .ensures, omega (arith, l .row), refl)
+    (l .start .some, l .start .most, read4 f .before .before .before .read-all .ensures, f .before .before .before .before .examine-all .ensures, omega (arith, l .start .row), refl)
 
 copy-out-requires : tie.Need-copy-out-requires
 copy-out-requires c κs =
     let u = c .before .before in
     let t = shape4 (u .before .before .before) in
     let l = long t in
-    (ap length (u .raise-until-closed .ensures) ∙ listing-whole (readingsOf (words (start2 t))) (entry (start2 t)) (omega (arith, l .most, read-count (words (start2 t)))), l .marks)
+    (ap length (u .raise-until-closed .ensures) ∙ listing-whole (readingsOf (words (start2 t))) (entry (start2 t)) (omega (arith, l .start .most, read-count (words (start2 t)))), l .marks)
 
 accept-requires : tie.Need-accept-requires
 accept-requires c κs = search needs

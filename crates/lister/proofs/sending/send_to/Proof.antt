@@ -1,6 +1,7 @@
 -- The word is of the code, and is raised or not (Working).
+use mathlib.Core.Path.{sym, _∙_}
 use native.Mathlib.Omega.{arith}
-use borrow.Author.Tests.{lt-ltb, le-ltb}
+use borrow.Author.Tests.{lt-ltb, le-ltb, ltb-true}
 use borrow.Author.Needs.{needs}
 use Rattle.lister.proofs.Working.{worked-none, worked-same, worked-raised}
 use Rattle.lister.proofs.sending.send_to.Statement.{statement}
@@ -23,14 +24,14 @@ returns-2 c =
     let r = c .before .raise-at in
     let i = c .before .before .before .before in
     let s = i .before .before in
-    (rw (lt-ltb _ _ (i .if1 .left)) (r .ensures .0), worked-raised _ _ _ _ _ (omega (arith, i .if1 .left, s .pre .0)) (r .ensures .0) (s .pre .1) (r .ensures .1 .0 (c .if2 .taken)))
+    (rw (lt-ltb _ _ (i .if1 .left)) (r .ensures .0), worked-raised _ _ _ _ _ (omega (arith, i .if1 .left, s .pre .0)) (r .ensures .0) (s .pre .1) (ltb-true _ _ (sym (r .ensures .1) ∙ c .if2 .taken)))
 
 returns-3 : tie.Need-returns-3
 returns-3 c =
     let r = c .before .raise-at in
     let i = c .before .before .before .before in
     let s = i .before .before in
-    (rw (lt-ltb _ _ (i .if1 .left)) (r .ensures .0), worked-same _ _ _ (r .ensures .1 .1 (c .if2 .left)) (s .pre .1))
+    (rw (lt-ltb _ _ (i .if1 .left)) (r .ensures .0), worked-same _ _ _ _ _ (r .ensures .0) (s .pre .1) (sym (r .ensures .1) ∙ c .if2 .left))
 
 pub send-to-spec : {M : Type 1} → statement M
 send-to-spec =

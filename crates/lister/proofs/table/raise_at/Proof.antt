@@ -6,7 +6,7 @@ use denote.Ref.{now}
 use borrow.Author.Needs.{needs}
 use Rattle.marks.specs.Marks.{registerCount}
 use Rattle.lister.specs.Table.{placeOf}
-use Rattle.lister.proofs.Stored.{Raising, raising-none, raising-step, raising-done}
+use Rattle.lister.proofs.Stored.{Raising, raising-none, raising-step, raising-told, raising-done}
 use Rattle.lister.proofs.table.raise_at.Statement.{statement}
 use Rattle.lister.proofs.table.raise_at.Tie as tie
 
@@ -60,8 +60,10 @@ loop-again c =
 returns : tie.Need-returns Inv-loop μ-loop
 returns c =
     let l = c .before .loop in
-    let s = c .before .before in
-    (raising-done (now (s .args .table)) (s .args .w) (now (s .args .marks)) (l .r) (l .table) (l .changed) (l .inv) (c .loop-test .left), (l .inv .higher, l .inv .same))
+    let s = c .before .before in (
+      raising-done (now (s .args .table)) (s .args .w) (now (s .args .marks)) (l .r) (l .table) (l .changed) (l .inv) (c .loop-test .left),
+      raising-told (now (s .args .table)) (s .args .w) (now (s .args .marks)) (l .r) (l .table) (l .changed) (l .inv),
+    )
 
 pub raise-at-spec : {M : Type 1} → statement M
 raise-at-spec =
