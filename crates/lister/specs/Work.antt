@@ -1,5 +1,5 @@
--- What the code keeps of its work: which words have marks that are not passed on yet, a flag each, and the lowest word that a part of the
--- work raised.
+-- What the code keeps of its work, for the contracts of its parts alone: which words have marks that are not passed on yet, a flag each, and
+-- the lowest word that a part of the work raised. The listing is defined without it.
 use Prim.Native.Nat.{ℕ, _≤_, _<_}
 use mathlib.Core.Path.{_≡_}
 use mathlib.Core.Bool.{Bool, false}
