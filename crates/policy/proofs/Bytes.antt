@@ -11,11 +11,12 @@ use Rattle.policy.specs.Policy.{countOf, placeOf, fieldAt, fieldEnd}
 use Rattle.policy.specs.Laws.{WellFormed, InRegion, InOneField, HeldByOne}
 use Rattle.policy.specs.declared.Policy.{Policy}
 
-begins : (offset width count : ℕ) → offset ≤ offset + width * count
+-- no field ends before it begins
+pub begins : (offset width count : ℕ) → offset ≤ offset + width * count
 begins offset width count = omega arith
 
 module _ (p : Policy) (w : WellFormed p) (r : ℕ) (l : r < p .regions .count) where
-  before : (k j : ℕ) → k < j → j < countOf p r → fieldEnd (fieldAt p (placeOf r k)) ≤ fieldAt p (placeOf r j) .offset .0
+  pub before : (k j : ℕ) → k < j → j < countOf p r → fieldEnd (fieldAt p (placeOf r k)) ≤ fieldAt p (placeOf r j) .offset .0
   before k zero a b = absurd (not-suc-le-zero a)
   before k (suc i) a b =
       let next = w .ascending r i l (rw add-one b) in

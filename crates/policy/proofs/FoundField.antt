@@ -1,23 +1,27 @@
--- What the search finds: the laws of the lowest number that passes a test, with the test turned into the fact that a field holds the bytes.
--- In a policy that obeys the rules one field at most does, so that a field that holds them is the one found.
+-- What the search finds and how many fields it looks at: the laws of the lowest number that passes a test, with the tests turned into the facts that a
+-- field holds the bytes or begins past the lowest of them. In a policy that obeys the rules fields ascend, so that nothing after the end of
+-- the search holds the bytes, and one field at most does: a field that holds them is the one found.
 use Prim.Native.Nat.{ℕ, _+_, _*_, _-_, _≤_, _<_}
 use mathlib.Core.Path.{_≡_, refl, sym, ap, _∙_}
-use mathlib.Core.Bool.{Bool, true, false, and-false}
+use mathlib.Core.Logic.{_⊎_, inl, inr, ⊎-elim}
+use mathlib.Core.Bool.{Bool, true, false, cond, and-false, and-eq-true-iff, _&&_, _||_}
 use native.Mathlib.Omega.{arith}
-use borrow.Author.Tests.{ltb-true, ltb-false, lt-ltb, le-leb}
+use native.Mathlib.Nat.{eq-or-lt-of-le}
+use borrow.Author.Tests.{ltb-true, ltb-false, lt-ltb, le-ltb, le-leb}
 use lib.Dec.{ltb}
 use lib.ListN.{getD}
 use Rattle.v8.proofs.Choice.{cond-went, cond-both}
 use Rattle.v8.specs.Search.{first}
-use Rattle.v8.proofs.Search.{first-from, first-passes, first-least, needed-le}
+use Rattle.v8.proofs.Search.{first-from, first-passes, first-least, first-is, needed-le}
+use Rattle.policy.specs.Element.{widthOf}
 use Rattle.policy.specs.Policy.{countOf, placeOf, elementsEnd, fieldAt}
-use Rattle.policy.specs.Find.{holdsIn, stopOf, findIn, findField}
-use Rattle.policy.specs.Laws.{Holds, FoundHere, FoundHolds, NoneHolds, Finds}
+use Rattle.policy.specs.Find.{holdsIn, stopOf, holderIn, endsAt, lastPlace, foundAt, findIn, lookedAt, findField, fieldHolding, fieldsLooked}
+use Rattle.policy.specs.Laws.{WellFormed, Holds, FoundHere, FoundHolds, NoneHolds, EndsEarly, Ends, UpToEnd, CountsLooked, FoundLast, Finds}
 use Rattle.policy.specs.declared.Policy.{Policy}
 use Rattle.policy.specs.declared.Search.{Search}
 use Rattle.policy.specs.declared.Found.{Found}
 use Rattle.policy.specs.declared.Found.the-variants.{At, Nothing}
-use Rattle.policy.proofs.Bytes.{held-by-one}
+use Rattle.policy.proofs.Bytes.{begins, before, held-by-one}
 
 differ : _≡_ {A = Bool} true false → ⊥
 differ z = let y : _≡_ {A = ℕ} 0 1 = cc in omega arith
@@ -32,6 +36,17 @@ found-is i j e = cc
 pub is-found : {s t : Search} → s ≡ t → s .found ≡ t .found
 is-found e = ap (λ (x : Search). x .found) e
 
+not-less : (a b : ℕ) → (a < b → ⊥) → b ≤ a
+not-less a b f = omega arith
+
+neither : (a b : Bool) → a || b ≡ false → (a ≡ false) × (b ≡ false)
+neither true b e = absurd (differ e)
+neither false b e = (refl, e)
+
+either : (a b : Bool) → a || b ≡ true → (a ≡ true) ⊎ (b ≡ true)
+either true b e = inl refl
+either false b e = inr e
+
 -- where the search in region r stops: after its fields, of which 16 at most are looked at
 record Stop (n r stop : ℕ) : Type 0 where
   counted : stop ≤ 16 * r + n
@@ -42,11 +57,15 @@ module _ (p : Policy) (r low end : ℕ) where
   abbrev holdsAt : ℕ → Bool
   holdsAt = holdsIn (p .fields .elements) (p .fields .offsets) (p .fields .counts) low end
 
+  abbrev ends : ℕ → Bool
+  ends = endsAt (p .fields .elements) (p .fields .offsets) (p .fields .counts) low end
+
   abbrev stop : ℕ
   stop = stopOf (p .regions .fields) r
 
+  -- where the search ends
   abbrev place : ℕ
-  place = first holdsAt (16 * r) stop
+  place = lastPlace (p .regions .fields) (p .fields .elements) (p .fields .offsets) (p .fields .counts) r low end
 
   stop-is : Stop (countOf p r) r stop
   unfolding stopOf
@@ -69,40 +88,161 @@ module _ (p : Policy) (r low end : ℕ) where
   fails : (i : ℕ) → holdsAt i ≡ false → Holds (fieldAt p i) low end → ⊥
   fails i e h = differ (sym (of-holds i h) ∙ e)
 
-  -- the search ended below the stop
-  here : r < 8 → place < stop → FoundHere p r low end place
-  here m l =
-      let from = first-from holdsAt (16 * r) stop in
-      let e : place ≡ 16 * r + (place - 16 * r) = omega arith in
+  place-from : 16 * r ≤ place
+  place-from = first-from ends (16 * r) stop
+
+  -- the search passed by a field: it does not hold the bytes, and does not begin past them
+  passed : (i : ℕ) → 16 * r ≤ i → i < place → (holdsAt i ≡ false) × (ltb low (getD (p .fields .offsets) i 0) ≡ false)
+  passed i a b = neither (holdsAt i) (ltb low (getD (p .fields .offsets) i 0)) (first-least ends (16 * r) stop i a b)
+
+  -- the search ended at a field
+  ended : place < stop → (holdsAt place ≡ true) ⊎ (ltb low (getD (p .fields .offsets) place 0) ≡ true)
+  ended l = either _ _ (first-passes ends (16 * r) stop l)
+
+  -- .. and that one holds the bytes
+  here : r < 8 → place < stop → holdsAt place ≡ true → FoundHere p r low end place
+  here m l h =
+      let e : place ≡ 16 * r + (place - 16 * r) = omega (arith, place-from) in
       record {
         index = place - 16 * r;
         here = e;
         region-most = m;
-        index-most = omega (arith, stop-is .most);
-        counted = omega (arith, stop-is .counted);
-        holds = rw (← e) (holds-of place (first-passes holdsAt (16 * r) stop l));
-        lowest = λ k a. fails (16 * r + k) (first-least holdsAt (16 * r) stop (16 * r + k) (omega arith) (omega arith));
+        index-most = omega (arith, place-from, stop-is .most);
+        counted = omega (arith, place-from, stop-is .counted);
+        holds = rw (← e) (holds-of place h);
+        lowest = λ k a. fails (16 * r + k) (passed (16 * r + k) (omega arith) (omega (arith, place-from)) .0);
       }
 
-  -- the search came to the stop
-  none : stop ≤ place → (k : ℕ) → k < 16 → k < countOf p r → Holds (fieldAt p (placeOf r k)) low end → ⊥
-  none l k a b = fails (16 * r + k) (first-least holdsAt (16 * r) stop (16 * r + k) (omega arith) (omega (arith, stop-is .least k b a)))
+  -- no field that the search passed by is one at which it ends
+  not-ends : (k : ℕ) → 16 * r + k < place → Ends p r low end k → ⊥
+  unfolding fieldAt
+  not-ends k l e =
+      let h = passed (16 * r + k) (omega arith) l in
+      ⊎-elim (λ x. fails (16 * r + k) (h .0) x) (λ x. omega (arith, ltb-false low _ (h .1))) e
+
+  -- the field at which it ended is
+  is-end : place < stop → Ends p r low end (place - 16 * r)
+  unfolding fieldAt
+  is-end l =
+      let e : place ≡ 16 * r + (place - 16 * r) = omega (arith, place-from) in
+      rw (← e) (⊎-elim (λ h. inl (holds-of place h)) (λ h. inr (ltb-true low _ h)) (ended l))
+
+  -- what is found is where the search ended
+  record FoundEnd (i : ℕ) : Type 0 where
+    is : place ≡ i
+    region : r < 8
+    before : place < stop
+    holds : holdsAt place ≡ true
+
+  found-end : (i : ℕ) → findField p r low end ≡ At i → FoundEnd i
+  unfolding findIn
+  found-end i e =
+      cond-went _ _ _ _ e
+      (λ t e₁. cond-went _ _ _ _ e₁
+      (λ u e₂. let g = and-eq-true-iff (ltb place stop) (holdsAt place) .0 u in
+      record { is = found-is _ _ e₂; region = ltb-true r 8 t; before = ltb-true _ _ (g .0); holds = g .1 })
+      (λ u z. absurd (not-found _ z)))
+      (λ t z. absurd (not-found _ z))
+
+  looked-is : r < 8 → fieldsLooked p r low end ≡ cond (ltb place stop) (place + 1) stop - 16 * r
+  unfolding lookedAt
+  looked-is l = simp (lt-ltb r 8 l)
+
+  module _ (w : WellFormed p) (l : r < p .regions .count) where
+    few : r < 8
+    few = omega (arith, w .regions-most)
+
+    in-stop : (k : ℕ) → k < countOf p r → 16 * r + k < stop
+    in-stop k m = stop-is .least k m (omega (arith, w .count-most r l))
+
+    -- a field begins past the bytes if one before it does
+    later : (i k : ℕ) → i ≤ k → k < countOf p r → low < fieldAt p (placeOf r i) .offset .0 → low < fieldAt p (placeOf r k) .offset .0
+    later i k a m g =
+        ⊎-elim
+        (λ (e : i ≡ k). rw e at g)
+        (λ (q : i < k).
+        let f = fieldAt p (placeOf r i) in
+        omega (arith, before p w r l i k q m, begins (f .offset .0) (widthOf (f .element)) (f .count)))
+        (eq-or-lt-of-le a)
+
+    -- the search ended at a field that does not hold the bytes: neither do those after it
+    past : (k : ℕ) → k < countOf p r → place ≤ 16 * r + k → holdsAt place ≡ false → Holds (fieldAt p (placeOf r k)) low end → ⊥
+    unfolding fieldAt
+    past k m a e h =
+        let from = place-from in
+        let i : place ≡ 16 * r + (place - 16 * r) = omega arith in
+        ⊎-elim
+        (λ t. differ (sym t ∙ e))
+        (λ t. omega (arith, later (place - 16 * r) k (omega arith) m (rw (← i) (ltb-true low _ t)), h .0))
+        (ended (omega (arith, in-stop k m)))
+
+    -- the search ended at such a field, or at none: no field holds the bytes
+    none : (k : ℕ) → k < countOf p r → ltb place stop && holdsAt place ≡ false → Holds (fieldAt p (placeOf r k)) low end → ⊥
+    none k m e h =
+        let a = not-less (16 * r + k) place (λ b. not-ends k b (inl h)) in
+        past k m a (rw (lt-ltb place stop (omega (arith, in-stop k m))) at e) h
+
+    abbrev lowest : ℕ
+    lowest = first holdsAt (16 * r) stop
+
+    not-lowest : ltb place stop && holdsAt place ≡ false → lowest < stop → ⊥
+    not-lowest t u =
+        let from = first-from holdsAt (16 * r) stop in
+        let e : lowest ≡ 16 * r + (lowest - 16 * r) = omega arith in
+        none (lowest - 16 * r) (omega (arith, stop-is .counted)) t (rw (← e) (holds-of lowest (first-passes holdsAt (16 * r) stop u)))
+
+    early : findField p r low end ≡ fieldHolding p r low end
+    unfolding findIn holderIn
+    early =
+        rw (lt-ltb r 8 few)
+        (cond-both (λ (x : Found). x ≡ foundAt lowest stop) (ltb place stop && holdsAt place)
+        (λ t. let h = and-eq-true-iff (ltb place stop) (holdsAt place) .0 t in
+        let z : lowest ≡ place = first-is holdsAt (16 * r) stop place place-from (ltb-true _ _ (h .0)) (h .1) (λ k a b. passed k a b .0) in
+        rw (z, h .0))
+        (λ t. cond-both (λ (x : Found). Nothing ≡ x) (ltb lowest stop) (λ u. absurd (not-lowest t (ltb-true lowest stop u))) (λ u. refl)))
+
+    counts : UpToEnd p r low end (fieldsLooked p r low end)
+    counts =
+        rw (looked-is few)
+        (cond-both (λ (n : ℕ). UpToEnd p r low end (n - 16 * r)) (ltb place stop)
+        (λ t. let m = ltb-true place stop t in
+        let z : place + 1 - 16 * r - 1 ≡ place - 16 * r = omega (arith, place-from) in
+        record {
+          most = omega (arith, place-from, stop-is .counted);
+          passed = λ k a. not-ends k (omega (arith, place-from));
+          some = λ a. omega (arith, place-from);
+          last = λ a. rw z (is-end m);
+        })
+        (λ t. let m = ltb-false place stop t in
+        let all : stop - 16 * r < countOf p r → ⊥ = λ a. omega (arith, in-stop (stop - 16 * r) a) in
+        record {
+          most = omega (arith, stop-is .counted);
+          passed = λ k a. not-ends k (omega arith);
+          some = λ a. absurd (all a);
+          last = λ a. absurd (all a);
+        }))
 
 pub found-holds : FoundHolds
-unfolding findIn
-found-holds p r low end i e =
-    cond-went _ _ _ _ e
-    (λ t e₁. cond-went _ _ _ _ e₁
-    (λ u e₂. rw (found-is _ _ e₂) at (here p r low end (ltb-true _ _ t) (ltb-true _ _ u)))
-    (λ u z. absurd (not-found _ z)))
-    (λ t z. absurd (not-found _ z))
+found-holds p r low end i e = let f = found-end p r low end i e in rw (f .is) at (here p r low end (f .region) (f .before) (f .holds))
+
+pub found-last : FoundLast
+found-last p r low end i e =
+    let f = found-end p r low end i e in
+    let n = rw (lt-ltb _ _ (f .before)) at (looked-is p r low end (f .region)) in
+    omega (arith, place-from p r low end, f .is, n)
 
 pub none-holds : NoneHolds
 unfolding findIn
-none-holds p r low end e k l a b h =
-    cond-went _ _ _ _ (rw (lt-ltb _ _ l) at e)
+none-holds p w r k low end l m e h =
+    cond-went _ _ _ _ (rw (lt-ltb r 8 (few p r low end w l)) at e)
     (λ u z. not-found _ (sym z))
-    (λ u z. none p r low end (ltb-false _ _ u) k a b h)
+    (λ u z. none p r low end w l k m u h)
+
+pub ends-early : EndsEarly
+ends-early p w r low end l = early p r low end w l
+
+pub counts-looked : CountsLooked
+counts-looked p w r low end l = counts p r low end w l
 
 pub finds : Finds
 finds p w r k low end l m a h = decide (findField p r low end) refl
@@ -111,5 +251,4 @@ finds p w r k low end l m a h = decide (findField p r low end) refl
     decide (At i) e =
         let f = found-holds p r low end i e in
         rw (held-by-one p w r k (f .index) low end l m (f .counted) a h (f .holds), ← f .here) e
-    decide Nothing e =
-        absurd (none-holds p r low end e k (omega (arith, w .regions-most)) (omega (arith, w .count-most r l)) m h)
+    decide Nothing e = absurd (none-holds p w r k low end l m e h)

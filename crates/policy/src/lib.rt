@@ -68,7 +68,16 @@ pub enum Found {
     Nothing,
 }
 
-// What a search gives.
+// What a search gives: what is found, and how many fields were looked at.
 pub struct Search {
     pub found: Found,
+    pub looked: usize,
+}
+
+// What a search in a policy handed in gives: 0 and what the search gives; or the number of the refusal,
+// with nothing found and no field looked at.
+pub struct FieldSearch {
+    pub number: u8,
+    pub found: Found,
+    pub looked: usize,
 }

@@ -36,6 +36,12 @@ pub and-false : (a b : Bool) → b ≡ false → a && b ≡ false
 and-false true b e = e
 and-false false b e = refl
 
+differ : true ≡ false → ⊥
+differ z = let y : _≡_ {A = ℕ} 0 1 = cc in omega arith
+
+neither-less : (k j : ℕ) → (k < j → ⊥) → (j < k → ⊥) → k ≡ j
+neither-less k j f g = omega arith
+
 module _ (f : ℕ → Bool) where
   -- what every number passes, each passes
   pub all-at : (n i : ℕ) → all f n ≡ true → i < n → f i ≡ true
@@ -126,3 +132,10 @@ module _ (f : ℕ → Bool) where
   pub first-least : (i n j : ℕ) → i ≤ j → j < first f i n → f j ≡ false
   unfolding first
   first-least i n j a l = lowest-least (n - i) i j a l
+
+  -- what passes, with all before it failing, is found
+  pub first-is : (i n j : ℕ) → i ≤ j → j < n → f j ≡ true → ((k : ℕ) → i ≤ k → k < j → f k ≡ false) → first f i n ≡ j
+  first-is i n j a b t h =
+      neither-less (first f i n) j
+      (λ l. differ (sym (first-passes i n (omega arith)) ∙ h (first f i n) (first-from i n) l))
+      (λ l. differ (sym t ∙ first-least i n j a l))
