@@ -113,6 +113,8 @@ def main(arguments):
             listings(case.name, case, 400, f"{folder}/kinds")
         steps("arithmetic loop", 0, f"{folder}/machine")
         steps("loop with a load and a store", 1, f"{folder}/machine")
+        for place, routine in (("first", 2), ("eighth", 3), ("last", 4)):
+            steps(f"loop of loads from the {place} of 16 fields", routine, f"{folder}/machine")
 
 
 if __name__ == "__main__":

@@ -2,8 +2,9 @@
    the proved machine is. It does the tests of every step (words, marks, alignment, fields), and
    leaves out those that come once before a run (20, 21, 22).
 
-   machine ROUTINE ALLOWANCE: runs a loop that does not end, 0 of arithmetic or 1 with a load and a
-   store too, and prints how it ended, the steps and a register. */
+   machine ROUTINE ALLOWANCE: runs a loop that does not end, 0 of arithmetic, 1 with a load and a store
+   too, or 2, 3 and 4 of loads from the first, the eighth and the last of 16 fields, and prints how it
+   ended, the steps and a register. */
 #include <stdbool.h>
 #include <stdint.h>
 #include <stdio.h>
@@ -162,7 +163,8 @@ static uint8_t *located(const struct machine *m, uint32_t op3, uint32_t address,
         if (address < m->bases[r] || offset >= region->size) continue;
         for (int k = 0; k < region->fields; k++) {
             const struct field *f = &region->field[k];
-            if (f->offset <= offset && offset + width <= f->offset + width_of(f->element) * (uint32_t)f->count)
+            if (f->offset > offset) return NULL;
+            if (offset + width <= f->offset + width_of(f->element) * (uint32_t)f->count)
                 return serves(op3, f) ? part + offset : NULL;
         }
         return NULL;
@@ -255,12 +257,26 @@ static const uint32_t MEMORY[] = {
     0x01000000, /* nop */
 };
 
+/* Loads of the word at an offset of the region, and a branch back to the first of them, its slot a load
+   too. */
+static void loads(uint32_t *words, uint32_t offset) {
+    for (int k = 0; k < 8; k++) words[k] = 0xD4022000 | offset; /* ld [%o0+offset],%o2 */
+    words[6] = 0x10BFFFFA; /* ba .-24 */
+}
+
 int main(int argc, char **argv) {
     if (argc != 3) return 2;
-    struct policy policy = {1, {{64, 2, {{1, 3, 0, 8}, {5, 3, 8, 14}}}}};
-    uint32_t bases[] = {4096};
+    int routine = atoi(argv[1]);
+    struct policy policy = {1, {{64, 1, {{5, 3, 8, 14}}}}};
+    uint32_t bases[] = {4096}, words[8];
     uint8_t memory[64] = {0};
-    struct machine m = {.policy = &policy, .words = atoi(argv[1]) ? MEMORY : ARITHMETIC, .bases = bases, .count = 8, .returns = 65536, .memory = memory};
+    if (routine >= 2) {
+        policy.region[0].fields = 16;
+        for (int k = 0; k < 16; k++) policy.region[0].field[k] = (struct field){5, 3, 4 * k, 1};
+        loads(words, routine == 2 ? 0 : routine == 3 ? 28 : 60);
+    }
+    struct machine m = {.policy = &policy, .words = routine == 0 ? ARITHMETIC : routine == 1 ? MEMORY : words, .bases = bases,
+                        .count = 8, .returns = 65536, .memory = memory};
     for (int r = 8; r < 13; r++) m.set[r] = true;
     m.value[8] = 4096;
     uint64_t steps;

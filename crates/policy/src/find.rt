@@ -1,5 +1,6 @@
 // The search for the field of a region that holds some bytes (specs/Find.antt).
 ghost use mathlib.Core.Path.{_≡_};
+ghost use Prim.Native.Nat.{_+_, _-_, _≤_, _<_};
 ghost use Rattle.policy.specs.Find.{searchIn, searchOf};
 use crate::FieldSearch;
 use crate::Found;
@@ -9,6 +10,14 @@ use crate::form::elements_end;
 use v8::ByteOffset;
 use v8::numbers::ACCEPTED;
 use v8::numbers::BAD_POLICY;
+
+// How many places there are from the first up to and with another.
+fn up_to(first: usize, place: usize) -> usize
+    requires { ⌜ (first ≤ place) × (place < 128) ⌝ }
+    ensures { λ r. ⌜ r ≡ place + 1 - first ⌝ }
+{
+    place + 1 - first
+}
 
 // The field of a region that holds the bytes from low up to end, which is not among them, and how many
 // fields were looked at; nothing and 0 if there is no such region. The search ends at the first field
@@ -41,17 +50,16 @@ pub fn find_in<'a>(
     while place < stop {
         let offset = offsets[place];
         let after = elements_end(elements[place], offset, counts[place]);
-        let looked = place + 1 - first;
         if low.0 < offset {
             return Search {
                 found: Found::Nothing,
-                looked,
+                looked: up_to(first, place),
             };
         }
         if end.0 as u64 <= after {
             return Search {
                 found: Found::At(place),
-                looked,
+                looked: up_to(first, place),
             };
         }
         place += 1;

@@ -1,6 +1,7 @@
 // Runs a loop that does not end on the machine, to measure the speed of a step: the same loops as
-// tools/plain/machine.c. Standard input has two digits: the routine, 0 of arithmetic or 1 with a load
-// and a store too, and the allowance as a power of ten. Prints how the run ended, the steps, and r10.
+// tools/plain/machine.c. Standard input has two digits: the routine, 0 of arithmetic, 1 with a load and a
+// store too, or 2, 3 and 4 of loads from the first, the eighth and the last of 16 fields, and the
+// allowance as a power of ten. Prints how the run ended, the steps, and r10.
 use alu::Codes;
 use libc::STDIN_FILENO;
 use libc::STDOUT_FILENO;
@@ -36,19 +37,45 @@ const MEMORY: [u32; 8] = [
     0x01000000,
 ];
 
-// One region of 64 bytes, its last 56 a field of words.
-fn lent() -> Policy {
-    let region = Policy::empty().add_region(64).policy;
+// Loads of the word at an offset of the region, and a branch back to the first of them, its slot a load too.
+fn loads(offset: u32) -> [u32; 8] {
+    let load = 0xD4022000 | offset;
+    [load, load, load, load, load, load, 0x10BFFFFA, load]
+}
+
+// The policy with a field of words more in its region.
+fn with_words(policy: Policy, offset: u32, count: u16) -> Policy {
     let words = Field {
         element: 5,
         permission: 3,
         target: 0,
-        offset: ByteOffset(8),
-        count: 14,
+        offset: ByteOffset(offset),
+        count,
         lo: 0,
         hi: 4294967295,
     };
-    region.add_field(0, words).policy
+    policy.add_field(0, words).policy
+}
+
+// One region of 64 bytes.
+fn region() -> Policy {
+    Policy::empty().add_region(64).policy
+}
+
+// Its last 56 bytes are a field.
+fn one_field() -> Policy {
+    with_words(region(), 8, 14)
+}
+
+// Each of its words is a field.
+fn sixteen_fields() -> Policy {
+    let mut policy = region();
+    let mut k: u32 = 0;
+    while k < 16 {
+        policy = with_words(policy, 4 * k, 1);
+        k += 1;
+    }
+    policy
 }
 
 // r8 is the start of the region, r9 to r12 are 0.
@@ -103,11 +130,11 @@ fn allowance_of(digit: u8) -> u64 {
     }
 }
 
-fn run_loop(words: &[u32], allowance: u64) {
+fn run_loop(policy: Policy, words: &[u32], allowance: u64) {
     let bases = [4096u32; 1];
     let mut memory = [0u8; 64];
     report(machine::run(
-        lent(),
+        policy,
         words,
         &bases,
         65536,
@@ -117,13 +144,18 @@ fn run_loop(words: &[u32], allowance: u64) {
     ));
 }
 
+fn run_routine(routine: u8, allowance: u64) {
+    match routine {
+        b'1' => run_loop(one_field(), &MEMORY, allowance),
+        b'2' => run_loop(sixteen_fields(), &loads(0), allowance),
+        b'3' => run_loop(sixteen_fields(), &loads(28), allowance),
+        b'4' => run_loop(sixteen_fields(), &loads(60), allowance),
+        _ => run_loop(one_field(), &ARITHMETIC, allowance),
+    }
+}
+
 fn main() {
     let mut input = [b'0'; 2];
     io::read_full(STDIN_FILENO, &mut input);
-    let allowance = allowance_of(input[1]);
-    if input[0] == b'1' {
-        run_loop(&MEMORY, allowance);
-    } else {
-        run_loop(&ARITHMETIC, allowance);
-    }
+    run_routine(input[0], allowance_of(input[1]));
 }

@@ -128,28 +128,31 @@ element-copy-out-elements-end-2 c = search needs
 elements-end-requires : tie.Need-elements-end-requires Inv-loop μ-loop
 elements-end-requires c κs = search needs
 
-add-looked : tie.Need-add-looked Inv-loop μ-loop
-add-looked c = search needs
-
-sub-looked : tie.Need-sub-looked Inv-loop μ-loop
-sub-looked c = search needs
+up-to-requires : tie.Need-up-to-requires Inv-loop μ-loop
+up-to-requires c κs = search needs
 
 returns-2 : tie.Need-returns-2 Inv-loop μ-loop
 returns-2 c =
-    let at-test = c .before .before .before .before .before .before in
+    let at-if = c .before in
+    let at-test = at-if .before .before .before .before .before .before in
     let at-loop = at-test .before in
     let inv = at-loop .loop .inv in
-    sym (at-past _ _ _ _ _ _ _ _ _ (at-loop .before .before .before .if1 .left) (inv .3) (inv .4) (at-test .loop-test .taken) (c .if3 .taken))
+    rw (c .up-to .ensures) (sym (at-past _ _ _ _ _ _ _ _ _ (at-loop .before .before .before .if1 .left) (inv .3) (inv .4) (at-test .loop-test .taken) (at-if .if3 .taken)))
 
 cast-if4 : tie.Need-cast-if4 Inv-loop μ-loop
 cast-if4 c = search needs
 
+up-to-requires-2 : tie.Need-up-to-requires-2 Inv-loop μ-loop
+up-to-requires-2 c κs = search needs
+
 returns-3 : tie.Need-returns-3 Inv-loop μ-loop
 returns-3 c =
-    let at-test = c .before .before .before .before .before .before .before .before in
+    let at-if = c .before in
+    let at-test = at-if .before .before .before .before .before .before .before .before in
     let at-loop = at-test .before in
     let inv = at-loop .loop .inv in
-    sym (at-holder _ _ _ _ _ _ _ _ _ (at-loop .before .before .before .if1 .left) (inv .3) (inv .4) (at-test .loop-test .taken) (c .before .before .if3 .left) (rw (← c .before .before .before .before .elements-end .ensures) (c .if4 .taken)))
+    rw (c .up-to2 .ensures)
+    (sym (at-holder _ _ _ _ _ _ _ _ _ (at-loop .before .before .before .if1 .left) (inv .3) (inv .4) (at-test .loop-test .taken) (at-if .before .before .if3 .left) (rw (← at-if .before .before .before .before .elements-end .ensures) (at-if .if4 .taken))))
 
 add-place : tie.Need-add-place Inv-loop μ-loop
 add-place c = search needs
@@ -169,8 +172,8 @@ loop-again c =
       next _ _ _ _ _ _ _ _ _ (at-loop .before .before .before .if1 .left) (inv .3) (inv .4) (at-test .loop-test .taken) (c .before .before .if3 .left) (rw (← c .before .before .before .before .elements-end .ensures) (c .if4 .left)),
     )
 
-sub-looked-2 : tie.Need-sub-looked-2 Inv-loop μ-loop
-sub-looked-2 c = search needs
+sub-looked : tie.Need-sub-looked Inv-loop μ-loop
+sub-looked c = search needs
 
 returns-4 : tie.Need-returns-4 Inv-loop μ-loop
 returns-4 c =
@@ -197,13 +200,13 @@ find-in-spec =
     mul-elements-end
     element-copy-out-elements-end-2
     elements-end-requires
-    add-looked
-    sub-looked
+    up-to-requires
     returns-2
     cast-if4
+    up-to-requires-2
     returns-3
     add-place
     loop-less
     loop-again
-    sub-looked-2
+    sub-looked
     returns-4)

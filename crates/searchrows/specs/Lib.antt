@@ -1,0 +1,3 @@
+pub mod Case
+pub mod Rows
+pub mod Table
