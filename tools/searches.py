@@ -12,9 +12,9 @@ A search wants the bytes from offset FIRST up to PAST, which is not among them. 
 and looks at N fields. One whose FIRST or PAST is negative or does not fit 32 bits is passed over: no call can ask for it.
 List n, counted from 0, is region n modulo 8 of a policy of 8 regions of 4,096 bytes; the others have no fields.
 
-After them come lists that are made here, each for one thing. What is expected of their searches is a sentence of document 02
-written in Python, `outcome`, or the refusal 20; and `outcome` must give what the independent implementation gave for each of its searches.
-The first list that is made is refused, so that they are known again.
+After them come lists that are made here, each for one thing. What is expected of their searches is request 3 of document 02 word
+for word, `outcome` below, or the refusal 20; and `outcome` must give what the independent implementation gave for each of its
+searches. The first list that is made is refused, so that they are known again.
 
 A record of the data is numbers of 32 bits, big-endian. The first says how many come after it; these are
     0  number of the answer      3  number of fields F         13  numbers of fields of 8 regions
@@ -48,9 +48,9 @@ List = namedtuple("List", "number region policy searches")
 # What a search gives
 
 def outcome(extents, first, past):
-    """Which field a search finds, and how many it looks at; an extent is a field's first byte and the first one after it.
-    "The search ends at the first field that holds the wanted bytes or begins past their lowest offset; it tells how many fields
-    it looked at: exactly those up to and with that one, or all if there is none." """
+    """Which field a search finds, and how many it looks at: it "is to end at the first field that holds the wanted bytes or begins past
+    their lowest offset", and looks at "exactly those up to and with that one, or all if there is none". An extent is a field's first
+    byte and the first one after it."""
     for k, (begin, end) in enumerate(extents):
         holds = begin <= first and past <= end
         if holds or first < begin:
@@ -64,11 +64,11 @@ def extents_of(policy, region):
 
 
 def held(number, one):
-    """A list with its number, each of whose searches gives what the sentence says."""
+    """A list with its number, each of whose searches gives what request 3 says."""
     for first, past, *given in one.searches:
         expected = list(outcome(extents_of(one.policy, one.region), first, past))
         if given != expected:
-            raise Problem(f"list {number}: bytes {first} up to {past} give {given}, and the sentence gives {expected}")
+            raise Problem(f"list {number}: bytes {first} up to {past} give {given}, and request 3 says {expected}")
     return one
 
 

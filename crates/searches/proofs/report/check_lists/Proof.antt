@@ -1,4 +1,4 @@
--- `report::check_lists` is safe and ends. No more lists are wrong than were read, no list has more than 53 searches, and the measure is how many lists may still be read. Assumes nothing.
+-- `report::check_lists` is safe and ends. At most all lists are wrong, each has at most 53 searches, and the measure is how many lists may still be read. Assumes nothing.
 use Prim.Native.Nat.{_≤_, _*_, _-_}
 use borrow.Author.Needs.{needs}
 use Rattle.searches.proofs.report.check_lists.Statement.{statement}
