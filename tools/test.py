@@ -28,6 +28,7 @@ import kinds
 import layout
 import parts
 import script
+import searches
 
 TOOLS = os.path.dirname(os.path.abspath(__file__))
 ROOT = os.path.dirname(TOOLS)
@@ -603,6 +604,30 @@ def refusals_before_rows():
     yield "kinds.py with a field past its region", status == 0 and out.startswith("20 0 0\n") and "it does not end inside its region" in out, out + said
 
 
+# Searches for fields
+
+@cases()
+def searches_of_fields():
+    four = searches.extents_of(searches.regions(searches.FOUR), 0)
+    yield "the worked example's fields", four == [(0, 4), (4, 8), (10, 12), (20, 24)], repr(four)
+    for first, past, expected in [(4, 9, (None, 3)), (4, 8, (1, 2)), (8, 9, (None, 3)), (24, 25, (None, 4))]:
+        given = searches.outcome(four, first, past)
+        yield f"a search for bytes {first} up to {past}", given == expected, repr(given)
+    yield "a search without fields", searches.outcome([], 0, 1) == (None, 0), ""
+    held = tuple(read(ROOT, "crates", "searches", name) for name in ("stdin", "stdout"))
+    yield "crates/searches has what searches.py makes", searches.data_of(searches.standing()) == held, ""
+    text = ("fields 2\nfield 1 3 0 0 4 0 0\nfield 5 1 0 8 1 -1 1\nwant 8 12 found 1 looked 2\n"
+            "want -1 1 found none looked 1\nwant 0 4294967296 found none looked 2")
+    one = searches.held(9, searches.list_of(9, text))
+    right = (one.number, one.region, one.searches) == (0, 1, [(8, 12, 1, 2)]) and searches.list_in(searches.record(one), 0)[0] == one
+    yield "a list of fields as text", right, repr(one)
+    yield "a search that gives something else", refused(searches.held, 9, one._replace(searches=[(8, 12, 1, 1)])), ""
+    for what, lost, instead in [
+            ("a field less", "field 1 3 0 0 4 0 0\n", ""), ("no such element", "field 5", "field 8"), ("an offset of 17 bits", " 8 1 -1", " 65536 1 -1"),
+            ("a number less", " looked 1", " looked"), ("another line", "want 8", "wish 8"), ("no number", "fields 2", "fields")]:
+        yield f"a list of fields with {what}", refused(searches.list_of, 9, text.replace(lost, instead, 1)), ""
+
+
 # How the tools are called, and where
 
 @cases()
@@ -615,7 +640,8 @@ def wrong_calls():
             ("explain.py", [EXAMPLES]), ("kinds.py", []), ("kinds.py", ["--table"]), ("kinds.py", [name, name]), ("kinds.py", ["--tabel", name]),
             ("kinds.py", [os.path.join(ROOT, "none")]), ("kinds.py", [EXAMPLES]), ("parts.py", ["x"]), ("listings.py", ["x"]), ("vectors.py", ["x"]),
             ("corpus.py", ["x"]), ("corpus.py", ["none", "none"]), ("mutants.py", ["x"]), ("runs.py", ["x", "y"]), ("runs.py", ["none"]), ("speed.py", ["x"]),
-            ("tables.py", ["x", "y"]), ("tables.py", ["none"]), ("tables.py", [os.path.join(ROOT, "README.md")])]:
+            ("tables.py", ["x", "y"]), ("tables.py", ["none"]), ("tables.py", [os.path.join(ROOT, "README.md")]),
+            ("searches.py", ["x", "y"]), ("searches.py", ["none"]), ("searches.py", [os.path.join(ROOT, "README.md")])]:
         status, out, said = called(tool, *arguments)
         yield f"{tool} {' '.join(arguments)[:60]}", one_line(tool, status, out, said), f"{status} {out} {said}"
 
