@@ -6,6 +6,7 @@ use mathlib.Core.Logic.{⊎-elim}
 use native.Mathlib.Nat.{not-suc-le-zero, eq-or-lt-of-le, le-of-suc-le-suc}
 use native.Mathlib.Numerals.{add-one}
 use native.Mathlib.Omega.{arith}
+use Rattle.v8.proofs.Search.{neither-less}
 use Rattle.policy.specs.Element.{widthOf}
 use Rattle.policy.specs.Policy.{countOf, placeOf, fieldAt, fieldEnd}
 use Rattle.policy.specs.Laws.{WellFormed, InRegion, InOneField, HeldByOne}
@@ -30,9 +31,6 @@ module _ (p : Policy) (w : WellFormed p) (r : ℕ) (l : r < p .regions .count) w
 
 pub in-region : InRegion
 in-region p w r k b l m i = omega (arith, w .field r k l m .inside)
-
-neither-less : (k j : ℕ) → (k < j → ⊥) → (j < k → ⊥) → k ≡ j
-neither-less k j f g = omega arith
 
 pub in-one-field : InOneField
 in-one-field p w r k j b l m n x y =

@@ -4,7 +4,7 @@
 use Prim.Native.Nat.{ℕ, _+_, _*_, _-_, _≤_, _<_}
 use mathlib.Core.Path.{_≡_, refl, sym, ap, _∙_}
 use mathlib.Core.Logic.{_⊎_, inl, inr, ⊎-elim}
-use mathlib.Core.Bool.{Bool, true, false, cond, and-false, and-eq-true-iff, _&&_, _||_}
+use mathlib.Core.Bool.{Bool, true, false, true≢false, cond, and-false, and-eq-true-iff, _&&_, _||_}
 use native.Mathlib.Omega.{arith}
 use native.Mathlib.Nat.{eq-or-lt-of-le}
 use borrow.Author.Tests.{ltb-true, ltb-false, lt-ltb, le-ltb, le-leb}
@@ -12,19 +12,16 @@ use lib.Dec.{ltb}
 use lib.ListN.{getD}
 use Rattle.v8.proofs.Choice.{cond-went, cond-both}
 use Rattle.v8.specs.Search.{first}
-use Rattle.v8.proofs.Search.{first-from, first-passes, first-least, first-is, needed-le}
+use Rattle.v8.proofs.Search.{first-from, first-passes, first-least, first-is, neither-less, needed-le}
 use Rattle.policy.specs.Element.{widthOf}
 use Rattle.policy.specs.Policy.{countOf, placeOf, elementsEnd, fieldAt}
 use Rattle.policy.specs.Find.{holdsIn, stopOf, holderIn, endsAt, lastPlace, foundAt, findIn, lookedAt, findField, fieldHolding, fieldsLooked}
-use Rattle.policy.specs.Laws.{WellFormed, Holds, FoundHere, FoundHolds, NoneHolds, EndsEarly, Ends, UpToEnd, CountsLooked, FoundLast, Finds}
+use Rattle.policy.specs.Laws.{WellFormed, Holds, FoundHere, FoundHolds, NoneHolds, EndsEarly, Ends, UpToEnd, OneCount, CountsLooked, FoundLast, Finds}
 use Rattle.policy.specs.declared.Policy.{Policy}
 use Rattle.policy.specs.declared.Search.{Search}
 use Rattle.policy.specs.declared.Found.{Found}
 use Rattle.policy.specs.declared.Found.the-variants.{At, Nothing}
 use Rattle.policy.proofs.Bytes.{begins, before, held-by-one}
-
-differ : _≡_ {A = Bool} true false → ⊥
-differ z = let y : _≡_ {A = ℕ} 0 1 = cc in omega arith
 
 not-found : (i : ℕ) → _≡_ {A = Found} Nothing (At i) → ⊥
 not-found i z = let y : _≡_ {A = ℕ} 0 1 = cc in omega arith
@@ -40,7 +37,7 @@ not-less : (a b : ℕ) → (a < b → ⊥) → b ≤ a
 not-less a b f = omega arith
 
 neither : (a b : Bool) → a || b ≡ false → (a ≡ false) × (b ≡ false)
-neither true b e = absurd (differ e)
+neither true b e = absurd (true≢false e)
 neither false b e = (refl, e)
 
 either : (a b : Bool) → a || b ≡ true → (a ≡ true) ⊎ (b ≡ true)
@@ -86,7 +83,7 @@ module _ (p : Policy) (r low end : ℕ) where
   of-holds i h = rw (le-leb _ _ (h .0), le-leb _ _ (h .1))
 
   fails : (i : ℕ) → holdsAt i ≡ false → Holds (fieldAt p i) low end → ⊥
-  fails i e h = differ (sym (of-holds i h) ∙ e)
+  fails i e h = true≢false (sym (of-holds i h) ∙ e)
 
   place-from : 16 * r ≤ place
   place-from = first-from ends (16 * r) stop
@@ -172,7 +169,7 @@ module _ (p : Policy) (r low end : ℕ) where
         let from = place-from in
         let i : place ≡ 16 * r + (place - 16 * r) = omega arith in
         ⊎-elim
-        (λ t. differ (sym t ∙ e))
+        (λ t. true≢false (sym t ∙ e))
         (λ t. omega (arith, later (place - 16 * r) k (omega arith) m (rw (← i) (ltb-true low _ t)), h .0))
         (ended (omega (arith, in-stop k m)))
 
@@ -240,6 +237,14 @@ none-holds p w r k low end l m e h =
 
 pub ends-early : EndsEarly
 ends-early p w r low end l = early p r low end w l
+
+fewer : (p : Policy) (r low end n m : ℕ) → UpToEnd p r low end n → UpToEnd p r low end m → n < m → ⊥
+fewer p r low end n m u v l =
+    let few : n < countOf p r = omega (arith, v .most) in
+    v .passed (n - 1) (omega (arith, u .some few)) (u .last few)
+
+pub one-count : OneCount
+one-count p r low end n m u v = neither-less n m (fewer p r low end n m u v) (fewer p r low end m n v u)
 
 pub counts-looked : CountsLooked
 counts-looked p w r low end l = counts p r low end w l

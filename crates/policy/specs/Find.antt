@@ -1,7 +1,7 @@
 -- The search for the field of a region that holds some bytes (document 01, refusals 7 and 103: "inside one field"; document 02, request 3).
 -- It is stated over the policy's lists of numbers, since the machine lends those; `findField`, `fieldsLooked` and `fieldHolding` are the same of a
--- whole policy. Of fields that do not ascend, as some lists have them, the sentences are taken literally: the search may end before a field that holds
--- the bytes. No open call searches such fields: check, machine and `searchOf` refuse the policy first, with 20.
+-- whole policy. Where fields ascend, what the search finds is the lowest field that holds the bytes (law `EndsEarly`). Of lists in which they do not, the
+-- sentences are taken literally, and it may end before that field; no open call searches these: check, machine and `searchOf` refuse the policy with 20 first.
 use Prim.Native.Nat.{ℕ, _+_, _-_}
 use mathlib.Core.Bool.{Bool, cond, _&&_, _||_}
 use mathlib.Core.List.{List}

@@ -122,14 +122,18 @@ EndsEarly = (p : Policy) → WellFormed p → (r low end : ℕ) → r < p .regio
 abbrev pub Ends : Policy → ℕ → ℕ → ℕ → ℕ → Type 0
 Ends p r low end k = Holds (fieldAt p (placeOf r k)) low end ⊎ (low < fieldAt p (placeOf r k) .offset .0)
 
--- n fields of region r are those up to and with the first at which the search ends, or all if there is none; no other number is so
+-- n fields of region r are those up to and with the first at which the search ends, or all if there is none
 pub record UpToEnd (p : Policy) (r low end n : ℕ) : Type 0 where
   pub most : n ≤ countOf p r
   pub passed : (k : ℕ) → k + 1 < n → Ends p r low end k → ⊥
   pub some : n < countOf p r → 1 ≤ n
   pub last : n < countOf p r → Ends p r low end (n - 1)
 
--- The search counts the fields up to its end.
+-- No two numbers are so ..
+abbrev pub OneCount : Type 0
+OneCount = (p : Policy) (r low end n m : ℕ) → UpToEnd p r low end n → UpToEnd p r low end m → n ≡ m
+
+-- .. and what the search counts is.
 abbrev pub CountsLooked : Type 0
 CountsLooked = (p : Policy) → WellFormed p → (r low end : ℕ) → r < p .regions .count → UpToEnd p r low end (fieldsLooked p r low end)
 

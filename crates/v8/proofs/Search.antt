@@ -3,7 +3,7 @@
 use Prim.Native.Nat.{ℕ, zero, suc, _+_, _-_, _≤_, _<_}
 use mathlib.Core.Path.{_≡_, refl, sym, ap, _∙_}
 use mathlib.Core.Logic.{⊎-elim}
-use mathlib.Core.Bool.{Bool, true, false, cond, _&&_}
+use mathlib.Core.Bool.{Bool, true, false, true≢false, cond, _&&_}
 use native.Mathlib.Nat.{not-suc-le-zero, eq-or-lt-of-le, le-of-suc-le-suc}
 use native.Mathlib.Numerals.{add-one}
 use native.Mathlib.Omega.{arith}
@@ -36,10 +36,8 @@ pub and-false : (a b : Bool) → b ≡ false → a && b ≡ false
 and-false true b e = e
 and-false false b e = refl
 
-differ : true ≡ false → ⊥
-differ z = let y : _≡_ {A = ℕ} 0 1 = cc in omega arith
-
-neither-less : (k j : ℕ) → (k < j → ⊥) → (j < k → ⊥) → k ≡ j
+-- two numbers, neither of which is less
+pub neither-less : (k j : ℕ) → (k < j → ⊥) → (j < k → ⊥) → k ≡ j
 neither-less k j f g = omega arith
 
 module _ (f : ℕ → Bool) where
@@ -137,5 +135,5 @@ module _ (f : ℕ → Bool) where
   pub first-is : (i n j : ℕ) → i ≤ j → j < n → f j ≡ true → ((k : ℕ) → i ≤ k → k < j → f k ≡ false) → first f i n ≡ j
   first-is i n j a b t h =
       neither-less (first f i n) j
-      (λ l. differ (sym (first-passes i n (omega arith)) ∙ h (first f i n) (first-from i n) l))
-      (λ l. differ (sym t ∙ first-least i n j a l))
+      (λ l. true≢false (sym (first-passes i n (omega arith)) ∙ h (first f i n) (first-from i n) l))
+      (λ l. true≢false (sym t ∙ first-least i n j a l))
