@@ -1,8 +1,6 @@
 -- Searches, and refusals (document 02, request 3). The wanted bytes are those from the first number up to the second, which is not among them.
 use Prim.Native.Nat.{ℕ}
 use mathlib.Core.List.{List, [], _∷_}
-use lib.ListN.{replicate}
-use Rattle.v8.specs.Signed.{bias}
 use Rattle.policy.specs.declared.Policy.{Policy}
 use Rattle.policy.specs.Build.{emptyPolicy, withRegion, withField}
 use Rattle.trials.specs.Policies.{zeros, uniform, bytewise}

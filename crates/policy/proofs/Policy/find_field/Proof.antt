@@ -1,6 +1,6 @@
 -- In a policy that obeys the rules ending early loses nothing (`ends-early`), so that what is found is the lowest field that holds the bytes.
 use Prim.Native.Nat.{ℕ}
-use mathlib.Core.Path.{_≡_, refl, ap, _∙_}
+use mathlib.Core.Path.{_≡_, ap}
 use mathlib.Core.Bool.{Bool, true, false, _&&_, and-eq-true-iff}
 use lib.Dec.{ltb}
 use borrow.Author.Tests.{ltb-true}
@@ -11,7 +11,7 @@ use Rattle.policy.specs.declared.FieldSearch.{FieldSearch}
 use Rattle.policy.specs.declared.Found.{Found}
 use Rattle.policy.specs.declared.Found.the-variants.{Nothing}
 use Rattle.policy.specs.Policy.{policyOk}
-use Rattle.policy.specs.Find.{searchIn, findField, fieldHolding, fieldsLooked, searchOf}
+use Rattle.policy.specs.Find.{findField, fieldHolding, fieldsLooked, searchOf}
 use Rattle.policy.proofs.WellFormed.{obeys}
 use Rattle.policy.proofs.FoundField.{ends-early}
 use Rattle.policy.proofs.Policy.find_field.Statement.{statement}

@@ -3,8 +3,8 @@
 use Prim.Native.Nat.{ℕ, _+_, _*_, _-_, _≤_, _<_}
 use mathlib.Core.Logic.{⊎-elim}
 use mathlib.Core.List.{List}
-use mathlib.Core.Bool.{Bool, true, false, cond, and-false, or-true}
-use mathlib.Core.Path.{_≡_, refl, sym, ap, _∙_}
+use mathlib.Core.Bool.{Bool, true, cond}
+use mathlib.Core.Path.{_≡_, refl, sym, _∙_}
 use native.Mathlib.Omega.{arith}
 use borrow.Author.Tests.{lt-ltb, le-ltb, le-leb, lt-leb}
 use borrow.Author.Needs.{needs}
@@ -12,8 +12,6 @@ use lib.ListN.{getD}
 use Rattle.v8.specs.Search.{first}
 use Rattle.v8.proofs.Search.{first-here, first-next, first-end}
 use Rattle.policy.specs.Policy.{elementsEnd}
-use Rattle.policy.specs.declared.Search.{Search}
-use Rattle.policy.specs.declared.Found.{Found}
 use Rattle.policy.specs.declared.Found.the-variants.{At, Nothing}
 use Rattle.policy.specs.Find.{holdsIn, endsAt, stopOf, lastPlace, findIn, lookedAt, searchIn}
 use Rattle.policy.proofs.find.find_in.Statement.{statement}
