@@ -3,14 +3,14 @@
 -- the search holds the bytes, and one field at most does: a field that holds them is the one found.
 use Prim.Native.Nat.{ℕ, _+_, _*_, _-_, _≤_, _<_}
 use mathlib.Core.Path.{_≡_, refl, sym, ap, _∙_}
-use mathlib.Core.Logic.{_⊎_, inl, inr, ⊎-elim}
-use mathlib.Core.Bool.{Bool, true, false, true≢false, cond, and-false, and-eq-true-iff, _&&_, _||_}
+use mathlib.Core.Logic.{inl, inr, ⊎-elim}
+use mathlib.Core.Bool.{Bool, true, false, true≢false, cond, and-false, and-eq-true-iff, _&&_}
 use native.Mathlib.Omega.{arith}
 use native.Mathlib.Nat.{eq-or-lt-of-le}
 use borrow.Author.Tests.{ltb-true, ltb-false, lt-ltb, le-leb}
 use lib.Dec.{ltb}
 use lib.ListN.{getD}
-use Rattle.v8.proofs.Choice.{cond-went, cond-both}
+use Rattle.v8.proofs.Choice.{cond-went, cond-both, or-went, or-failed}
 use Rattle.v8.specs.Search.{first}
 use Rattle.v8.proofs.Search.{first-from, first-passes, first-least, first-is, neither-less, needed-le}
 use Rattle.policy.specs.Element.{widthOf}
@@ -35,14 +35,6 @@ is-found e = ap (λ (x : Search). x .found) e
 
 not-less : (a b : ℕ) → (a < b → ⊥) → b ≤ a
 not-less a b f = omega arith
-
-neither : (a b : Bool) → a || b ≡ false → (a ≡ false) × (b ≡ false)
-neither true b e = absurd (true≢false e)
-neither false b e = (refl, e)
-
-either : (a b : Bool) → a || b ≡ true → (a ≡ true) ⊎ (b ≡ true)
-either true b e = inl refl
-either false b e = inr e
 
 -- where the search in region r stops: after its fields, of which 16 at most are looked at
 record Stop (n r stop : ℕ) : Type 0 where
@@ -90,11 +82,11 @@ module _ (p : Policy) (r low end : ℕ) where
 
   -- the search passed by a field: it does not hold the bytes, and does not begin past them
   passed : (i : ℕ) → 16 * r ≤ i → i < place → (holdsAt i ≡ false) × (ltb low (getD (p .fields .offsets) i 0) ≡ false)
-  passed i a b = neither (holdsAt i) (ltb low (getD (p .fields .offsets) i 0)) (first-least ends (16 * r) stop i a b)
+  passed i a b = or-failed (holdsAt i) (ltb low (getD (p .fields .offsets) i 0)) (first-least ends (16 * r) stop i a b)
 
   -- the search ended at a field
-  ended : place < stop → (holdsAt place ≡ true) ⊎ (ltb low (getD (p .fields .offsets) place 0) ≡ true)
-  ended l = either _ _ (first-passes ends (16 * r) stop l)
+  ended : {C : Type 0} → place < stop → (holdsAt place ≡ true → C) → (ltb low (getD (p .fields .offsets) place 0) ≡ true → C) → C
+  ended l = or-went (holdsAt place) (ltb low (getD (p .fields .offsets) place 0)) (first-passes ends (16 * r) stop l)
 
   -- .. and that one holds the bytes
   here : r < 8 → place < stop → holdsAt place ≡ true → FoundHere p r low end place
@@ -122,7 +114,7 @@ module _ (p : Policy) (r low end : ℕ) where
   unfolding fieldAt
   is-end l =
       let e : place ≡ 16 * r + (place - 16 * r) = omega (arith, place-from) in
-      rw (← e) (⊎-elim (λ h. inl (holds-of place h)) (λ h. inr (ltb-true low _ h)) (ended l))
+      rw (← e) (ended l (λ h. inl (holds-of place h)) (λ h. inr (ltb-true low _ h)))
 
   -- what is found is where the search ended
   record FoundEnd (i : ℕ) : Type 0 where
@@ -168,10 +160,9 @@ module _ (p : Policy) (r low end : ℕ) where
     past k m a e h =
         let from = place-from in
         let i : place ≡ 16 * r + (place - 16 * r) = omega arith in
-        ⊎-elim
+        ended (omega (arith, in-stop k m))
         (λ t. true≢false (sym t ∙ e))
         (λ t. omega (arith, later (place - 16 * r) k (omega arith) m (rw (← i) (ltb-true low _ t)), h .0))
-        (ended (omega (arith, in-stop k m)))
 
     -- the search ended at such a field, or at none: no field holds the bytes
     none : (k : ℕ) → k < countOf p r → ltb place stop && holdsAt place ≡ false → Holds (fieldAt p (placeOf r k)) low end → ⊥

@@ -1,14 +1,10 @@
--- What tests that passed say: which of two did, and that both did; and that an entry has one kind.
+-- What tests that passed say: that both of two did, or one; and that an entry has one kind.
 use Prim.Native.Nat.{ℕ}
 use mathlib.Core.Path.{_≡_, refl, sym, _∙_}
 use mathlib.Core.Bool.{Bool, true, false, _&&_, _||_}
 use native.Mathlib.Omega.{arith}
 use lib.Dec.{eqb}
 use borrow.Author.Tests.{eqb-true, ne-eqb}
-
-pub or-went : {C : Type 0} (a b : Bool) → a || b ≡ true → (a ≡ true → C) → (b ≡ true → C) → C
-or-went true b e f g = f refl
-or-went false b e f g = g e
 
 pub false-true : {C : Type 0} → false ≡ true → C
 false-true e = let z : _≡_ {A = ℕ} 0 1 = cc in absurd (omega arith)

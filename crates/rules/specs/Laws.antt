@@ -1,11 +1,12 @@
 -- What the running guarantee rests on: what registers, codes and accesses hold that match a row, they hold of what the rules make of it. (The
 -- laws speak of V8's results and codes, `alu`'s, and of the regions as the host has laid them.) The proofs are in proofs/.
-use Prim.Native.Nat.{ℕ, _+_, _%_, _≤_, _<_}
+use Prim.Native.Nat.{ℕ, _+_, _-_, _%_, _≤_, _<_}
 use mathlib.Core.Path.{_≡_}
 use mathlib.Core.Logic.{_⊎_}
 use mathlib.Core.Bool.{true}
 use mathlib.Core.List.{List}
 use lib.ListN.{getD}
+use Rattle.v8.specs.Signed.{bias}
 use Rattle.v8.specs.declared.AluOp.{AluOp}
 use Rattle.v8.specs.declared.ShiftOp.{ShiftOp}
 use Rattle.v8.specs.declared.Access.{Access}
@@ -14,8 +15,10 @@ use Rattle.alu.specs.Codes.{codesOf}
 use Rattle.alu.specs.Condition.{condHolds, conditionOf}
 use Rattle.policy.specs.declared.Policy.{Policy}
 use Rattle.policy.specs.Policy.{sizeOf, countOf, placeOf, fieldAt, fieldEnd}
+use Rattle.policy.specs.Find.{fieldHolding}
 use Rattle.policy.specs.Laws.{WellFormed}
 use Rattle.access.specs.Serve.{accessWidth, serves, allows}
+use Rattle.sets.specs.declared.NumberSet.{NumberSet}
 use Rattle.rows.specs.declared.Entry.{Entry}
 use Rattle.rows.specs.declared.Note.{Note}
 use Rattle.rows.specs.declared.Row.{Row}
@@ -26,7 +29,7 @@ use Rattle.rules.specs.declared.Result.{Result}
 use Rattle.rules.specs.declared.Result.the-variants.{Gives, Fails}
 use Rattle.rules.specs.declared.Reach.the-variants.{Inside}
 use Rattle.rules.specs.Result.{aluResult, shiftResult}
-use Rattle.rules.specs.Reach.{reachOf}
+use Rattle.rules.specs.Reach.{reachEnd, inFound, inRegion, reachOf}
 use Rattle.rules.specs.Change.{noteAfter, codesNote}
 use Rattle.rules.specs.Narrow.{RowLeft, left, nothing, narrowRow}
 
@@ -111,6 +114,13 @@ Reaches =
     (p : Policy) (h : Host) → WellFormed p → Laid (p .regions .count) (p .regions .sizes) h
     → (a : Access) (rs1 rs2 : ℕ) (d e : Entry) (x y place : ℕ) → EntryRules (p .regions .count) (p .regions .sizes) d → EntryRules (p .regions .count) (p .regions .sizes) e
     → x < 4294967296 → y < 4294967296 → Holds h d x → Holds h e y → reachOf (p .regions .fields) (p .fields) a rs1 d rs2 e ≡ Inside place → Reached p h a x y place
+
+-- 7 and what comes after it are of the lowest field of the region that holds the bytes, though the search ends early (document 02, request 3: "No outcome
+-- changes"). The machine's locating is told exactly by `access`' laws.
+abbrev pub ReachesHolder : Type 0
+ReachesHolder =
+    (p : Policy) → WellFormed p → (a : Access) (rs1 r : ℕ) (s : NumberSet) → r < p .regions .count → bias ≤ s .lo
+    → inRegion (p .regions .fields) (p .fields) a rs1 r s ≡ inFound (p .fields) a rs1 s (fieldHolding p r (s .lo - bias) (reachEnd s (accessWidth a)))
 
 -- Narrowing by a condition that holds never drops what is there.
 abbrev pub NarrowsRow : Type 0
