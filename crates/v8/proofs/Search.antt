@@ -3,13 +3,13 @@
 use Prim.Native.Nat.{ℕ, zero, suc, _+_, _-_, _≤_, _<_}
 use mathlib.Core.Path.{_≡_, refl, sym, ap, _∙_}
 use mathlib.Core.Logic.{⊎-elim}
-use mathlib.Core.Bool.{Bool, true, false, true≢false, cond, _&&_}
+use mathlib.Core.Bool.{Bool, true, false, true≢false, cond, _&&_, _||_, or-true}
 use native.Mathlib.Nat.{not-suc-le-zero, eq-or-lt-of-le, le-of-suc-le-suc}
 use native.Mathlib.Numerals.{add-one}
 use native.Mathlib.Omega.{arith}
 use borrow.Author.Tests.{leb-true, ltb-true, eqb-true}
 use lib.Dec.{leb, ltb, eqb}
-use Rattle.v8.specs.Search.{all, lowest, first}
+use Rattle.v8.specs.Search.{all, any, lowest, first}
 use Rattle.v8.proofs.Choice.{cond-both}
 
 -- what passed has passed each test without which it fails
@@ -73,6 +73,25 @@ module _ (f : ℕ → Bool) where
   all-not (suc n) i l e = ⊎-elim
       (λ (p : i ≡ n). and-false (all f n) (f n) (ap f (sym p) ∙ e))
       (λ (q : i < n). rw (all-not n i q e))
+      (eq-or-lt-of-le (le-of-suc-le-suc l))
+
+  -- none of the numbers below 0 passes
+  pub any-none : any f 0 ≡ false
+  unfolding any
+  any-none = refl
+
+  -- one number more
+  pub any-more : (i : ℕ) → any f (i + 1) ≡ any f i || f i
+  unfolding any
+  any-more i = rw add-one
+
+  -- one number that passes is some number
+  pub any-at : (n i : ℕ) → i < n → f i ≡ true → any f n ≡ true
+  unfolding any
+  any-at zero i l e = absurd (not-suc-le-zero l)
+  any-at (suc n) i l e = ⊎-elim
+      (λ (p : i ≡ n). rw (ap f (sym p) ∙ e, or-true))
+      (λ (q : i < n). rw (any-at n i q e))
       (eq-or-lt-of-le (le-of-suc-le-suc l))
 
   rest : (i n : ℕ) → i < n → n - i ≡ suc (n - (i + 1))
