@@ -1,36 +1,56 @@
--- The words are marked one by one: after i of them the array has, at every index below i, whether the word there is examined. Word 0 is, and
--- another one is if the word before it is no transfer.
+-- The words are marked in two rounds. In the first, by the word before it, whether a word is outside slots: after i of them the array tells it at
+-- every index below i. In the second each word marks the one that its taken edge lands on: after i of them the array has, at every word, whether it
+-- is outside slots or one of those i lands on it; after all, whether it is examined.
 use Prim.Native.Nat.{ℕ, _+_, _-_, _<_, _≤_}
 use mathlib.Core.Path.{_≡_, refl, sym, ap, _∙_}
-use mathlib.Core.Bool.{Bool, true, false, not}
+use mathlib.Core.Bool.{Bool, true, false, not, _&&_, _||_, or-true, or-false}
 use mathlib.Core.List.{List, _∷_}
 use native.Mathlib.Omega.{arith}
 use lib.Dec.{eqb}
-use lib.ListN.{length, getD, set}
+use lib.ListN.{length, getD, set, length-set}
 use lib.Seq.{getD-set-same, getD-set-other}
-use borrow.Author.Tests.{eqb-true, eqb-false, ne-eqb}
+use borrow.Author.Tests.{eqb-true, eqb-false, ne-eqb, eq-eqb}
+use Rattle.v8.specs.Search.{any}
+use Rattle.v8.specs.Numbers.{mostWords}
+use Rattle.v8.specs.declared.Instruction.{Instruction}
 use Rattle.v8.specs.declared.Reading.{Reading}
-use Rattle.flow.specs.Readings.{readingsOf, readingAt, transfers, isSlot, examined}
+use Rattle.v8.specs.declared.Reading.the-variants.{Read}
+use Rattle.v8.proofs.Search.{any-none, any-more, any-at}
+use Rattle.flow.specs.Readings.{readingsOf, readingAt, transfers, landsOn, isSlot, isTarget, examined, Outside, Examines, Adds}
+use Rattle.flow.proofs.Fetched.{read-count}
+
+module _ (readings : List Reading) where
+  -- a word that is no slot is examined
+  pub free-examined : (w : ℕ) → isSlot readings w ≡ false → examined readings w ≡ true
+  free-examined w e = rw e
+
+  -- so is one that a taken edge lands on
+  pub target-examined : (v w : ℕ) → v < length readings → landsOn v (readingAt readings v) w ≡ true → examined readings w ≡ true
+  unfolding isTarget
+  target-examined v w l e = rw (any-at (λ u. landsOn u (readingAt readings u) w) (length readings) v l e, or-true)
+
+  -- word 0 is no slot
+  pub first-free : isSlot readings 0 ≡ false
+  unfolding isSlot
+  first-free = refl
+
+  pub first-examined : examined readings 0 ≡ true
+  first-examined = free-examined 0 first-free
+
+  -- a word follows a transfer exactly if it is a slot
+  pub slot-next : (w : ℕ) → isSlot readings (w + 1) ≡ transfers (readingAt readings w)
+  unfolding isSlot
+  slot-next w = rw (ne-eqb (w + 1) 0 (more w), back w)
+    where
+      more : (w : ℕ) → w + 1 ≡ 0 → ⊥
+      more w e = omega arith
+
+      back : (w : ℕ) → w + 1 - 1 ≡ w
+      back w = omega arith
 
 -- the first i words are marked
 abbrev pub Marked : List ℕ → List Bool → ℕ → Type 0
-Marked words marks i = (w : ℕ) → w < i → getD marks w false ≡ examined (readingsOf words) w
-
--- word 0 is no slot
-pub first-examined : (readings : List Reading) → examined readings 0 ≡ true
-unfolding isSlot
-first-examined readings = refl
-
--- a word follows a transfer exactly if it is a slot
-pub slot-next : (readings : List Reading) (w : ℕ) → isSlot readings (w + 1) ≡ transfers (readingAt readings w)
-unfolding isSlot
-slot-next readings w = rw (ne-eqb (w + 1) 0 (more w), back w)
-  where
-    more : (w : ℕ) → w + 1 ≡ 0 → ⊥
-    more w e = omega arith
-
-    back : (w : ℕ) → w + 1 - 1 ≡ w
-    back w = omega arith
+Marked words marks i = (w : ℕ) → w < i → getD marks w false ≡ not (isSlot (readingsOf words) w)
 
 pub first-marked : (words : List ℕ) (marks : List Bool) → Marked words (true ∷ marks) 1
 unfolding isSlot
@@ -49,6 +69,55 @@ one-marked words marks i t f h l e w b = here (eqb w i) refl
     slot : isSlot (readingsOf words) i ≡ t
     slot = ap (isSlot (readingsOf words)) (on i l) ∙ slot-next (readingsOf words) (i - 1) ∙ sym e
 
-    here : (u : Bool) → eqb w i ≡ u → getD (set marks i (not t)) w false ≡ examined (readingsOf words) w
+    here : (u : Bool) → eqb w i ≡ u → getD (set marks i (not t)) w false ≡ not (isSlot (readingsOf words) w)
     here true q = rw (eqb-true w i q, slot) (getD-set-same marks i (not t) false h)
     here false q = getD-set-other marks i w (not t) false (eqb-false w i q) ∙ f w (omega (arith, eqb-false w i q))
+
+-- nothing is added
+pub adds-none : (marks : List Bool) (f : ℕ → Bool) → ((w : ℕ) → w < length marks → f w ≡ false) → Adds marks marks f
+adds-none marks f h = record { long = refl; each = λ w l. rw (h w l, or-false) }
+
+-- one mark is added
+pub adds-one : (marks : List Bool) (i : ℕ) → i < length marks → Adds marks (set marks i true) (eqb i)
+adds-one marks i l = record { long = length-set marks i true; each = λ w b. here w (eqb w i) refl }
+  where
+    here : (w : ℕ) (u : Bool) → eqb w i ≡ u → getD (set marks i true) w false ≡ getD marks w false || eqb i w
+    here w true q = rw (eqb-true w i q, eq-eqb i i refl, or-true) (getD-set-same marks i true false l)
+    here w false q =
+        rw (ne-eqb i w (λ e. eqb-false w i q (sym e)), or-false) (getD-set-other marks i w true false (eqb-false w i q))
+
+-- a test that passes where another does adds the same
+pub adds-as : (marks after : List Bool) (f g : ℕ → Bool) → Adds marks after f → ((w : ℕ) → f w ≡ g w) → Adds marks after g
+adds-as marks after f g a h = record { long = a .long; each = λ w l. a .each w l ∙ ap (λ (b : Bool). getD marks w false || b) (h w) }
+
+-- one number more passes, or something else does
+more : (free : Bool) (f : ℕ → Bool) (i : ℕ) → (free || any f i) || f i ≡ free || any f (i + 1)
+more true f i = refl
+more false f i = sym (any-more f i)
+
+module _ (words : List ℕ) where
+  -- which words land on word w
+  abbrev lands : ℕ → ℕ → Bool
+  lands w v = landsOn v (readingAt (readingsOf words) v) w
+
+  -- the taken edges of the first i words are marked
+  abbrev pub Targeted : List Bool → ℕ → Type 0
+  Targeted marks i = (w : ℕ) → w < length words → getD marks w false ≡ not (isSlot (readingsOf words) w) || any (lands w) i
+
+  pub none-targeted : (marks : List Bool) → Outside marks words → Targeted marks 0
+  none-targeted marks o w l = rw (any-none (lands w), or-false) (o w l)
+
+  pub one-targeted : (marks after : List Bool) (i : ℕ) (x : Reading) → Targeted marks i → length words ≤ length marks → x ≡ readingAt (readingsOf words) i
+      → Adds marks after (landsOn i x) → Targeted after (i + 1)
+  one-targeted marks after i x t long e a w l =
+      a .each w (omega (arith, l, long))
+      ∙ ap (λ (b : Bool). b || landsOn i x w) (t w l)
+      ∙ ap (λ (y : Reading). (free || any (lands w) i) || landsOn i y w) e
+      ∙ more free (lands w) i
+    where
+      free : Bool
+      free = not (isSlot (readingsOf words) w)
+
+  pub all-targeted : (marks : List Bool) (i : ℕ) → Targeted marks i → i ≡ length words → Examines marks words
+  unfolding isTarget
+  all-targeted marks i t e w l = t w l ∙ rw (e, read-count words)

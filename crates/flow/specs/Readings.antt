@@ -1,15 +1,19 @@
--- The words of a routine as they are read, and which of them are slots.
+-- The words of a routine as they are read, which of them are slots, which a taken edge lands on, and which are examined as ordinary words.
 use Prim.Native.Nat.{ℕ, _-_, _<_}
 use mathlib.Core.Path.{_≡_}
-use mathlib.Core.Bool.{Bool, false, cond, not}
+use mathlib.Core.Bool.{Bool, true, false, cond, not, _&&_, _||_}
 use mathlib.Core.List.{List, map}
 use lib.Dec.{eqb}
 use lib.ListN.{getD, length}
 use Rattle.v8.specs.Numbers.{notRead, mostWords}
+use Rattle.v8.specs.Search.{any}
 use Rattle.v8.specs.Read.{readingOf}
 use Rattle.v8.specs.declared.Reading.{Reading}
 use Rattle.v8.specs.declared.Reading.the-variants.{Read, Unread}
+use Rattle.flow.specs.declared.Destination.{Destination}
+use Rattle.flow.specs.declared.Destination.the-variants.{To, Caller}
 use Rattle.flow.specs.Transfer.{isTransfer}
+use Rattle.flow.specs.Edge.{edgeOf}
 
 -- the words as they are read
 abbrev pub readingsOf : List ℕ → List Reading
@@ -24,19 +28,42 @@ abbrev pub transfers : Reading → Bool
 transfers (Read x) = isTransfer x
 transfers (Unread n) = false
 
+-- an edge ends at word w
+abbrev pub endsAt : Destination → ℕ → Bool
+endsAt (To i) w = eqb (i .0) w
+endsAt Caller w = false
+
+-- the taken edge of word v, if it has one, lands on word w
+abbrev pub landsOn : ℕ → Reading → ℕ → Bool
+landsOn v (Read x) w = edgeOf v x true .exists && endsAt (edgeOf v x true .to) w
+landsOn v (Unread n) w = false
+
 module _ (readings : List Reading) where
   -- "The word after a Bicc or return is its slot."
   unfoldable pub isSlot : ℕ → Bool
   isSlot w = cond (eqb w 0) false (transfers (readingAt readings (w - 1)))
 
-  -- looked at as an ordinary word: "each word outside slots"
-  abbrev pub examined : ℕ → Bool
-  examined w = not (isSlot w)
+  -- request 4: a word "that a taken edge lands on", by the words alone, whether or not they are reached
+  unfoldable pub isTarget : ℕ → Bool
+  isTarget w = any (λ v. landsOn v (readingAt readings v) w) (length readings)
 
--- The code keeps both in arrays that are filled once. An array has at every index what the word there is read as ..
+  -- examined as an ordinary word: "each word outside slots"; request 4: "A slot that a taken edge lands on is also examined as an ordinary word"
+  abbrev pub examined : ℕ → Bool
+  examined w = not (isSlot w) || isTarget w
+
+-- The code keeps these in arrays that are filled once. An array has at every index what the word there is read as ..
 abbrev pub Reads : List Reading → List ℕ → Type 0
 Reads readings words = (length readings ≡ mostWords) × ((w : ℕ) → readingAt readings w ≡ readingAt (readingsOf words) w)
 
--- .. and one has at the index of every word whether it is examined
+-- .. one has at the index of every word whether it is outside slots ..
+abbrev pub Outside : List Bool → List ℕ → Type 0
+Outside marks words = (w : ℕ) → w < length words → getD marks w false ≡ not (isSlot (readingsOf words) w)
+
+-- .. and one whether it is examined
 abbrev pub Examines : List Bool → List ℕ → Type 0
 Examines marks words = (w : ℕ) → w < length words → getD marks w false ≡ examined (readingsOf words) w
+
+-- Marks are added to an array, wherever a test passes; those that it has stay.
+pub record Adds (before after : List Bool) (f : ℕ → Bool) : Type 0 where
+  pub long : length after ≡ length before
+  pub each : (w : ℕ) → w < length before → getD after w false ≡ getD before w false || f w

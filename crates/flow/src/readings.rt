@@ -1,11 +1,16 @@
 // The words of a routine as they are read, and which of them are examined (specs/Readings.antt).
 ghost use mathlib.Core.Path.{_≡_};
-ghost use Prim.Native.Nat.{_≤_};
+ghost use mathlib.Core.Bool.{_&&_};
+ghost use Prim.Native.Nat.{_<_, _≤_};
 ghost use lib.ListN.{length};
 ghost use Rattle.v8.specs.Numbers.{mostWords};
-ghost use Rattle.flow.specs.Readings.{transfers, Reads, Examines};
+ghost use Rattle.flow.specs.Readings.{transfers, endsAt, landsOn, Reads, Outside, Examines, Adds};
+use crate::Destination;
+use crate::Edge;
+use crate::edges::edge_of;
 use crate::transfer::is_transfer;
 use v8::Reading;
+use v8::WordIndex;
 use v8::numbers::MOST_WORDS;
 use v8::numbers::NOT_READ;
 use v8::read_word;
@@ -27,7 +32,7 @@ pub fn read_all(words: &[u32]) -> [Reading; MOST_WORDS]
 }
 
 // Whether a word is read as a transfer: a branch or the return.
-fn transfers(x: Reading) -> bool
+pub fn transfers(x: Reading) -> bool
     ensures { λ r. ⌜ r ≡ transfers x ⌝ }
 {
     match x {
@@ -36,16 +41,63 @@ fn transfers(x: Reading) -> bool
     }
 }
 
-// Which words are looked at as ordinary ones: each that does not follow a transfer.
-pub fn examine_all(words: &[u32], readings: [Reading; MOST_WORDS]) -> [bool; MOST_WORDS]
+// Which words are no slots: each that does not follow a transfer.
+fn outside_slots(words: &[u32], readings: [Reading; MOST_WORDS]) -> [bool; MOST_WORDS]
     requires { ⌜ (length (now words) ≤ mostWords) × Reads readings (now words) ⌝ }
-    ensures { λ r. ⌜ Examines r (now (words .entry)) ⌝ }
+    ensures { λ r. ⌜ (length r ≡ mostWords) × Outside r (now (words .entry)) ⌝ }
 {
     let mut marks = [true; MOST_WORDS];
     let mut i: usize = 1;
     while i < words.len() {
         let x = readings[i - 1];
         marks[i] = !transfers(x);
+        i += 1;
+    }
+    marks
+}
+
+// Marks the word where an edge ends, if there is an edge and it ends at a word.
+fn mark_end(marks: &mut [bool; MOST_WORDS], e: Edge)
+    requires { ⌜ length (now marks) ≡ mostWords ⌝ }
+    ensures { λ _. ⌜ Adds (now (marks .entry)) (now (marks .exit)) (λ w. e .exists && endsAt (e .to) w) ⌝ }
+{
+    if !e.exists {
+        return;
+    }
+    let to = e.to;
+    match to {
+        Destination::To(w) => {
+            let i = w.0 as usize;
+            if i < MOST_WORDS {
+                marks[i] = true;
+            }
+        }
+        Destination::Caller => {}
+    }
+}
+
+// Marks the word that the taken edge of a word, read as x, lands on.
+fn mark_target(marks: &mut [bool; MOST_WORDS], at: WordIndex, x: Reading)
+    requires { ⌜ (length (now marks) ≡ mostWords) × (at .0 < mostWords) ⌝ }
+    ensures { λ _. ⌜ Adds (now (marks .entry)) (now (marks .exit)) (landsOn (at .0) x) ⌝ }
+{
+    match x {
+        Reading::Read(instruction) => mark_end(marks, edge_of(at, instruction, true)),
+        Reading::Unread(_) => {}
+    }
+}
+
+// Which words are examined as ordinary ones: those that are no slots, and those that a taken edge
+// lands on.
+pub fn examine_all(words: &[u32], readings: [Reading; MOST_WORDS]) -> [bool; MOST_WORDS]
+    requires { ⌜ (length (now words) ≤ mostWords) × Reads readings (now words) ⌝ }
+    ensures { λ r. ⌜ Examines r (now (words .entry)) ⌝ }
+{
+    let mut marks = outside_slots(words, readings);
+    let mut i: usize = 0;
+    while i < words.len() {
+        let x = readings[i];
+        mark_target(&mut marks, WordIndex(i as u32), x);
         i += 1;
     }
     marks

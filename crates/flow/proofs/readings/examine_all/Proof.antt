@@ -1,31 +1,29 @@
--- The words are marked one by one, each by the word before it (Examined).
-use Prim.Native.Nat.{_≤_, _<_, _-_}
-use mathlib.Core.Path.{_≡_, refl, ap, _∙_}
-use mathlib.Core.Bool.{true}
+-- The words outside slots are marked, and then, word by word, those that a taken edge lands on (Examined).
+use Prim.Native.Nat.{_≤_, _-_}
+use mathlib.Core.Path.{_≡_, _∙_}
 use native.Mathlib.Omega.{arith}
-use lib.ListN.{length, replicate, length-set}
+use lib.ListN.{length}
 use borrow.Author.Needs.{needs}
 use Rattle.v8.specs.Numbers.{mostWords}
 use Rattle.v8.specs.declared.Operation.the-variants.{Sethi}
 use Rattle.v8.specs.declared.Instruction.the-variants.{Plain}
 use Rattle.v8.specs.declared.Reading.the-variants.{Read}
-use Rattle.flow.specs.Readings.{transfers}
 use Rattle.flow.proofs.Fetched.{array-has}
-use Rattle.flow.proofs.Examined.{Marked, first-marked, one-marked}
+use Rattle.flow.proofs.Examined.{Targeted, none-targeted, one-targeted, all-targeted}
 use Rattle.flow.proofs.readings.examine_all.Statement.{statement}
 use Rattle.flow.proofs.readings.examine_all.Tie as tie
 
 abbrev Inv-loop : tie.InvT-loop
-Inv-loop words readings marks₀ i₀ marks i = (1 ≤ i) × (length marks ≡ mostWords) × Marked words marks i
+Inv-loop words readings marks₀ i₀ marks i = (i ≤ length words) × (length marks ≡ mostWords) × Targeted words marks i
 
 abbrev μ-loop : tie.MeasureT-loop
 μ-loop words readings marks₀ i₀ marks i = length words - i
 
-loop-holds : tie.Need-loop-holds Inv-loop μ-loop
-loop-holds c = (omega arith, refl, first-marked (c .before .args .words .now) (replicate 127 true))
+outside-slots-requires : tie.Need-outside-slots-requires Inv-loop μ-loop
+outside-slots-requires c κs = search needs
 
-sub-x : tie.Need-sub-x Inv-loop μ-loop
-sub-x c = search needs
+loop-holds : tie.Need-loop-holds Inv-loop μ-loop
+loop-holds c = (omega arith, c .outside-slots .ensures .0, none-targeted (c .before .before .args .words .now) (c .outside-slots .result) (c .outside-slots .ensures .1))
 
 mul-x : tie.Need-mul-x Inv-loop μ-loop
 mul-x c = search needs
@@ -33,11 +31,11 @@ mul-x c = search needs
 array-copy-out-x : tie.Need-array-copy-out-x Inv-loop μ-loop
 array-copy-out-x c = search needs
 
-transfers-requires : tie.Need-transfers-requires Inv-loop μ-loop
-transfers-requires c κs = search needs
+cast-t16 : tie.Need-cast-t16 Inv-loop μ-loop
+cast-t16 c = search needs
 
-array-write-marks : tie.Need-array-write-marks Inv-loop μ-loop
-array-write-marks c = search needs
+mark-target-requires : tie.Need-mark-target-requires Inv-loop μ-loop
+mark-target-requires c κs = search needs
 
 add-i : tie.Need-add-i Inv-loop μ-loop
 add-i c = search needs
@@ -47,15 +45,17 @@ loop-less c = search needs
 
 loop-again : tie.Need-loop-again Inv-loop μ-loop
 loop-again c =
-    let l = c .before .before .before .loop in
-    let s = c .before .before .before .before .before in
-    let more = c .before .before .loop-test .taken in
-    let most : l .i < length (l .marks) = omega (arith, l .inv .1, more, s .pre .0) in
-    let x = array-has (s .args .words .now) (s .args .t2) (l .i - 1) (Read (Plain (Sethi 0 0))) (s .pre .1) (omega (arith, more, s .pre .0)) in
-    (omega arith, length-set (l .marks) (l .i) _ ∙ l .inv .1, one-marked (s .args .words .now) (l .marks) (l .i) _ (l .inv .2) most (l .inv .0) (c .transfers .ensures ∙ ap transfers x))
+    let l = c .before .before .before .before .loop in
+    let s = c .before .before .before .before .before .before .before in
+    let more = c .before .before .before .loop-test .taken in
+    let x = array-has (s .args .words .now) (s .args .t2) (l .i) (Read (Plain (Sethi 0 0))) (s .pre .1) (omega (arith, more, s .pre .0)) in
+    let a = c .mark-target .ensures in
+    (omega (arith, more), a .long ∙ l .inv .1, one-targeted (s .args .words .now) (l .marks) _ (l .i) _ (l .inv .2) (omega (arith, s .pre .0, l .inv .1)) x a)
 
 returns : tie.Need-returns Inv-loop μ-loop
-returns c = λ w b. c .before .loop .inv .2 w (omega (arith, b, c .loop-test .left))
+returns c =
+    let l = c .before .loop in
+    all-targeted (c .before .before .before .before .args .words .now) (l .marks) (l .i) (l .inv .2) (omega (arith, l .inv .0, c .loop-test .left))
 
 pub examine-all-spec : {M : Type 1} → statement M
 examine-all-spec =
@@ -63,12 +63,12 @@ examine-all-spec =
     (tie.spec
     Inv-loop
     μ-loop
+    outside-slots-requires
     loop-holds
-    sub-x
     mul-x
     array-copy-out-x
-    transfers-requires
-    array-write-marks
+    cast-t16
+    mark-target-requires
     add-i
     loop-less
     loop-again
