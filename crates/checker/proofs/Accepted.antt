@@ -2,11 +2,13 @@
 use Prim.Native.Nat.{ℕ, _+_, _*_, _<_}
 use mathlib.Core.Path.{_≡_, refl, sym, ap, _∙_}
 use mathlib.Core.Bool.{Bool, true, false, not, cond, and-false}
+use mathlib.Core.List.{List}
 use native.Mathlib.Omega.{arith}
 use lib.Dec.{ltb, eqb}
 use borrow.Author.Tests.{ltb-true, ltb-false, not-false}
 use Rattle.v8.specs.Numbers.{badPolicy, badShape, badRow, badFlow, entryMisfit}
 use Rattle.v8.specs.Search.{first}
+use Rattle.v8.specs.declared.Reading.{Reading}
 use Rattle.v8.proofs.Search.{first-passes, first-least, needed}
 use Rattle.flow.specs.Readings.{readingAt, examined}
 use Rattle.policy.specs.Policy.{policyOk}
@@ -54,15 +56,16 @@ each-passes f n e w l = at (ltb (first (refuses f) 0 n) n) refl e
     at true t e = clash (passes (f (first (refuses f) 0 n))) (first-passes (refuses f) 0 n (ltb-true (first (refuses f) 0 n) n t)) e
     at false t e = not-false (passes (f w)) (first-least (refuses f) 0 n w (omega arith) (omega (arith, ltb-false (first (refuses f) 0 n) n t)))
 
+-- a word that pass 3 accepts has its flow
+pub flow-holds : (readings : List Reading) (w : ℕ) → passes (flowPass readings w) ≡ true → flowOf readings w (readingAt readings w) ≡ true
+unfolding flowPass
+flow-holds readings w e = need-holds (flowOf readings w (readingAt readings w)) badFlow w 0 refl e
+
 module _ (t : Routine) where
   row-formed : (w : ℕ) → passes (rowPass (t .policy) (t .rows) w) ≡ true
       → formFault (t .policy .regions .count) (t .policy .regions .sizes) (t .rows) (rowBytes * w) ≡ None
   unfolding rowPass
   row-formed w e = no-fault badRow w (formFault (t .policy .regions .count) (t .policy .regions .sizes) (t .rows) (rowBytes * w)) refl e
-
-  pub word-flows : (w : ℕ) → passes (flowPass (t .readings) w) ≡ true → flowOf (t .readings) w (readingAt (t .readings) w) ≡ true
-  unfolding flowPass
-  word-flows w e = need-holds (flowOf (t .readings) w (readingAt (t .readings) w)) badFlow w 0 refl e
 
   entry-fits : passes (entryPass (t .rows) (t .entry)) ≡ true → misfit (entryRow (t .entry)) (rowAt (t .rows) 0) ≡ None
   unfolding entryPass
@@ -100,7 +103,7 @@ module _ (t : Routine) where
         result-formed = shaped-result right;
         rows-formed = λ w l. row-formed w (each-passes (rowPass (t .policy) (t .rows)) (count t) (c .0) w l);
         reads = each-passes (readPass (t .readings)) (count t) (d .0);
-        flows = λ w l. word-flows w (each-passes (flowPass (t .readings)) (count t) (f .0) w l);
+        flows = λ w l. flow-holds (t .readings) w (each-passes (flowPass (t .readings)) (count t) (f .0) w l);
         entry = entry-fits (g .0);
         words = λ w l x. word-passes w (each-passes words (count t) (g .1) w l) x;
       }

@@ -1,11 +1,10 @@
 -- A word whose flow is right has edges that end at words of the code, whose rows lie among the rows; a word that is not examined needs none.
 use Prim.Native.Nat.{ℕ, _*_}
-use mathlib.Core.Path.{_≡_, refl, sym, subst}
+use mathlib.Core.Path.{_≡_, sym, subst}
 use mathlib.Core.Bool.{true}
 use mathlib.Core.List.{List}
 use native.Mathlib.Omega.{arith}
 use lib.ListN.{length}
-use Rattle.v8.specs.Numbers.{badFlow}
 use Rattle.v8.specs.declared.Reading.{Reading}
 use Rattle.v8.specs.declared.Reading.the-variants.{Read, Unread}
 use Rattle.flow.specs.declared.Destination.{Destination}
@@ -18,13 +17,8 @@ use Rattle.checker.specs.Answer.{passes}
 use Rattle.checker.specs.Passes.{flowOf, flowPass}
 use Rattle.checker.specs.Laws.{InCode}
 use Rattle.checker.specs.Lent.{EndIn, ReadingIn}
-use Rattle.checker.proofs.Accepted.{need-holds}
+use Rattle.checker.proofs.Accepted.{flow-holds}
 use Rattle.checker.proofs.Looked.{instruction-flows}
-
--- a word that pass 3 accepts has its flow
-flow-holds : (readings : List Reading) (w : ℕ) → passes (flowPass readings w) ≡ true → flowOf readings w (readingAt readings w) ≡ true
-unfolding flowPass
-flow-holds readings w e = need-holds (flowOf readings w (readingAt readings w)) badFlow w 0 refl e
 
 module _ (words : List ℕ) (n : ℕ) (rows : rowBytes * length words ≡ n) where
   end-in : (d : Destination) → InCode (readingsOf words) d → EndIn d n

@@ -12,8 +12,9 @@ use Rattle.v8.specs.declared.Operation.the-variants.{Sethi}
 use Rattle.v8.specs.declared.Instruction.the-variants.{Plain}
 use Rattle.v8.specs.declared.Reading.{Reading}
 use Rattle.v8.specs.declared.Reading.the-variants.{Read}
-use Rattle.flow.specs.Readings.{readingsOf, readingAt, Reads, Examines}
+use Rattle.flow.specs.Readings.{readingsOf, readingAt, transfers, isSlot, Reads, Examines}
 use Rattle.flow.proofs.Fetched.{array-has}
+use Rattle.flow.proofs.Examined.{slot-next}
 use Rattle.v8.specs.Search.{first}
 use Rattle.v8.proofs.Search.{first-here, first-next, first-end}
 use Rattle.policy.specs.declared.Policy.{Policy}
@@ -81,6 +82,10 @@ module _ (words : List ℕ) (readings : List Reading) (i : ℕ) (reads : Reads r
   pub flow-here : (a : Answer) → a ≡ need (flowOf (readingsOf words) i taken-out) badFlow i 0 → a ≡ flowPass (readingsOf words) i
   unfolding flowPass
   flow-here a e = e ∙ ap (λ (x : Reading). need (flowOf (readingsOf words) i x) badFlow i 0) here
+
+  -- the next word is a slot exactly if this one is read as a transfer
+  pub slot-here : (t : Bool) → t ≡ transfers taken-out → t ≡ isSlot (readingsOf words) (i + 1)
+  slot-here t e = e ∙ ap transfers here ∙ sym (slot-next (readingsOf words) i)
 
   pub word-here : (p : Policy) (rows result : List ℕ) (marks : List Bool) (slot : Reading) (a : Answer) → Examines marks words
       → slot ≡ readingAt (readingsOf words) (i + 1) → a ≡ cond (getD marks i false) (look p rows result i taken-out slot) accepted

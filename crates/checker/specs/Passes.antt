@@ -1,4 +1,4 @@
--- The passes of the check (document 01, "Check. 20 .. 21 .. 1 .. 2 .. 3 .. 15 .. Then each word outside slots"). Each takes what it reads.
+-- The passes of the check (document 01, "Check. 20 .. 21 .. 1 .. 2 .. 3 .. 15 .. Then each word outside slots"; request 4). Each takes what it reads.
 use Prim.Native.Nat.{ℕ, _+_, _*_}
 use mathlib.Core.Bool.{Bool, true, false, cond, not, _&&_, _||_}
 use mathlib.Core.List.{List}
@@ -13,7 +13,7 @@ use Rattle.flow.specs.declared.Destination.the-variants.{To, Caller}
 use Rattle.flow.specs.declared.Edge.{Edge}
 use Rattle.flow.specs.Transfer.{isTransfer}
 use Rattle.flow.specs.Edge.{edgeOf}
-use Rattle.flow.specs.Readings.{readingAt, examined}
+use Rattle.flow.specs.Readings.{readingAt, isSlot, examined}
 use Rattle.policy.specs.declared.Policy.{Policy}
 use Rattle.policy.specs.Policy.{policyOk}
 use Rattle.rows.specs.declared.Flaw.{Flaw}
@@ -71,34 +71,28 @@ unfoldable pub readPass : List Reading → ℕ → Answer
 readPass readings w = ifRead w (readingAt readings w)
 
 -- "3 flow, its word: a transfer (Bicc or return) that is the last word; a transfer in a slot; the next word outside the code, that is one on
--- for other words outside slots and two on for a branch with an untaken edge; for a branch with a taken edge, a target outside the code or a
--- target that is a slot"
+-- for other words outside slots and two on for a branch with an untaken edge; for a branch with a taken edge, a target outside the code";
+-- request 4: "3 no longer covers a target that is a slot; a targeted slot whose next word is outside gives 3, with the slot's word"
 module _ (readings : List Reading) where
   -- an edge ends at a word of the code, or at the caller
   abbrev pub inCode : Destination → Bool
   inCode (To w) = ltb (w .0) (length readings)
   inCode Caller = true
 
-  -- it ends at no slot
-  abbrev pub offSlots : Destination → Bool
-  offSlots (To w) = examined readings (w .0)
-  offSlots Caller = true
+  -- an edge, if there is one, ends there
+  abbrev pub edgeFlow : Edge → Bool
+  edgeFlow e = not (e .exists) || inCode (e .to)
 
-  abbrev pub takenFlow : Edge → Bool
-  takenFlow e = not (e .exists) || (inCode (e .to) && offSlots (e .to))
+  abbrev pub edgesFlow : ℕ → Instruction → Bool
+  edgesFlow w x = edgeFlow (edgeOf w x true) && edgeFlow (edgeOf w x false)
 
-  abbrev pub otherFlow : Edge → Bool
-  otherFlow e = not (e .exists) || inCode (e .to)
-
-  -- the flow of an instruction: a transfer's slot is in the code, and it stands in none; outside slots the edges go where they may
+  -- the slot of a transfer is in the code, and it stands in none
   abbrev pub transferFlow : ℕ → Bool
-  transferFlow w = ltb (w + 1) (length readings) && examined readings w
+  transferFlow w = ltb (w + 1) (length readings) && not (isSlot readings w)
 
-  abbrev pub edgeFlow : ℕ → Instruction → Bool
-  edgeFlow w x = takenFlow (edgeOf w x true) && otherFlow (edgeOf w x false)
-
+  -- the flow of an instruction: a transfer's, and that of the edges of a word that is examined
   abbrev pub flowOf : ℕ → Reading → Bool
-  flowOf w (Read x) = (not (isTransfer x) || transferFlow w) && (not (examined readings w) || edgeFlow w x)
+  flowOf w (Read x) = (not (isTransfer x) || transferFlow w) && (not (examined readings w) || edgesFlow w x)
   flowOf w (Unread number) = true
 
   unfoldable pub flowPass : ℕ → Answer
@@ -155,7 +149,8 @@ module _ (p : Policy) (rows result : List ℕ) where
   abbrev pub look : ℕ → Reading → Reading → Answer
   look w x slot = applied p w x (rowAt rows w) (edges w x slot)
 
--- "Then each word outside slots"
+-- "Then each word outside slots"; request 4: "A slot that a taken edge lands on is also examined as an ordinary word, with its own row read and
+-- the following word as its next."
 unfoldable pub wordPass : Policy → List Reading → List ℕ → List ℕ → ℕ → Answer
 wordPass p readings rows result w =
     cond (examined readings w) (look p rows result w (readingAt readings w) (readingAt readings (w + 1))) accepted

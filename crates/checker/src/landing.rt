@@ -1,15 +1,13 @@
-// The flow of a word: where control may go from it (specs/Passes.antt). Which words are examined comes
-// as an array, filled once.
+// The flow of a word: where control may go from it (specs/Passes.antt).
 ghost use mathlib.Core.Path.{_≡_};
-ghost use mathlib.Core.Bool.{cond, _&&_};
-ghost use Prim.Native.Nat.{_<_, _≤_};
+ghost use Prim.Native.Nat.{_<_};
 ghost use lib.Dec.{ltb};
 ghost use lib.ListN.{length};
 ghost use Rattle.v8.specs.Numbers.{badFlow, mostWords};
 ghost use Rattle.v8.specs.declared.Reading.the-variants.{Read};
-ghost use Rattle.flow.specs.Readings.{readingsOf, examined, Examines};
+ghost use Rattle.flow.specs.Readings.{readingsOf, isSlot, examined};
 ghost use Rattle.checker.specs.Answer.{need};
-ghost use Rattle.checker.specs.Passes.{takenFlow, otherFlow, edgeFlow, flowOf};
+ghost use Rattle.checker.specs.Passes.{edgeFlow, edgesFlow, flowOf};
 use crate::Answer;
 use crate::answers::accept;
 use crate::answers::need;
@@ -21,7 +19,6 @@ use v8::Instruction;
 use v8::Reading;
 use v8::WordIndex;
 use v8::numbers::BAD_FLOW;
-use v8::numbers::MOST_WORDS;
 
 // Whether a word is one of the code.
 fn inside(words: &[u32], at: WordIndex) -> bool
@@ -31,77 +28,68 @@ fn inside(words: &[u32], at: WordIndex) -> bool
     i < words.len()
 }
 
-// Whether an edge may end at a word: it is of the code, and no slot if the edge is the taken one.
-fn lands_at(words: &[u32], marks: &[bool; MOST_WORDS], at: WordIndex, taken: bool) -> bool
-    requires { ⌜ (length (now words) ≤ mostWords) × Examines (now marks) (now words) ⌝ }
-    ensures { λ r. ⌜
-        r
-        ≡ cond taken (ltb (at .0) (length (readingsOf (now (words .entry)))) && examined (readingsOf (now (words .entry))) (at .0))
-        (ltb (at .0) (length (readingsOf (now (words .entry)))))
-        ⌝ }
-{
-    let i = at.0 as usize;
-    if words.len() <= i {
-        return false;
-    }
-    !taken | marks[i]
-}
-
-// Whether an edge, if there is one, ends where it may.
-fn lands(words: &[u32], marks: &[bool; MOST_WORDS], e: Edge, taken: bool) -> bool
-    requires { ⌜ (length (now words) ≤ mostWords) × Examines (now marks) (now words) ⌝ }
-    ensures { λ r. ⌜ r ≡ cond taken (takenFlow (readingsOf (now (words .entry))) e) (otherFlow (readingsOf (now (words .entry))) e) ⌝ }
+// Whether an edge, if there is one, ends in the code or at the caller.
+fn edge_flow(words: &[u32], e: Edge) -> bool
+    ensures { λ r. ⌜ r ≡ edgeFlow (readingsOf (now (words .entry))) e ⌝ }
 {
     if !e.exists {
         return true;
     }
     let to = e.to;
     match to {
-        Destination::To(at) => lands_at(words, marks, at, taken),
+        Destination::To(at) => inside(words, at),
         Destination::Caller => true,
     }
 }
 
-// Whether the edges of an instruction end where they may.
-fn edges_flow(words: &[u32], marks: &[bool; MOST_WORDS], at: WordIndex, x: Instruction) -> bool
-    requires { ⌜ (at .0 < mostWords) × (length (now words) ≤ mostWords) × Examines (now marks) (now words) ⌝ }
-    ensures { λ r. ⌜ r ≡ edgeFlow (readingsOf (now (words .entry))) (at .0) x ⌝ }
+// Whether both edges of an instruction do.
+fn edges_flow(words: &[u32], at: WordIndex, x: Instruction) -> bool
+    requires { ⌜ at .0 < mostWords ⌝ }
+    ensures { λ r. ⌜ r ≡ edgesFlow (readingsOf (now (words .entry))) (at .0) x ⌝ }
 {
-    let taken = lands(words, marks, edge_of(at, x, true), true);
-    taken & lands(words, marks, edge_of(at, x, false), false)
+    let taken = edge_flow(words, edge_of(at, x, true));
+    taken & edge_flow(words, edge_of(at, x, false))
 }
 
-// The flow of an instruction: the slot of a transfer is of the code, and it is in no slot itself; the
-// edges of a word outside slots end where they may.
+// The flow of an instruction, in a slot or not, examined as an ordinary word or not: the slot of a
+// transfer is of the code, and it is in no slot itself; the edges of a word that is examined end where
+// they may.
 fn instruction_flow(
     words: &[u32],
-    marks: &[bool; MOST_WORDS],
     at: WordIndex,
+    in_slot: bool,
+    ordinary: bool,
     x: Instruction,
 ) -> bool
-    requires { ⌜ (at .0 < length (now words)) × (length (now words) ≤ mostWords) × Examines (now marks) (now words) ⌝ }
+    requires { ⌜
+        (at .0 < mostWords)
+        × (in_slot ≡ isSlot (readingsOf (now words)) (at .0))
+        × (ordinary ≡ examined (readingsOf (now words)) (at .0))
+        ⌝ }
     ensures { λ r. ⌜ r ≡ flowOf (readingsOf (now (words .entry))) (at .0) (Read x) ⌝ }
 {
-    let i = at.0 as usize;
-    let ordinary = marks[i];
     let slot = inside(words, WordIndex(at.0 + 1));
-    if is_transfer(x) & !(slot & ordinary) {
+    if is_transfer(x) & !(slot & !in_slot) {
         return false;
     }
     if !ordinary {
         return true;
     }
-    edges_flow(words, marks, at, x)
+    edges_flow(words, at, x)
 }
 
-// Pass 3 at a word, read as x: its flow.
-pub fn flow_at(words: &[u32], marks: &[bool; MOST_WORDS], at: WordIndex, x: Reading) -> Answer
-    requires { ⌜ (at .0 < length (now words)) × (length (now words) ≤ mostWords) × Examines (now marks) (now words) ⌝ }
+// Pass 3 at a word, in a slot or not, examined as an ordinary word or not, read as x: its flow.
+pub fn flow_at(words: &[u32], at: WordIndex, in_slot: bool, ordinary: bool, x: Reading) -> Answer
+    requires { ⌜
+        (at .0 < mostWords)
+        × (in_slot ≡ isSlot (readingsOf (now words)) (at .0))
+        × (ordinary ≡ examined (readingsOf (now words)) (at .0))
+        ⌝ }
     ensures { λ r. ⌜ r ≡ need (flowOf (readingsOf (now (words .entry))) (at .0) x) badFlow (at .0) 0 ⌝ }
 {
     match x {
         Reading::Read(instruction) => need(
-            instruction_flow(words, marks, at, instruction),
+            instruction_flow(words, at, in_slot, ordinary, instruction),
             BAD_FLOW,
             at,
         ),

@@ -13,6 +13,7 @@ use crate::answers::accept;
 use crate::answers::refuse;
 use crate::answers::unless_fault;
 use crate::landing::flow_at;
+use flow::readings::transfers;
 use policy::Policy;
 use rows::formed_at;
 use rows::geometry::PLACES;
@@ -91,13 +92,15 @@ pub fn flow_pass(
     requires { ⌜ (length (now words) ≤ mostWords) × Reads readings (now words) × Examines (now marks) (now words) ⌝ }
     ensures { λ r. ⌜ r ≡ passOf (flowPass (readingsOf (now (words .entry)))) (length (now (words .entry))) ⌝ }
 {
+    let mut in_slot = false;
     let mut i: usize = 0;
     while i < words.len() {
         let x = readings[i];
-        let found = flow_at(words, marks, WordIndex(i as u32), x);
+        let found = flow_at(words, WordIndex(i as u32), in_slot, marks[i], x);
         if found.number != ACCEPTED {
             return found;
         }
+        in_slot = transfers(x);
         i += 1;
     }
     accept()

@@ -6,19 +6,19 @@ use Rattle.checker.proofs.landing.edges_flow.Tie as tie
 edge-of-requires : tie.Need-edge-of-requires
 edge-of-requires c κs = search needs
 
-lands-requires : tie.Need-lands-requires
-lands-requires c κs = search needs
+edge-flow-requires : tie.Need-edge-flow-requires
+edge-flow-requires c κs = search needs
 
 edge-of-requires-2 : tie.Need-edge-of-requires-2
 edge-of-requires-2 c κs = search needs
 
-lands-requires-2 : tie.Need-lands-requires-2
-lands-requires-2 c κs = search needs
+edge-flow-requires-2 : tie.Need-edge-flow-requires-2
+edge-flow-requires-2 c κs = search needs
 
 returns : tie.Need-returns
-returns c = rw (c .lands2 .ensures, c .before .edge-of2 .ensures, c .before .before .lands .ensures, c .before .before .before .edge-of .ensures)
+returns c = rw (c .edge-flow2 .ensures, c .before .edge-of2 .ensures, c .before .before .edge-flow .ensures, c .before .before .before .edge-of .ensures)
 
 pub edges-flow-spec : {M : Type 1} → statement M
 edges-flow-spec =
     tie.close
-    (tie.spec edge-of-requires lands-requires edge-of-requires-2 lands-requires-2 returns)
+    (tie.spec edge-of-requires edge-flow-requires edge-of-requires-2 edge-flow-requires-2 returns)

@@ -1,47 +1,25 @@
--- The three ways of the definition: a transfer that may not stand there, a slot, and a word whose edges are looked at.
-use lib.ListN.{getD}
-use denote.Ref.{now}
-use Rattle.flow.specs.Readings.{readingsOf}
-use Rattle.checker.specs.Passes.{edgeFlow}
+-- The three ways of the definition: a transfer that may not stand there, a word that is not examined, and one whose edges are looked at.
 use mathlib.Core.Path.{_≡_, refl, sym}
 use mathlib.Core.Bool.{Bool, true, false, not, _&&_, _||_}
+use borrow.Author.Tests.{not-true, not-false}
 use Rattle.rows.proofs.Tests.{false-true}
 use borrow.Author.Needs.{needs}
 use Rattle.checker.proofs.landing.instruction_flow.Statement.{statement}
 use Rattle.checker.proofs.landing.instruction_flow.Tie as tie
 
--- a transfer, its slot in the code or not, examined or not, with the flow of its edges
-abbrev flows : Bool → Bool → Bool → Bool → Bool
-flows t s o e = (not t || (s && o)) && (not o || e)
+-- a transfer that may not stand there, and an instruction that may
+stops : (t u rest : Bool) → t && not u ≡ true → false ≡ (not t || u) && rest
+stops true true rest q = false-true q
+stops true false rest q = refl
+stops false u rest q = false-true q
 
-stops : (t s o e : Bool) → t && not (s && o) ≡ true → false ≡ flows t s o e
-stops true true true e q = false-true q
-stops true true false e q = refl
-stops true false o e q = refl
-stops false s o e q = false-true q
+stands : (t u : Bool) → t && not u ≡ false → not t || u ≡ true
+stands true true q = refl
+stands true false q = false-true (sym q)
+stands false u q = refl
 
-skips : (t s o e : Bool) → t && not (s && o) ≡ false → not o ≡ true → true ≡ flows t s o e
-skips true true true e q r = false-true r
-skips true true false e q r = false-true (sym q)
-skips true false o e q r = false-true (sym q)
-skips false s true e q r = false-true r
-skips false s false e q r = refl
-
-goes : (t s o e : Bool) → t && not (s && o) ≡ false → not o ≡ false → e ≡ flows t s o e
-goes true true true e q r = refl
-goes true true false e q r = false-true (sym r)
-goes true false o e q r = false-true (sym q)
-goes false s true e q r = refl
-goes false s false e q r = false-true (sym r)
-
-cast-i : tie.Need-cast-i
-cast-i c = search needs
-
-element-copy-out-ordinary : tie.Need-element-copy-out-ordinary
-element-copy-out-ordinary c = search needs
-
-add-t11 : tie.Need-add-t11
-add-t11 c = search needs
+add-t7 : tie.Need-add-t7
+add-t7 c = search needs
 
 inside-requires : tie.Need-inside-requires
 inside-requires c κs = search needs
@@ -51,35 +29,47 @@ is-transfer-requires c κs = search needs
 
 returns : tie.Need-returns
 returns c =
-    let s = c .before .before .before .before .before .before .before in
+    let s = c .before .before .before .before .before in
     let i = c .before .before .inside in
     let t = c .before .is-transfer in
-    rw (← s .pre .2 _ (s .pre .0), ← i .ensures, ← t .ensures) (stops (t .result) (i .result) (getD (now (s .args .marks)) (s .args .at .0) false) (edgeFlow (readingsOf (now (s .args .words))) (s .args .at .0) (s .args .x)) (c .if1 .taken))
+    rw (← s .pre .1, ← i .ensures, ← t .ensures) (stops (t .result) (i .result && not (s .args .in-slot)) _ (c .if1 .taken))
 
 returns-2 : tie.Need-returns-2
 returns-2 c =
-    let s = c .before .before .before .before .before .before .before .before in
+    let s = c .before .before .before .before .before .before in
     let i = c .before .before .before .inside in
     let t = c .before .before .is-transfer in
-    rw (← s .pre .2 _ (s .pre .0), ← i .ensures, ← t .ensures) (skips (t .result) (i .result) (getD (now (s .args .marks)) (s .args .at .0) false) (edgeFlow (readingsOf (now (s .args .words))) (s .args .at .0) (s .args .x)) (c .before .if1 .left) (c .if2 .taken))
+    rw (
+      ← s .pre .2,
+      ← s .pre .1,
+      ← i .ensures,
+      ← t .ensures,
+      not-true (s .args .ordinary) (c .if2 .taken),
+      stands (t .result) (i .result && not (s .args .in-slot)) (c .before .if1 .left),
+    )
 
 edges-flow-requires : tie.Need-edges-flow-requires
 edges-flow-requires c κs = search needs
 
 returns-3 : tie.Need-returns-3
 returns-3 c =
-    let s = c .before .before .before .before .before .before .before .before .before in
+    let s = c .before .before .before .before .before .before .before in
     let i = c .before .before .before .before .inside in
     let t = c .before .before .before .is-transfer in
-    rw (← s .pre .2 _ (s .pre .0), ← i .ensures, ← t .ensures, ← c .edges-flow .ensures) (goes (t .result) (i .result) (getD (now (s .args .marks)) (s .args .at .0) false) (c .edges-flow .result) (c .before .before .if1 .left) (c .before .if2 .left))
+    rw (
+      ← s .pre .2,
+      ← s .pre .1,
+      ← i .ensures,
+      ← t .ensures,
+      not-false (s .args .ordinary) (c .before .if2 .left),
+      stands (t .result) (i .result && not (s .args .in-slot)) (c .before .before .if1 .left),
+    ) (c .edges-flow .ensures)
 
 pub instruction-flow-spec : {M : Type 1} → statement M
 instruction-flow-spec =
     tie.close
     (tie.spec
-    cast-i
-    element-copy-out-ordinary
-    add-t11
+    add-t7
     inside-requires
     is-transfer-requires
     returns

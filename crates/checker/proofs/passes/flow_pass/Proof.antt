@@ -1,25 +1,29 @@
--- The loop's invariant: the pass from the present word on gives the answer of the whole pass.
-use Rattle.checker.proofs.Passing.{passFrom, pass-start, pass-here, pass-next, pass-end, flow-here}
+-- The loop's invariant: the pass from the present word on gives the answer of the whole pass, and whether the word is a slot is known.
+use Rattle.checker.proofs.Passing.{passFrom, pass-start, pass-here, pass-next, pass-end, flow-here, slot-here}
 use Prim.Native.Nat.{_≤_, _-_}
 use mathlib.Core.Path.{_≡_, sym, _∙_}
 use native.Mathlib.Omega.{arith}
 use lib.ListN.{length}
 use denote.Ref.{now}
 use borrow.Author.Needs.{needs}
-use Rattle.flow.specs.Readings.{readingsOf}
+use Rattle.flow.specs.Readings.{readingsOf, isSlot}
+use Rattle.flow.proofs.Examined.{first-free}
 use Rattle.checker.specs.Answer.{passOf}
 use Rattle.checker.specs.Passes.{flowPass}
 use Rattle.checker.proofs.passes.flow_pass.Statement.{statement}
 use Rattle.checker.proofs.passes.flow_pass.Tie as tie
 
 abbrev Inv-loop : tie.InvT-loop
-Inv-loop words marks readings i₀ i = (i ≤ length words) × (passOf (flowPass (readingsOf words)) (length words) ≡ passFrom (flowPass (readingsOf words)) i (length words))
+Inv-loop words marks readings in-slot₀ i₀ in-slot i =
+    (i ≤ length words)
+    × (in-slot ≡ isSlot (readingsOf words) i)
+    × (passOf (flowPass (readingsOf words)) (length words) ≡ passFrom (flowPass (readingsOf words)) i (length words))
 
 abbrev μ-loop : tie.MeasureT-loop
-μ-loop words marks readings i₀ i = length words - i
+μ-loop words marks readings in-slot₀ i₀ in-slot i = length words - i
 
 loop-holds : tie.Need-loop-holds Inv-loop μ-loop
-loop-holds c = (omega arith, pass-start _ _)
+loop-holds c = (omega arith, sym (first-free _), pass-start _ _)
 
 mul-x : tie.Need-mul-x Inv-loop μ-loop
 mul-x c = search needs
@@ -27,18 +31,27 @@ mul-x c = search needs
 array-copy-out-x : tie.Need-array-copy-out-x Inv-loop μ-loop
 array-copy-out-x c = search needs
 
-cast-t13 : tie.Need-cast-t13 Inv-loop μ-loop
-cast-t13 c = search needs
+cast-t14 : tie.Need-cast-t14 Inv-loop μ-loop
+cast-t14 c = search needs
+
+element-copy-out-flow-at : tie.Need-element-copy-out-flow-at Inv-loop μ-loop
+element-copy-out-flow-at c = search needs
 
 flow-at-requires : tie.Need-flow-at-requires Inv-loop μ-loop
-flow-at-requires c κs = search needs
+flow-at-requires c κs =
+    let s = c .before .before .before .before .before in
+    let more = c .before .before .loop-test .taken in
+    (omega (arith, more, s .pre .0), c .before .before .before .loop .inv .1, s .pre .2 _ more)
 
 returns : tie.Need-returns Inv-loop μ-loop
 returns c =
-    let t = c .before .before .before .before in
+    let t = c .before .before .before .before .before in
     let s = t .before .before .before in
     let here = flow-here (now (s .args .words)) (s .args .t2) (t .before .loop .i) (s .pre .1) (t .loop-test .taken) (s .pre .0) _ (c .before .before .flow-at .ensures) in
-    sym (t .before .loop .inv .1 ∙ pass-here _ _ _ _ here (t .loop-test .taken) (c .if1 .taken))
+    sym (t .before .loop .inv .2 ∙ pass-here _ _ _ _ here (t .loop-test .taken) (c .if1 .taken))
+
+transfers-requires : tie.Need-transfers-requires Inv-loop μ-loop
+transfers-requires c κs = search needs
 
 add-i : tie.Need-add-i Inv-loop μ-loop
 add-i c = search needs
@@ -48,16 +61,19 @@ loop-less c = search needs
 
 loop-again : tie.Need-loop-again Inv-loop μ-loop
 loop-again c =
-    let t = c .before .before .before .before in
+    let t = c .before .before .before .before .before .before in
     let s = t .before .before .before in
-    let here = flow-here (now (s .args .words)) (s .args .t2) (t .before .loop .i) (s .pre .1) (t .loop-test .taken) (s .pre .0) _ (c .before .before .flow-at .ensures) in
-    (omega (arith, t .loop-test .taken), t .before .loop .inv .1 ∙ pass-next _ _ _ _ here (t .loop-test .taken) (c .if1 .left))
+    let here = flow-here (now (s .args .words)) (s .args .t2) (t .before .loop .i) (s .pre .1) (t .loop-test .taken) (s .pre .0) _ (c .before .before .before .flow-at .ensures) in (
+      omega (arith, t .loop-test .taken),
+      slot-here (now (s .args .words)) (s .args .t2) (t .before .loop .i) (s .pre .1) (t .loop-test .taken) (s .pre .0) _ (c .transfers .ensures),
+      t .before .loop .inv .2 ∙ pass-next _ _ _ _ here (t .loop-test .taken) (c .before .if1 .left),
+    )
 
 accept-requires : tie.Need-accept-requires Inv-loop μ-loop
 accept-requires c κs = search needs
 
 returns-2 : tie.Need-returns-2 Inv-loop μ-loop
-returns-2 c = c .accept .ensures ∙ sym (c .before .before .loop .inv .1 ∙ pass-end _ _ _ (c .before .loop-test .left))
+returns-2 c = c .accept .ensures ∙ sym (c .before .before .loop .inv .2 ∙ pass-end _ _ _ (c .before .loop-test .left))
 
 pub flow-pass-spec : {M : Type 1} → statement M
 flow-pass-spec =
@@ -68,9 +84,11 @@ flow-pass-spec =
     loop-holds
     mul-x
     array-copy-out-x
-    cast-t13
+    cast-t14
+    element-copy-out-flow-at
     flow-at-requires
     returns
+    transfers-requires
     add-i
     loop-less
     loop-again
