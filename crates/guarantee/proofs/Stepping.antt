@@ -24,10 +24,9 @@ use Rattle.alu.proofs.Conditions.{opposite-holds}
 use Rattle.flow.specs.declared.Destination.{Destination}
 use Rattle.flow.specs.declared.Destination.the-variants.{To, Caller}
 use Rattle.flow.specs.declared.Edge.{Edge}
-use Rattle.flow.specs.Transfer.{readsCodes, hasEdge, link}
+use Rattle.flow.specs.Transfer.{isTransfer, readsCodes, hasEdge, link}
 use Rattle.flow.specs.Edge.{toWord, edgeOf}
-use Rattle.flow.specs.Readings.{readingAt, transfers, examined}
-use Rattle.flow.proofs.Examined.{slot-next}
+use Rattle.flow.specs.Readings.{readingAt, transfers}
 use Rattle.policy.specs.declared.Policy.{Policy}
 use Rattle.policy.specs.Laws.{WellFormed}
 use Rattle.access.specs.Layout.{Layout, layoutOf}
@@ -57,9 +56,10 @@ use Rattle.rows.proofs.ByKind.{held-return}
 use Rattle.rules.proofs.Narrowed.{narrows-row}
 use Rattle.checker.specs.Answer.{passes}
 use Rattle.checker.specs.Routine.{Routine, count, rowAt, resultEntry}
-use Rattle.checker.specs.Passes.{ifRead, readPass, offSlots, flowOf, arrive, changeBy, applied, cross, edges, resultRegister}
-use Rattle.checker.specs.Laws.{Checked, InCode, Flows, After}
-use Rattle.checker.proofs.Looked.{instruction-flows, word-makes, edges-looked, slot-applied, slot-skipped, arrives}
+use Rattle.checker.specs.Passes.{ifRead, readPass, arrive, changeBy, applied, cross, edges, resultRegister}
+use Rattle.checker.specs.Laws.{Checked, Lands, After}
+use Rattle.checker.proofs.Onward.{flows, edges-land, slot-operates}
+use Rattle.checker.proofs.Looked.{word-makes, edges-looked, slot-applied, slot-skipped, arrives}
 use Rattle.guarantee.specs.Safe.{OperationSafe, ReadingSafe}
 use Rattle.guarantee.specs.Guarantee.{hostOf, heldOf}
 use Rattle.guarantee.specs.Invariant.{CoreOk, Fitted, Kept, Good, Covers, At, Arrived, Due, SlotDue, Ready, Invariant, StepGood}
@@ -115,12 +115,7 @@ module _ (t : Routine) (bases : List ℕ) (returns : ℕ) (wf : WellFormed (t .p
   row-rules : (w : ℕ) → w < count t → RowRules (t .policy .regions .count) (t .policy .regions .sizes) (rowAt (t .rows) w)
   row-rules w i = row-obeys (t .policy .regions .count) (t .policy .regions .sizes) (t .rows) (rowBytes * w) (ch .rows-formed w i)
 
-  -- where a row may arrive
-  abbrev Lands : Destination → Type 0
-  Lands (To w) = (w .0 < count t) × (examined (t .readings) (w .0) ≡ true)
-  Lands Caller = Unit {0}
-
-  arrive-sound : (w : ℕ) (d : Destination) (row : Row) → Lands d → passes (arrive (t .rows) (t .result) w d row) ≡ true
+  arrive-sound : (w : ℕ) (d : Destination) (row : Row) → Lands (t .readings) d → passes (arrive (t .rows) (t .result) w d row) ≡ true
       → (c : Core) → CoreOk (t .policy) h c → Fitted (t .policy) h row c → Arrived t h d c
   arrive-sound w (To i) row lands e c ck f =
       record {
@@ -164,58 +159,33 @@ module _ (t : Routine) (bases : List ℕ) (returns : ℕ) (wf : WellFormed (t .p
   unread : {A : Type 0} (w n : ℕ) → w < count t → word w ≡ Unread n → A
   unread w n i q = false-true (sym (subst ReadingSound q (sound w)) ∙ is-read w i (Unread n) q)
 
-  -- an instruction goes where 3 allows
-  flows : (w : ℕ) → w < count t → (x : Instruction) → word w ≡ Read x → Flows (t .readings) w x
-  flows w i x q = instruction-flows (t .readings) w x (subst (λ (y : Reading). flowOf (t .readings) w y ≡ true) q (ch .flows w i))
-
-  -- the word after one that is no transfer is looked at
-  next-free : (w : ℕ) → transfers (word w) ≡ false → examined (t .readings) (w + 1) ≡ true
-  next-free w e = ap not (slot-next (t .readings) w ∙ e)
-
   -- the slot of a transfer is an operation
   record Operates (x : Reading) : Type 0 where
     operation : Operation
     is : x ≡ Read (Plain operation)
 
-  slot-operates : (w : ℕ) → w + 1 < count t → transfers (word w) ≡ true → Operates (word (w + 1))
-  slot-operates w i e = at (word (w + 1)) refl
+  slot-is : (w : ℕ) → w + 1 < count t → transfers (word w) ≡ true → Operates (word (w + 1))
+  slot-is w i e = at (word (w + 1)) refl
     where
-      no : examined (t .readings) (w + 1) ≡ true → Operates (word (w + 1))
-      no x = false-true (sym (ap not (slot-next (t .readings) w ∙ e)) ∙ x)
+      no : {x : Instruction} → word (w + 1) ≡ Read x → isTransfer x ≡ true → Operates (word (w + 1))
+      no q k = false-true (sym (slot-operates (t .readings) (ch .flows) w i e) ∙ ap transfers q ∙ k)
 
       at : (x : Reading) → word (w + 1) ≡ x → Operates (word (w + 1))
       at (Unread n) q = unread (w + 1) n i q
       at (Read (Plain x)) q = record { operation = x; is = q }
-      at (Read (Branch b)) q = no (flows (w + 1) i (Branch b) q .free refl)
-      at (Read Return) q = no (flows (w + 1) i Return q .free refl)
+      at (Read (Branch b)) q = no q refl
+      at (Read Return) q = no q refl
 
-  -- two words after a transfer stands no slot
-  second-free : (w : ℕ) → w + 1 < count t → transfers (word w) ≡ true → examined (t .readings) (w + 2) ≡ true
-  second-free w i e =
-      subst (λ (k : ℕ). examined (t .readings) k ≡ true) (two w) (next-free (w + 1) (ap transfers (slot-operates w i e .is)))
-    where
-      two : (w : ℕ) → w + 1 + 1 ≡ w + 2
-      two w = omega arith
-
-  -- each edge of a word that is looked at ends where one is looked at
-  lands-on : (w : ℕ) (x : Instruction) (c : Core) → word w ≡ Read x → At t h w c → (taken : Bool) → edgeOf w x taken .exists ≡ true → Lands (edgeOf w x taken .to)
-  lands-on w x c q at true e =
-      landing (edgeOf w x true .to) (flows w (at .inside) x q .ends (at .free) true e) (flows w (at .inside) x q .lands (at .free) e)
-    where
-      landing : (d : Destination) → InCode (t .readings) d → offSlots (t .readings) d ≡ true → Lands d
-      landing (To i) a b = (a, b)
-      landing Caller a b = tt
-  lands-on w (Plain x) c q at false e = (flows w (at .inside) (Plain x) q .ends (at .free) false e, next-free w (ap transfers q))
-  lands-on w (Branch b) c q at false e =
-      let f = flows w (at .inside) (Branch b) q in
-      (f .ends (at .free) false e, second-free w (f .slot refl) (ap transfers q))
-  lands-on w Return c q at false e = tt
+  -- each edge of a word that is examined ends where one is
+  lands-on : (w : ℕ) (x : Instruction) (c : Core) → word w ≡ Read x → At t h w c → (taken : Bool) → edgeOf w x taken .exists ≡ true
+      → Lands (t .readings) (edgeOf w x taken .to)
+  lands-on w x c q at taken e = edges-land (t .readings) (ch .flows) w x q (at .inside) (at .free) taken e
 
   -- the slot of the word at w is due, and then where the edge goes
-  slot-due : (w : ℕ) (d : Destination) (row : Row) (c : Core) → w + 1 < count t → transfers (word w) ≡ true → Lands d → Fitted (t .policy) h row c
+  slot-due : (w : ℕ) (d : Destination) (row : Row) (c : Core) → w + 1 < count t → transfers (word w) ≡ true → Lands (t .readings) d → Fitted (t .policy) h row c
       → passes (applied (t .policy) (w + 1) (word (w + 1)) row (arrive (t .rows) (t .result) w d)) ≡ true → SlotDue t h (word (w + 1)) d c
   slot-due w d row c i e lands f p =
-      let o = slot-operates w i e in
+      let o = slot-is w i e in
       let m = word-makes (t .policy) (w + 1) (word (w + 1)) row (arrive (t .rows) (t .result) w d) (sound (w + 1)) p in
       record {
         operation = o .operation;
@@ -232,7 +202,7 @@ module _ (t : Routine) (bases : List ℕ) (returns : ℕ) (wf : WellFormed (t .p
 
   module _ (w : ℕ) (c : Core) (ck : CoreOk (t .policy) h c) where
     -- along an edge, from the row that it narrows to
-    edge-sound : (e : Edge) (row : Row) → (e .slot ≡ true → (w + 1 < count t) × (transfers (word w) ≡ true)) → Lands (e .to) → Fitted (t .policy) h row c
+    edge-sound : (e : Edge) (row : Row) → (e .slot ≡ true → (w + 1 < count t) × (transfers (word w) ≡ true)) → Lands (t .readings) (e .to) → Fitted (t .policy) h row c
         → passes (cross (t .policy) (t .rows) (t .result) w (word (w + 1)) e row) ≡ true → StepGood t h c (follow w e c)
     edge-sound e row i lands f p = at (e .slot) refl
       where
@@ -260,7 +230,7 @@ module _ (t : Routine) (bases : List ℕ) (returns : ℕ) (wf : WellFormed (t .p
         by : (n : RowLeft) → narrowRow (edgeOf w x taken .narrowing) row ≡ n → LeftMatches (t .policy .regions .count) (t .policy .regions .sizes) h n (heldOf (c .registers))
             → StepGood t h c (follow w (edgeOf w x taken) c)
         by (left narrowed) k m =
-            edge-sound (edgeOf w x taken) narrowed (λ _. (flows w (at .inside) x q .slot tr, ap transfers q ∙ tr)) (lands-on w x c q at taken e)
+            edge-sound (edgeOf w x taken) narrowed (λ _. (flows (t .readings) (ch .flows) w (at .inside) x q .slot tr, ap transfers q ∙ tr)) (lands-on w x c q at taken e)
             (record { rules = m .0; matches = m .1 })
             (edges-looked (t .policy) (t .rows) (t .result) w x (word (w + 1)) row p taken e narrowed k)
         by nothing k m = absurd m
@@ -277,7 +247,7 @@ module _ (t : Routine) (bases : List ℕ) (returns : ℕ) (wf : WellFormed (t .p
       (ch .words w (at .inside) (at .free)) in
       subst (Looks w) q (record { after = m .after; change = m .change; passed = m .passed })
 
-  -- an operation outside slots is due to go to the next word
+  -- an operation with nothing pending is due to go to the next word
   plain-due : (w : ℕ) (x : Operation) (c : Core) → word w ≡ Read (Plain x) → At t h w c → Due t h x (toWord (w + 1)) c
   plain-due w x c q at =
       let m = looks w c at (Read (Plain x)) q in
@@ -368,7 +338,7 @@ module _ (t : Routine) (bases : List ℕ) (returns : ℕ) (wf : WellFormed (t .p
   abbrev Steps : Core → Reading → Step → Type 0
   Steps c x s = ReadingSafe (t .policy) h (c .registers) x × StepGood t h c s
 
-  -- a word outside slots
+  -- a word with nothing pending
   free-step : (w : ℕ) (c : Core) → CoreOk (t .policy) h c → At t h w c → (x : Reading) → word w ≡ x
       → Steps c x (stepWith l returns (record { control = goTo w; core = c }) x)
   free-step w c ck at (Unread n) q = unread w n (at .inside) q

@@ -62,7 +62,7 @@ Covers p h row c x e (Writes r entry note) = OperationSafe p h (c .registers) x 
 Covers p h row c x e Keeps = OperationSafe p h (c .registers) x × Good p h row c e
 Covers p h row c x e (Breaks number r) = Unit {0}
 
--- at word w, outside slots, with its row
+-- at word w as an ordinary word, which the check examined with its row: outside slots, or (request 4) at a slot that a taken edge lands on
 pub record At (t : Routine) (h : Host) (w : ℕ) (c : Core) : Type 0 where
   pub inside : w < count t
   pub free : examined (t .readings) w ≡ true
@@ -88,7 +88,7 @@ pub record SlotDue (t : Routine) (h : Host) (x : Reading) (d : Destination) (c :
   pub is : x ≡ Read (Plain operation)
   pub due : Due t h operation d c
 
--- what is pending: nothing, outside slots; or in a slot, where the transfer goes
+-- what is pending: nothing, at an ordinary word; or in a slot, where the transfer goes
 abbrev pub Ready : Routine → Host → ℕ → Core → Pending → Type 0
 Ready t h w c Pending·.Nothing = At t h w c
 Ready t h w c (Pending·.Due d) = SlotDue t h (readingAt (t .readings) w) d c

@@ -8,10 +8,9 @@ use native.Mathlib.Omega.{arith}
 use lib.Dec.{ltb, eqb}
 use lib.ListN.{length}
 use borrow.Author.Tests.{ltb-true, ltb-false, eqb-false, eq-eqb}
-use Rattle.v8.specs.Numbers.{badFlow}
 use Rattle.v8.specs.declared.Reading.{Reading}
 use Rattle.v8.proofs.Choice.{cond-both}
-use Rattle.flow.specs.Readings.{readingsOf, readingAt}
+use Rattle.flow.specs.Readings.{readingsOf}
 use Rattle.flow.proofs.Fetched.{read-count}
 use Rattle.flow.proofs.Examined.{first-examined}
 use Rattle.policy.specs.declared.Policy.{Policy}
@@ -28,8 +27,9 @@ use Rattle.rows.specs.Matches.{Host, Matches, RowMatches}
 use Rattle.rows.proofs.ReadRows.{entry-read}
 use Rattle.rows.proofs.ByKind.{held-start, held-return}
 use Rattle.checker.specs.Answer.{passes, passOf}
-use Rattle.checker.specs.Passes.{flowOf, flowPass}
-use Rattle.checker.proofs.Accepted.{each-passes, need-holds}
+use Rattle.checker.specs.Passes.{flowPass}
+use Rattle.checker.specs.Laws.{Flowing}
+use Rattle.checker.proofs.Accepted.{each-passes, flow-holds}
 use Rattle.guarantee.specs.Guarantee.{hostOf, heldOf, Words, Each}
 use Rattle.guarantee.proofs.Whole.{zero-words, zero-matches}
 use Rattle.marks.specs.Marks.{registerCount, markOfKind, markOf}
@@ -41,13 +41,11 @@ use Rattle.lister.proofs.Smallest.{closed-entry, listing-closed}
 use Rattle.meanings.specs.Meaning.{MarkHolds, AsListed, RunsAsListed, StandsAsListed}
 use Rattle.meanings.proofs.Holding.{unset-holds}
 use Rattle.meanings.proofs.Agreeing.{Agrees}
-use Rattle.meanings.proofs.Landing.{Flowing}
 use Rattle.meanings.proofs.Stepping.{taken-agrees, Listed, Keeps, ready-agrees, step-keeps}
 
 -- each word that the flow pass accepts flows
 flowing : (readings : List Reading) → passes (passOf (flowPass readings) (length readings)) ≡ true → Flowing readings
-unfolding flowPass
-flowing readings e w l = need-holds (flowOf readings w (readingAt readings w)) badFlow w 0 refl (each-passes (flowPass readings) (length readings) e w l)
+flowing readings e w l = flow-holds readings w (each-passes (flowPass readings) (length readings) e w l)
 
 module _ (h : Host) (entry : List ℕ) where
   -- the kind of an entry of the entry row holds of what matches the entry

@@ -32,6 +32,8 @@ use Rattle.step.specs.Effect.{Core, Effect, fault, done, effectOf}
 use Rattle.step.specs.Step.{State, Step, stopped, next, returned, advance, follow, plainStep, branchStep, returnStep, stepWith, stepOf}
 use Rattle.rows.specs.Matches.{Host}
 use Rattle.rows.proofs.Tests.{and-went, false-true}
+use Rattle.checker.specs.Laws.{Flowing, Lands}
+use Rattle.checker.proofs.Onward.{flows, edges-land}
 use Rattle.guarantee.proofs.Stepping.{decided}
 use Rattle.marks.specs.Marks.{unset, registerCount, markOf}
 use Rattle.marks.specs.Effect.{marksAfter, marksAfterWord}
@@ -45,7 +47,6 @@ use Rattle.lister.proofs.Smallest.{closed-word, listing-closed}
 use Rattle.meanings.specs.Meaning.{MarkHolds}
 use Rattle.meanings.proofs.Holding.{unset-holds, raised-holds}
 use Rattle.meanings.proofs.Agreeing.{Agrees, AgreesAfter, still-agrees, all-marked, operation-agrees}
-use Rattle.meanings.proofs.Landing.{Flowing, Lands, flows, lands}
 
 -- what is sent where a test passes
 sent-if : (table : List ℕ) (t : Bool) (s : Sent) → t ≡ true → takenIn table (cond t s nowhere) ≡ true → takenIn table s ≡ true
@@ -72,7 +73,7 @@ module _ (h : Host) (l : Layout) (returns : ℕ) (readings : List Reading) (entr
           (taken-at listing w m (sent-if listing (ltb w (length readings)) _ (lt-ltb w (length readings) i) t) r b) (a .each r))
       at r false e = rw (mark-out (marksAt listing w) r (ltb-false r registerCount e)) (unset-holds h entry (isSet g r) (valueOf g r))
 
-  -- at word w, outside slots
+  -- at word w as an ordinary word
   pub record At (w : ℕ) (c : Core) : Type 0 where
     pub inside : w < length readings
     pub free : examined readings w ≡ true
@@ -129,7 +130,7 @@ module _ (h : Host) (l : Layout) (returns : ℕ) (readings : List Reading) (entr
       by (done c′) b = advanced (dueAt (k .at .0) (k .pending)) c′ (arrives c′ b)
 
   module _ (ok : Flowing readings) where
-    -- the listing takes in what a word outside slots sends
+    -- the listing takes in what a word that is examined sends
     chosen : (t u : Bool) (ss : List Sent) → t ≡ true → u ≡ true → allTakenIn listing (cond t (cond u ss []) []) ≡ true → allTakenIn listing ss ≡ true
     chosen t u ss et eu e = rw (et, eu) at e
 
@@ -176,7 +177,7 @@ module _ (h : Host) (l : Layout) (returns : ℕ) (readings : List Reading) (entr
     -- a transfer follows an edge that there is
     transfer-step : (w : ℕ) (c : Core) (x : Instruction) → word w ≡ Read x → isTransfer x ≡ true → At w c → (taken : Bool) → edgeOf w x taken .exists ≡ true
         → Keeps (follow w (edgeOf w x taken) c)
-    transfer-step w c x q tr at taken e = by (edgeOf w x taken) (lands readings ok w x q (at .inside) (at .free) taken e) (sent-along w c x q at taken e)
+    transfer-step w c x q tr at taken e = by (edgeOf w x taken) (edges-land readings ok w x q (at .inside) (at .free) taken e) (sent-along w c x q at taken e)
       where
         m : List ℕ
         m = marksAfter (marksAt listing w) x
@@ -209,12 +210,12 @@ module _ (h : Host) (l : Layout) (returns : ℕ) (readings : List Reading) (entr
         (λ _. cond-both Keeps (eqb (valueOf (c .registers) link % 4) 0)
         (λ _. cond-both Keeps (eqb (valueOf (c .registers) link) returns) (λ _. transfer-step w c Return q refl at true refl) (λ _. tt)) (λ _. tt)) (λ _. tt)
 
-    -- a word outside slots
+    -- a word with nothing pending
     free-step : (w : ℕ) (c : Core) → At w c → (x : Reading) → word w ≡ x → Keeps (stepWith l returns (record { control = goTo w; core = c }) x)
     free-step w c at (Unread n) q = tt
     free-step w c at (Read (Plain x)) q =
         plain-step (goTo w) x c (marksAt listing w) (at .agrees)
-        (arrive (edgeOf w (Plain x) false .to) (marksAfter (marksAt listing w) (Plain x)) (lands readings ok w (Plain x) q (at .inside) (at .free) false refl)
+        (arrive (edgeOf w (Plain x) false .to) (marksAfter (marksAt listing w) (Plain x)) (edges-land readings ok w (Plain x) q (at .inside) (at .free) false refl)
         (sent-along w c (Plain x) q at false refl))
     free-step w c at (Read (Branch b)) q = branch-step w b c q at
     free-step w c at (Read Return) q = return-step w c q at
