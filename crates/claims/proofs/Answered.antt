@@ -2,21 +2,22 @@
 -- are well formed as it is, and it fits each of them, since it fits itself. A transfer followed by a nop leaves the row as it was: the nop changes
 -- nothing, and neither does the condition always. So the row arrives as it left. One nop alone has no next word, which the flow refuses.
 use Prim.Native.Nat.{ℕ, zero, suc, _+_, _*_, _<_}
-use mathlib.Core.Path.{_≡_, refl, ap, _∙_}
-use mathlib.Core.Bool.{true, and-false}
+use mathlib.Core.Path.{_≡_, refl, sym, ap, subst, _∙_}
+use mathlib.Core.Bool.{true, false, and-false}
 use mathlib.Core.List.{List, [], _∷_}
 use native.Mathlib.Omega.{arith}
 use lib.ListN.{length}
-use Rattle.v8.specs.Search.{first, lowest}
-use Rattle.v8.specs.Numbers.{badRow, entryMisfit}
+use Rattle.v8.specs.Search.{any, first, lowest}
+use Rattle.v8.specs.Numbers.{badRow, badFlow, entryMisfit}
 use Rattle.v8.specs.Read.{readingOf}
+use Rattle.v8.specs.declared.Reading.{Reading}
 use Rattle.v8.proofs.Worked.{nop-read, return-read, always-read}
 use Rattle.alu.specs.Result.{sethiOf}
 use Rattle.alu.specs.Condition.{conditionOf}
 use Rattle.policy.specs.declared.Policy.{Policy}
 use Rattle.memory.specs.Memory.{byteAt}
 use Rattle.flow.specs.Transfer.{slotRuns, targetOf}
-use Rattle.flow.specs.Readings.{transfers, isSlot}
+use Rattle.flow.specs.Readings.{transfers, isSlot, isTarget}
 use Rattle.rows.specs.Entry.{isReturn, constant, fits}
 use Rattle.rows.specs.declared.Flaw.the-variants.{None}
 use Rattle.rows.specs.Geometry.{rowBytes}
@@ -24,9 +25,9 @@ use Rattle.rows.specs.Row.{entryAt, entryOf, rowOf, formFault, misfit}
 use Rattle.rows.proofs.Tests.{other-kind}
 use Rattle.rules.specs.Change.{branchChange, returnChange}
 use Rattle.rules.specs.Narrow.{narrowRow}
-use Rattle.checker.specs.Answer.{accepted, refuse, passes, passOf}
+use Rattle.checker.specs.Answer.{accepted, refuse, need, passes, passOf}
 use Rattle.checker.specs.Routine.{Routine, routineOf}
-use Rattle.checker.specs.Passes.{shapeOk, rowPass, readPass, flowPass, entryPass, cross, narrowedEdge, wordPass, checkOf}
+use Rattle.checker.specs.Passes.{shapeOk, rowPass, readPass, flowOf, flowPass, entryPass, cross, narrowedEdge, wordPass, checkOf}
 use Rattle.claims.specs.Claims.{nop, returnWord, alwaysHere, WellFormedEntry, AllRowsEqual, ReturnThenNop, OneNop, LoopAccepted}
 use Rattle.claims.proofs.Agreeing.{Agree, same-row}
 use Rattle.claims.proofs.Passing.{unless-none, formed-too, all-pass, flow-answers, all-accept}
@@ -108,20 +109,20 @@ module _ (p : Policy) (rows entry result : List ℕ) (f : WellFormedEntry p entr
     unfolding entryPass
     pair-entry = unless-none entryMisfit 0 (misfit (rowOf entry 0) (rowOf rows (rowBytes * 0))) entry-fits
 
-    -- a transfer that passes each pass makes a routine that does: its slot is read, is no transfer, and is not looked at by itself
-    module _ (reads : passes (readPass (pair .readings) 0) ≡ true) (slot : transfers (readingOf word) ≡ true) (flows : passes (flowPass (pair .readings) 0) ≡ true)
-        (accepts : passes (wordPass p (pair .readings) rows result 0) ≡ true) where
+    -- a transfer that passes each pass makes a routine that does: its slot is read, is no transfer, and no taken edge lands on it
+    module _ (reads : passes (readPass (pair .readings) 0) ≡ true) (slot : transfers (readingOf word) ≡ true) (off : isTarget (pair .readings) 1 ≡ false)
+        (flows : passes (flowPass (pair .readings) 0) ≡ true) (accepts : passes (wordPass p (pair .readings) rows result 0) ≡ true) where
       slot-reads : passes (readPass (pair .readings) 1) ≡ true
       unfolding readPass
       slot-reads = rw nop-read
 
       slot-flows : passes (flowPass (pair .readings) 1) ≡ true
       unfolding flowPass isSlot
-      slot-flows = rw (nop-read, slot)
+      slot-flows = subst (λ (x : Reading). passes (need (flowOf (pair .readings) 1 x) badFlow 1 0) ≡ true) (sym nop-read) (rw (off, slot))
 
       slot-accepts : passes (wordPass p (pair .readings) rows result 1) ≡ true
       unfolding wordPass isSlot
-      slot-accepts = rw slot
+      slot-accepts = rw (off, slot)
 
       pair-answer : checkOf p (word ∷ nop ∷ []) rows entry result ≡ accepted
       unfolding checkOf
@@ -158,8 +159,12 @@ module _ (p : Policy) (rows entry result : List ℕ) (f : WellFormedEntry p entr
           fitting,
         )
 
+    return-off : isTarget (home .readings) 1 ≡ false
+    unfolding isTarget any
+    return-off = rw (return-read, nop-read)
+
     return-answer : checkOf p (returnWord ∷ nop ∷ []) rows entry result ≡ accepted
-    return-answer = pair-answer returnWord return-reads (rw return-read) return-flows return-accepts
+    return-answer = pair-answer returnWord return-reads (rw return-read) return-off return-flows return-accepts
 
   -- the branch
   abbrev loop : Routine
@@ -185,8 +190,12 @@ module _ (p : Policy) (rows entry result : List ℕ) (f : WellFormedEntry p entr
         entry-fits,
       )
 
+  loop-off : isTarget (loop .readings) 1 ≡ false
+  unfolding isTarget any targetOf
+  loop-off = rw (always-read, nop-read)
+
   loop-answer : checkOf p (alwaysHere ∷ nop ∷ []) rows entry result ≡ accepted
-  loop-answer = pair-answer alwaysHere loop-reads (rw always-read) loop-flows loop-accepts
+  loop-answer = pair-answer alwaysHere loop-reads (rw always-read) loop-off loop-flows loop-accepts
 
 pub return-then-nop : ReturnThenNop
 return-then-nop p rows entry result f e links fitting = return-answer p rows entry result f e links fitting
