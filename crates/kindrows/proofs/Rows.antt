@@ -1,10 +1,10 @@
 -- The table holds: the definitions give each row's outcome, by computation.
 use mathlib.Core.Path.{refl}
-use Rattle.v8.specs.Search.{all, lowest, first}
+use Rattle.v8.specs.Search.{all, any, lowest, first}
 use Rattle.v8.specs.Signed.{signExtend}
 use Rattle.v8.specs.Read.{operandOf, countOf, format00, format10, format11, readingOf}
 use Rattle.flow.specs.Transfer.{slotRuns, targetOf}
-use Rattle.flow.specs.Readings.{isSlot}
+use Rattle.flow.specs.Readings.{isSlot, isTarget}
 use Rattle.policy.specs.Element.{widthOf, leastOf, mostOf}
 use Rattle.policy.specs.Policy.{fieldAt, valuesOk, fieldOk, endBefore, fieldFits, fieldAtOk, regionOk, policyOk}
 use Rattle.sets.specs.Sets.{setOk}
@@ -31,11 +31,11 @@ unfolding readingOf format00 format10 format11 operandOf countOf signExtend mark
 words-hold = refl
 
 lists-hold : Holds listRows
-unfolding readingOf format00 format10 format11 operandOf countOf signExtend lowest first all slotRuns targetOf isSlot widthOf leastOf mostOf fieldAt valuesOk fieldOk endBefore fieldFits fieldAtOk regionOk policyOk setOk sizeIn entryOk noteOk entryOf noteOf formedAt flawFrom formFault passOf readPass flowPass meet markOf marksWith ofNumbers sumMark differenceMark orMark marksAt reached raisedAt entryMarks sentBy takenIn closedAt closed raisedByWords raisedOnce raisedUntilClosed listingOf listingAnswer listed
+unfolding readingOf format00 format10 format11 operandOf countOf signExtend lowest first all slotRuns targetOf isSlot isTarget any widthOf leastOf mostOf fieldAt valuesOk fieldOk endBefore fieldFits fieldAtOk regionOk policyOk setOk sizeIn entryOk noteOk entryOf noteOf formedAt flawFrom formFault passOf readPass flowPass meet markOf marksWith ofNumbers sumMark differenceMark orMark marksAt reached raisedAt entryMarks sentBy takenIn closedAt closed raisedByWords raisedOnce raisedUntilClosed listingOf listingAnswer listed
 lists-hold = refl
 
 refusals-hold : Holds refusedRows
-unfolding readingOf format00 format10 format11 operandOf countOf signExtend lowest first all slotRuns targetOf isSlot widthOf leastOf mostOf fieldAt valuesOk fieldOk endBefore fieldFits fieldAtOk regionOk policyOk setOk sizeIn entryOk noteOk entryOf noteOf formedAt flawFrom formFault passOf readPass flowPass meet markOf marksWith ofNumbers sumMark differenceMark orMark marksAt reached raisedAt entryMarks sentBy takenIn closedAt closed raisedByWords raisedOnce raisedUntilClosed listingOf listingAnswer listed
+unfolding readingOf format00 format10 format11 operandOf countOf signExtend lowest first all slotRuns targetOf isSlot isTarget any widthOf leastOf mostOf fieldAt valuesOk fieldOk endBefore fieldFits fieldAtOk regionOk policyOk setOk sizeIn entryOk noteOk entryOf noteOf formedAt flawFrom formFault passOf readPass flowPass meet markOf marksWith ofNumbers sumMark differenceMark orMark marksAt reached raisedAt entryMarks sentBy takenIn closedAt closed raisedByWords raisedOnce raisedUntilClosed listingOf listingAnswer listed
 refusals-hold = refl
 
 pub table-holds : TableHolds

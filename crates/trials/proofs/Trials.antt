@@ -4,13 +4,13 @@ use mathlib.Core.Path.{_≡_, refl, sym, ap₂, _∙_}
 use mathlib.Core.List.{List, _++_, map, map-append}
 use mathlib.Core.Bool.{xor}
 use Rattle.v8.specs.Signed.{signExtend}
-use Rattle.v8.specs.Search.{all, lowest, first}
+use Rattle.v8.specs.Search.{all, any, lowest, first}
 use Rattle.v8.specs.Read.{readingOf, format00, format10, format11, operandOf, countOf}
 use Rattle.writer.specs.Write.{writingOf, packed, packOf, sethiWord, signedBits, fiveBits}
 use Rattle.alu.specs.Codes.{codesOf}
 use Rattle.alu.specs.Condition.{condHolds, conditionOf}
 use Rattle.flow.specs.Transfer.{slotRuns, targetOf}
-use Rattle.flow.specs.Readings.{isSlot}
+use Rattle.flow.specs.Readings.{isSlot, isTarget}
 use Rattle.policy.specs.Element.{widthOf, leastOf, mostOf}
 use Rattle.policy.specs.Policy.{fieldAt, valuesOk, fieldOk, endBefore, fieldFits, fieldAtOk, regionOk, policyOk}
 use Rattle.policy.specs.Find.{holdsIn, stopOf, findIn}
@@ -55,7 +55,7 @@ both : (a b : List Row) → Holds a → Holds b → Holds (a ++ b)
 both a b p q = map-append found a b ∙ ap₂ (λ (x y : List Outcome). x ++ y) p q ∙ sym (map-append expected a b)
 
 machine-rows-hold : Holds machineTable
-unfolding readingOf format00 format10 format11 operandOf countOf signExtend writingOf packed packOf sethiWord signedBits fiveBits codesOf condHolds conditionOf isSlot xor all widthOf leastOf mostOf fieldAt valuesOk fieldOk endBefore fieldFits fieldAtOk regionOk policyOk regionNumber fieldNumber built partStart lowest first holdsIn stopOf findIn valueIn setIn valuesWith marksWith insideRegion regionIn locate aimIn slotRuns targetOf stepOf disjointIn placedIn runFrom refusalOf runOf
+unfolding readingOf format00 format10 format11 operandOf countOf signExtend writingOf packed packOf sethiWord signedBits fiveBits codesOf condHolds conditionOf isSlot isTarget any xor all widthOf leastOf mostOf fieldAt valuesOk fieldOk endBefore fieldFits fieldAtOk regionOk policyOk regionNumber fieldNumber built partStart lowest first holdsIn stopOf findIn valueIn setIn valuesWith marksWith insideRegion regionIn locate aimIn slotRuns targetOf stepOf disjointIn placedIn runFrom refusalOf runOf
 machine-rows-hold = refl
 
 row-rows-hold : Holds rowTable
@@ -63,15 +63,15 @@ unfolding readingOf format00 format10 format11 operandOf countOf signExtend cond
 row-rows-hold = refl
 
 pass-rows-hold : Holds passTable
-unfolding readingOf format00 format10 format11 operandOf countOf signExtend lowest first all widthOf leastOf mostOf fieldAt valuesOk fieldOk endBefore fieldFits fieldAtOk regionOk policyOk targetOf setOk fitsSet sizeIn entryOk fits noteOk fitsNote entryAt entryOf noteOf rowOf formedAt flawFrom formFault fitsAt misfit passOf isSlot shapeOk rowPass readPass flowPass entryPass answerOf checkOf
+unfolding readingOf format00 format10 format11 operandOf countOf signExtend lowest first all widthOf leastOf mostOf fieldAt valuesOk fieldOk endBefore fieldFits fieldAtOk regionOk policyOk targetOf setOk fitsSet sizeIn entryOk fits noteOk fitsNote entryAt entryOf noteOf rowOf formedAt flawFrom formFault fitsAt misfit passOf isSlot isTarget any shapeOk rowPass readPass flowPass entryPass answerOf checkOf
 pass-rows-hold = refl
 
 edge-rows-hold : Holds edgeTable
-unfolding readingOf format00 format10 format11 operandOf countOf signExtend conditionOf lowest first all widthOf leastOf mostOf fieldAt valuesOk fieldOk endBefore fieldFits fieldAtOk regionOk policyOk holdsIn stopOf findIn slotRuns targetOf ended setOk fitsSet within addSets subSets andSets sllSet sraSet srlSet atMost atLeast lessThan isMember only without sizeIn entryOk fits noteOk fitsNote fieldEntry entryAt entriesWith entryOf noteOf formedAt flawFrom formFault fitsAt misfit rowOf offsetsGive addressSum addressDifference aluResult shiftResult inField inRegion reachOf noteAfter codesNote aluChange shiftChange accessChange branchChange returnChange narrowEntry narrowRow passOf isSlot shapeOk rowPass readPass flowPass entryPass cross narrowedEdge wordPass answerOf checkOf
+unfolding readingOf format00 format10 format11 operandOf countOf signExtend conditionOf lowest first all widthOf leastOf mostOf fieldAt valuesOk fieldOk endBefore fieldFits fieldAtOk regionOk policyOk holdsIn stopOf findIn slotRuns targetOf ended setOk fitsSet within addSets subSets andSets sllSet sraSet srlSet atMost atLeast lessThan isMember only without sizeIn entryOk fits noteOk fitsNote fieldEntry entryAt entriesWith entryOf noteOf formedAt flawFrom formFault fitsAt misfit rowOf offsetsGive addressSum addressDifference aluResult shiftResult inField inRegion reachOf noteAfter codesNote aluChange shiftChange accessChange branchChange returnChange narrowEntry narrowRow passOf isSlot isTarget any shapeOk rowPass readPass flowPass entryPass cross narrowedEdge wordPass answerOf checkOf
 edge-rows-hold = refl
 
 bundle-rows-hold : Holds bundleTable
-unfolding readingOf format00 format10 format11 operandOf countOf signExtend lowest first all widthOf leastOf mostOf fieldAt valuesOk fieldOk endBefore fieldFits fieldAtOk regionOk policyOk regionNumber fieldNumber built targetOf setOk fitsSet sizeIn entryOk fits noteOk fitsNote entryAt entriesWith entryOf noteOf rowOf formedAt flawFrom formFault fitsAt misfit branchChange returnChange narrowEntry narrowRow noteAfter passOf isSlot shapeOk rowPass readPass flowPass entryPass cross narrowedEdge wordPass answerOf checkOf fieldsBefore fieldRead bundleOk regionTo fieldTo withRegions withFieldsOf withFields bundleAnswer
+unfolding readingOf format00 format10 format11 operandOf countOf signExtend lowest first all widthOf leastOf mostOf fieldAt valuesOk fieldOk endBefore fieldFits fieldAtOk regionOk policyOk regionNumber fieldNumber built targetOf setOk fitsSet sizeIn entryOk fits noteOk fitsNote entryAt entriesWith entryOf noteOf rowOf formedAt flawFrom formFault fitsAt misfit branchChange returnChange narrowEntry narrowRow noteAfter passOf isSlot isTarget any shapeOk rowPass readPass flowPass entryPass cross narrowedEdge wordPass answerOf checkOf fieldsBefore fieldRead bundleOk regionTo fieldTo withRegions withFieldsOf withFields bundleAnswer
 bundle-rows-hold = refl
 
 every-claim-holds : (c : Claim) → Says c
