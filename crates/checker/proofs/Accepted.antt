@@ -11,17 +11,18 @@ use Rattle.v8.specs.Search.{first}
 use Rattle.v8.specs.declared.Reading.{Reading}
 use Rattle.v8.proofs.Search.{first-passes, first-least, needed}
 use Rattle.flow.specs.Readings.{readingAt, examined}
+use Rattle.flow.specs.Flow.{flowOf}
 use Rattle.policy.specs.Policy.{policyOk}
 use Rattle.rows.specs.declared.Flaw.{Flaw}
 use Rattle.rows.specs.declared.Flaw.the-variants.{None, At}
 use Rattle.rows.specs.Geometry.{rowBytes}
 use Rattle.rows.specs.Row.{entryFormed, formFault, misfit}
-use Rattle.rows.proofs.Tests.{false-true}
+use Rattle.v8.proofs.Choice.{false-true}
 use Rattle.rows.proofs.LowestFlaw.{flawless-none}
 use Rattle.checker.specs.declared.Answer.{Answer}
 use Rattle.checker.specs.Answer.{accepted, passes, andThen, need, refuses, passOf}
 use Rattle.checker.specs.Routine.{Routine, routineOf, count, rowAt, entryRow}
-use Rattle.checker.specs.Passes.{unlessFault, policyPass, shapeOk, shapePass, rowPass, readPass, flowOf, flowPass, entryPass, look, wordPass, answerOf, checkOf}
+use Rattle.checker.specs.Passes.{unlessFault, policyPass, shapeOk, shapePass, rowPass, readPass, flowPass, entryPass, look, wordPass, answerOf, checkOf}
 use Rattle.checker.specs.Laws.{Checked, Accepts}
 use Rattle.checker.proofs.Started.{shape-started}
 

@@ -11,14 +11,15 @@ use Rattle.flow.specs.declared.Destination.{Destination}
 use Rattle.flow.specs.declared.Destination.the-variants.{To, Caller}
 use Rattle.flow.specs.Edge.{edgeOf}
 use Rattle.flow.specs.Readings.{readingsOf, readingAt, examined}
+use Rattle.flow.specs.Flow.{flowOf}
+use Rattle.flow.specs.Laws.{InCode}
 use Rattle.flow.proofs.Fetched.{read-count}
+use Rattle.flow.proofs.Onward.{instruction-flows}
 use Rattle.rows.specs.Geometry.{rowBytes}
 use Rattle.checker.specs.Answer.{passes}
-use Rattle.checker.specs.Passes.{flowOf, flowPass}
-use Rattle.checker.specs.Laws.{InCode}
+use Rattle.checker.specs.Passes.{flowPass}
 use Rattle.checker.specs.Lent.{EndIn, ReadingIn}
 use Rattle.checker.proofs.Accepted.{flow-holds}
-use Rattle.checker.proofs.Looked.{instruction-flows}
 
 module _ (words : List ℕ) (n : ℕ) (rows : rowBytes * length words ≡ n) where
   end-in : (d : Destination) → InCode (readingsOf words) d → EndIn d n

@@ -1,7 +1,6 @@
 pub mod Started
 pub mod Accepted
 pub mod Looked
-pub mod Onward
 pub mod Inside
 pub mod Parts
 pub mod Passing

@@ -1,26 +1,20 @@
--- What an accepted word shows of its flow, its edges and what arrives, each from the definition's own tests.
-use Prim.Native.Nat.{ℕ, _+_}
+-- What an accepted word shows of its edges and what arrives, each from the definition's own tests.
+use Prim.Native.Nat.{ℕ}
 use mathlib.Core.Path.{_≡_, refl, sym, _∙_, subst}
-use mathlib.Core.Bool.{Bool, true, false, not, cond, _&&_, _||_}
+use mathlib.Core.Bool.{Bool, true, false, cond}
 use mathlib.Core.List.{List}
-use lib.Dec.{ltb}
-use lib.ListN.{length}
-use borrow.Author.Tests.{ltb-true, not-true}
 use Rattle.v8.specs.Numbers.{edgeMisfit, resultMisfit}
 use Rattle.v8.specs.declared.Reading.{Reading}
 use Rattle.v8.specs.declared.Reading.the-variants.{Read, Unread}
 use Rattle.v8.specs.Laws.{ReadingSound}
-use Rattle.flow.specs.declared.Destination.{Destination}
 use Rattle.flow.specs.declared.Destination.the-variants.{To, Caller}
 use Rattle.flow.specs.declared.Edge.{Edge}
-use Rattle.flow.specs.Transfer.{isTransfer}
 use Rattle.flow.specs.Edge.{edgeOf}
-use Rattle.flow.specs.Readings.{isSlot, examined}
 use Rattle.policy.specs.declared.Policy.{Policy}
 use Rattle.rows.specs.declared.Row.{Row}
 use Rattle.rows.specs.Entry.{fits}
 use Rattle.rows.specs.Row.{entryAt, rowWith, misfit}
-use Rattle.rows.proofs.Tests.{and-went, false-true}
+use Rattle.v8.proofs.Choice.{false-true}
 use Rattle.rules.specs.declared.Change.{Change}
 use Rattle.rules.specs.declared.Change.the-variants.{Writes, Keeps, Breaks}
 use Rattle.rules.specs.Narrow.{RowLeft, left, narrows, narrowRow}
@@ -28,39 +22,9 @@ use Rattle.rules.proofs.Numbered.{Numbered, change-numbered}
 use Rattle.checker.specs.declared.Answer.{Answer}
 use Rattle.checker.specs.Answer.{accepted, passes}
 use Rattle.checker.specs.Routine.{rowAt, resultEntry}
-use Rattle.checker.specs.Passes.{inCode, edgeFlow, edgesFlow, transferFlow, made, changeBy, arrive, cross, ifLeft, narrowedEdge, edgePass, resultRegister}
-use Rattle.checker.specs.Laws.{InCode, InstructionFlows, After, WordMakes, EdgesLooked, SlotApplied, SlotSkipped, Arrives}
+use Rattle.checker.specs.Passes.{made, changeBy, arrive, cross, ifLeft, narrowedEdge, edgePass, resultRegister}
+use Rattle.checker.specs.Laws.{After, WordMakes, EdgesLooked, SlotApplied, SlotSkipped, Arrives}
 use Rattle.checker.proofs.Accepted.{both-pass, need-holds, no-fault}
-
--- a test that is asked only where another passes
-asked : (a b : Bool) → not a || b ≡ true → a ≡ true → b ≡ true
-asked true b e t = e
-asked false b e t = false-true t
-
-in-code : (readings : List Reading) (d : Destination) → inCode readings d ≡ true → InCode readings d
-in-code readings (To w) e = ltb-true (w .0) (length readings) e
-in-code readings Caller e = tt
-
-pub instruction-flows : InstructionFlows
-instruction-flows readings w x e =
-    record {
-      slot = λ t. ltb-true (w + 1) (length readings) (own t .0);
-      free = λ t. not-true (isSlot readings w) (own t .1);
-      ends = λ f taken t. in-code readings (edgeOf w x taken .to) (asked (edgeOf w x taken .exists) (inCode readings (edgeOf w x taken .to)) (each f taken) t);
-    }
-  where
-    parts : (not (isTransfer x) || transferFlow readings w ≡ true) × (not (examined readings w) || edgesFlow readings w x ≡ true)
-    parts = and-went (not (isTransfer x) || transferFlow readings w) (not (examined readings w) || edgesFlow readings w x) e
-
-    own : isTransfer x ≡ true → (ltb (w + 1) (length readings) ≡ true) × (not (isSlot readings w) ≡ true)
-    own t = and-went (ltb (w + 1) (length readings)) (not (isSlot readings w)) (asked (isTransfer x) (transferFlow readings w) (parts .0) t)
-
-    both : examined readings w ≡ true → (edgeFlow readings (edgeOf w x true) ≡ true) × (edgeFlow readings (edgeOf w x false) ≡ true)
-    both f = and-went (edgeFlow readings (edgeOf w x true)) (edgeFlow readings (edgeOf w x false)) (asked (examined readings w) (edgesFlow readings w x) (parts .1) f)
-
-    each : examined readings w ≡ true → (taken : Bool) → edgeFlow readings (edgeOf w x taken) ≡ true
-    each f true = both f .0
-    each f false = both f .1
 
 -- what breaks a condition has a number
 numbered-by : (p : Policy) (row : Row) (x : Reading) → ReadingSound x → Numbered (changeBy p row x)

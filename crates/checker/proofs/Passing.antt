@@ -13,6 +13,7 @@ use Rattle.v8.specs.declared.Instruction.the-variants.{Plain}
 use Rattle.v8.specs.declared.Reading.{Reading}
 use Rattle.v8.specs.declared.Reading.the-variants.{Read}
 use Rattle.flow.specs.Readings.{readingsOf, readingAt, transfers, isSlot, Reads, Examines}
+use Rattle.flow.specs.Flow.{flowOf}
 use Rattle.flow.proofs.Fetched.{array-has}
 use Rattle.flow.proofs.Examined.{slot-next}
 use Rattle.v8.specs.Search.{first}
@@ -23,7 +24,7 @@ use Rattle.rows.specs.Geometry.{rowBytes}
 use Rattle.rows.specs.Row.{formFault}
 use Rattle.checker.specs.declared.Answer.{Answer}
 use Rattle.checker.specs.Answer.{accepted, refuse, need, passes, refuses, passOf}
-use Rattle.checker.specs.Passes.{rowPass, ifRead, readPass, flowOf, flowPass, look, wordPass}
+use Rattle.checker.specs.Passes.{rowPass, ifRead, readPass, flowPass, look, wordPass}
 use Rattle.checker.specs.Lent.{ReadingIn}
 use Rattle.checker.proofs.Accepted.{each-passes}
 use Rattle.checker.proofs.Inside.{word-in}
@@ -79,9 +80,9 @@ module _ (words : List ℕ) (readings : List Reading) (i : ℕ) (reads : Reads r
   unfolding readPass
   read-here a e = e ∙ ap (ifRead i) here
 
-  pub flow-here : (a : Answer) → a ≡ need (flowOf (readingsOf words) i taken-out) badFlow i 0 → a ≡ flowPass (readingsOf words) i
+  pub flow-here : (t : Bool) (a : Answer) → t ≡ flowOf (readingsOf words) i taken-out → a ≡ need t badFlow i 0 → a ≡ flowPass (readingsOf words) i
   unfolding flowPass
-  flow-here a e = e ∙ ap (λ (x : Reading). need (flowOf (readingsOf words) i x) badFlow i 0) here
+  flow-here t a f e = e ∙ ap (λ (b : Bool). need b badFlow i 0) (f ∙ ap (flowOf (readingsOf words) i) here)
 
   -- the next word is a slot exactly if this one is read as a transfer
   pub slot-here : (t : Bool) → t ≡ transfers taken-out → t ≡ isSlot (readingsOf words) (i + 1)

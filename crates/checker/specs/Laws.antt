@@ -1,4 +1,4 @@
--- What an accepted check shows: one field for each pass, and of each word what its flow, its edges and the rows that arrive show. Later parts
+-- What an accepted check shows: one field for each pass, and of each word what its edges and the rows that arrive show. Later parts
 -- use these and not the definition of the check. The proofs are in proofs/.
 use Prim.Native.Nat.{ℕ, _+_, _*_, _≤_, _<_}
 use mathlib.Core.Path.{_≡_}
@@ -13,9 +13,9 @@ use Rattle.v8.specs.Laws.{ReadingSound}
 use Rattle.flow.specs.declared.Destination.{Destination}
 use Rattle.flow.specs.declared.Destination.the-variants.{To, Caller}
 use Rattle.flow.specs.declared.Edge.{Edge}
-use Rattle.flow.specs.Transfer.{isTransfer}
 use Rattle.flow.specs.Edge.{edgeOf}
-use Rattle.flow.specs.Readings.{readingAt, transfers, isSlot, examined}
+use Rattle.flow.specs.Readings.{readingAt, examined}
+use Rattle.flow.specs.Laws.{Flowing}
 use Rattle.policy.specs.declared.Policy.{Policy}
 use Rattle.policy.specs.Policy.{policyOk}
 use Rattle.rows.specs.declared.Flaw.the-variants.{None}
@@ -29,7 +29,7 @@ use Rattle.rules.specs.Narrow.{left, narrowRow}
 use Rattle.checker.specs.declared.Answer.{Answer}
 use Rattle.checker.specs.Answer.{accepted, passes}
 use Rattle.checker.specs.Routine.{Routine, routineOf, count, rowAt, entryRow, resultEntry}
-use Rattle.checker.specs.Passes.{readPass, flowOf, arrive, changeBy, applied, cross, edges, look, resultRegister, checkOf}
+use Rattle.checker.specs.Passes.{readPass, arrive, changeBy, applied, cross, edges, look, resultRegister, checkOf}
 
 pub record Checked (t : Routine) : Type 0 where
   -- 20
@@ -44,7 +44,7 @@ pub record Checked (t : Routine) : Type 0 where
   -- 2, 24
   pub reads : (w : ℕ) → w < count t → passes (readPass (t .readings) w) ≡ true
   -- 3
-  pub flows : (w : ℕ) → w < count t → flowOf (t .readings) w (readingAt (t .readings) w) ≡ true
+  pub flows : Flowing (t .readings)
   -- 15
   pub entry : misfit (entryRow (t .entry)) (rowAt (t .rows) 0) ≡ None
   -- each word that is examined
@@ -54,43 +54,6 @@ pub record Checked (t : Routine) : Type 0 where
 -- An accepted check has passed every pass.
 abbrev pub Accepts : Type 0
 Accepts = (p : Policy) (words rows entry result : List ℕ) → checkOf p words rows entry result ≡ accepted → Checked (routineOf p words rows entry result)
-
--- an edge ends at a word of the code, or at the caller
-abbrev pub InCode : List Reading → Destination → Type 0
-InCode readings (To w) = w .0 < length readings
-InCode readings Caller = Unit {0}
-
--- where an instruction goes: a transfer's slot is in the code and it stands in none; each edge of a word that is examined ends in the code
-pub record Flows (readings : List Reading) (w : ℕ) (x : Instruction) : Type 0 where
-  pub slot : isTransfer x ≡ true → w + 1 < length readings
-  pub free : isTransfer x ≡ true → isSlot readings w ≡ false
-  pub ends : examined readings w ≡ true → (taken : Bool) → edgeOf w x taken .exists ≡ true → InCode readings (edgeOf w x taken .to)
-
--- An instruction that passed 3 flows so.
-abbrev pub InstructionFlows : Type 0
-InstructionFlows = (readings : List Reading) (w : ℕ) (x : Instruction) → flowOf readings w (Read x) ≡ true → Flows readings w x
-
--- each word passes 3
-abbrev pub Flowing : List Reading → Type 0
-Flowing readings = (w : ℕ) → w < length readings → flowOf readings w (readingAt readings w) ≡ true
-
--- an edge ends at a word of the code that is examined, or at the caller
-abbrev pub Lands : List Reading → Destination → Type 0
-Lands readings (To w) = (w .0 < length readings) × (examined readings (w .0) ≡ true)
-Lands readings Caller = Unit {0}
-
--- Where each word passes 3, an edge of a word that is examined leads to another that is: by the edges alone no word runs unexamined. Request 4
--- rests on it: a taken edge may land on a slot, which is examined then.
-abbrev pub EdgesLand : Type 0
-EdgesLand =
-    (readings : List Reading) → Flowing readings → (w : ℕ) (x : Instruction) → readingAt readings w ≡ Read x → w < length readings
-    → examined readings w ≡ true → (taken : Bool) → edgeOf w x taken .exists ≡ true → Lands readings (edgeOf w x taken .to)
-
--- .. and the slot of a transfer is an operation
-abbrev pub SlotOperates : Type 0
-SlotOperates =
-    (readings : List Reading) → Flowing readings → (w : ℕ) → w + 1 < length readings → transfers (readingAt readings w) ≡ true
-    → transfers (readingAt readings (w + 1)) ≡ false
 
 -- a row after a change
 abbrev pub After : Row → Change → Row → Type 0

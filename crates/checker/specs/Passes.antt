@@ -11,9 +11,9 @@ use Rattle.v8.specs.declared.Reading.the-variants.{Read, Unread}
 use Rattle.flow.specs.declared.Destination.{Destination}
 use Rattle.flow.specs.declared.Destination.the-variants.{To, Caller}
 use Rattle.flow.specs.declared.Edge.{Edge}
-use Rattle.flow.specs.Transfer.{isTransfer}
 use Rattle.flow.specs.Edge.{edgeOf}
-use Rattle.flow.specs.Readings.{readingAt, isSlot, examined}
+use Rattle.flow.specs.Readings.{readingAt, examined}
+use Rattle.flow.specs.Flow.{flowOf}
 use Rattle.policy.specs.declared.Policy.{Policy}
 use Rattle.policy.specs.Policy.{policyOk}
 use Rattle.rows.specs.declared.Flaw.{Flaw}
@@ -70,33 +70,9 @@ ifRead w (Unread number) = refuse number w 0
 unfoldable pub readPass : List Reading → ℕ → Answer
 readPass readings w = ifRead w (readingAt readings w)
 
--- "3 flow, its word: a transfer (Bicc or return) that is the last word; a transfer in a slot; the next word outside the code, that is one on
--- for other words outside slots and two on for a branch with an untaken edge; for a branch with a taken edge, a target outside the code";
--- request 4: "3 no longer covers a target that is a slot; a targeted slot whose next word is outside gives 3, with the slot's word"
-module _ (readings : List Reading) where
-  -- an edge ends at a word of the code, or at the caller
-  abbrev pub inCode : Destination → Bool
-  inCode (To w) = ltb (w .0) (length readings)
-  inCode Caller = true
-
-  -- an edge, if there is one, ends there
-  abbrev pub edgeFlow : Edge → Bool
-  edgeFlow e = not (e .exists) || inCode (e .to)
-
-  abbrev pub edgesFlow : ℕ → Instruction → Bool
-  edgesFlow w x = edgeFlow (edgeOf w x true) && edgeFlow (edgeOf w x false)
-
-  -- the slot of a transfer is in the code, and it stands in none
-  abbrev pub transferFlow : ℕ → Bool
-  transferFlow w = ltb (w + 1) (length readings) && not (isSlot readings w)
-
-  -- the flow of an instruction: a transfer's, and that of the edges of a word that is examined
-  abbrev pub flowOf : ℕ → Reading → Bool
-  flowOf w (Read x) = (not (isTransfer x) || transferFlow w) && (not (examined readings w) || edgesFlow w x)
-  flowOf w (Unread number) = true
-
-  unfoldable pub flowPass : ℕ → Answer
-  flowPass w = need (flowOf w (readingAt readings w)) badFlow w 0
+-- "3 flow, its word"
+unfoldable pub flowPass : List Reading → ℕ → Answer
+flowPass readings w = need (flowOf readings w (readingAt readings w)) badFlow w 0
 
 -- "15 the entry row does not fit row 0: lowest register or 32"
 unfoldable pub entryPass : List ℕ → List ℕ → Answer

@@ -4,8 +4,6 @@ use v8::WordIndex;
 
 // Answers.
 pub mod answers;
-// The flow of a word.
-mod landing;
 // Rows of words, and what is asked of a row that arrives.
 mod arrival;
 // The edges of a word.

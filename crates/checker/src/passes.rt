@@ -10,9 +10,10 @@ ghost use Rattle.checker.specs.Answer.{passOf};
 ghost use Rattle.checker.specs.Passes.{rowPass, ifRead, readPass, flowPass, entryPass};
 use crate::Answer;
 use crate::answers::accept;
+use crate::answers::need;
 use crate::answers::refuse;
 use crate::answers::unless_fault;
-use crate::landing::flow_at;
+use flow::flows::flows;
 use flow::readings::transfers;
 use policy::Policy;
 use rows::formed_at;
@@ -23,6 +24,7 @@ use rows::read_row;
 use v8::Reading;
 use v8::WordIndex;
 use v8::numbers::ACCEPTED;
+use v8::numbers::BAD_FLOW;
 use v8::numbers::BAD_ROW;
 use v8::numbers::ENTRY_MISFIT;
 use v8::numbers::MOST_WORDS;
@@ -96,7 +98,8 @@ pub fn flow_pass(
     let mut i: usize = 0;
     while i < words.len() {
         let x = readings[i];
-        let found = flow_at(words, WordIndex(i as u32), in_slot, marks[i], x);
+        let at = WordIndex(i as u32);
+        let found = need(flows(words, at, in_slot, marks[i], x), BAD_FLOW, at);
         if found.number != ACCEPTED {
             return found;
         }

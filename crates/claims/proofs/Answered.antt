@@ -18,6 +18,7 @@ use Rattle.policy.specs.declared.Policy.{Policy}
 use Rattle.memory.specs.Memory.{byteAt}
 use Rattle.flow.specs.Transfer.{slotRuns, targetOf}
 use Rattle.flow.specs.Readings.{transfers, isSlot, isTarget}
+use Rattle.flow.specs.Flow.{flowOf}
 use Rattle.rows.specs.Entry.{isReturn, constant, fits}
 use Rattle.rows.specs.declared.Flaw.the-variants.{None}
 use Rattle.rows.specs.Geometry.{rowBytes}
@@ -27,7 +28,7 @@ use Rattle.rules.specs.Change.{branchChange, returnChange}
 use Rattle.rules.specs.Narrow.{narrowRow}
 use Rattle.checker.specs.Answer.{accepted, refuse, need, passes, passOf}
 use Rattle.checker.specs.Routine.{Routine, routineOf}
-use Rattle.checker.specs.Passes.{shapeOk, rowPass, readPass, flowOf, flowPass, entryPass, cross, narrowedEdge, wordPass, checkOf}
+use Rattle.checker.specs.Passes.{shapeOk, rowPass, readPass, flowPass, entryPass, cross, narrowedEdge, wordPass, checkOf}
 use Rattle.claims.specs.Claims.{nop, returnWord, alwaysHere, WellFormedEntry, AllRowsEqual, ReturnThenNop, OneNop, LoopAccepted}
 use Rattle.claims.proofs.Agreeing.{Agree, same-row}
 use Rattle.claims.proofs.Passing.{unless-none, formed-too, all-pass, flow-answers, all-accept}

@@ -7,7 +7,7 @@ use mathlib.Core.List.{List}
 use native.Mathlib.Omega.{arith}
 use lib.Dec.{eqb}
 use borrow.Author.Tests.{eqb-true, eq-eqb}
-use Rattle.v8.proofs.Choice.{cond-both}
+use Rattle.v8.proofs.Choice.{cond-both, and-went}
 use Rattle.v8.proofs.Search.{needed, needed-le}
 use Rattle.rows.specs.declared.Entry.{Entry}
 use Rattle.rows.specs.declared.Flaw.the-variants.{None}
@@ -16,7 +16,7 @@ use Rattle.rows.specs.declared.Row.{Row}
 use Rattle.rows.specs.Entry.{isComparison, noteOk, fitsNote}
 use Rattle.rows.specs.Geometry.{noteStart, noteName, places, entryNamed}
 use Rattle.rows.specs.Row.{entryAt, entriesWith, rowWith, noteOf, rowOf, formedAt, formFault, fitsAt, misfitsAt, misfit}
-use Rattle.rows.proofs.Tests.{or-true, and-went}
+use Rattle.rows.proofs.Tests.{or-true}
 use Rattle.rows.proofs.LowestFlaw.{no-flaw}
 use Rattle.rows.proofs.Order.{fits-self}
 use Rattle.rows.proofs.Obeying.{formed-each, row-obeys}

@@ -8,7 +8,7 @@ use mathlib.Core.List.{List, [], _∷_}
 use lib.Dec.{leb, ltb, eqb}
 use lib.ListN.{getD}
 use borrow.Author.Tests.{leb-true, ltb-true, eqb-true}
-use Rattle.v8.proofs.Choice.{or-went}
+use Rattle.v8.proofs.Choice.{or-went, and-went, false-true}
 use Rattle.v8.specs.Search.{all}
 use Rattle.v8.proofs.Search.{all-at}
 use Rattle.v8.specs.Signed.{excess, bias}
@@ -26,7 +26,6 @@ use Rattle.rows.specs.Entry.{isUnset, fieldEntry}
 use Rattle.rows.specs.Geometry.{entryCount}
 use Rattle.rows.specs.Row.{entryAt}
 use Rattle.rows.specs.Matches.{Host, baseOf, HoldsAs, Holds, Matches}
-use Rattle.rows.proofs.Tests.{and-went, false-true}
 use Rattle.guarantee.specs.Fields.{loadFor, fieldOf, elementAt, Declared}
 
 -- every number of a list lies below m

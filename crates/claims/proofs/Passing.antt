@@ -13,7 +13,7 @@ use Rattle.rows.specs.declared.Flaw.{Flaw}
 use Rattle.rows.specs.declared.Flaw.the-variants.{None}
 use Rattle.rows.specs.Geometry.{rowBytes}
 use Rattle.rows.specs.Row.{brokenAt, formFault}
-use Rattle.rows.proofs.Tests.{false-true}
+use Rattle.v8.proofs.Choice.{false-true}
 use Rattle.rows.proofs.LowestFlaw.{none-broken, no-flaw}
 use Rattle.checker.specs.declared.Answer.{Answer}
 use Rattle.checker.specs.Answer.{accepted, passes, refuses, passOf}

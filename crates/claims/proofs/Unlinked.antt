@@ -26,7 +26,7 @@ use Rattle.rows.specs.Entry.{sizeIn, entryOk, fits, noteOk, fitsNote, fieldEntr
 use Rattle.rows.specs.Flaw.{flawFrom}
 use Rattle.rows.specs.Row.{entryAt, entriesWith, entryOf, noteOf, rowOf, formedAt, formFault, fitsAt, misfit}
 use Rattle.rows.specs.Matches.{Host, RowMatches}
-use Rattle.rows.proofs.Tests.{false-true}
+use Rattle.v8.proofs.Choice.{false-true}
 use Rattle.rules.specs.Result.{offsetsGive, addressSum, addressDifference, aluResult}
 use Rattle.rules.specs.Reach.{inField, inRegion, reachOf}
 use Rattle.rules.specs.Change.{noteAfter, codesNote, aluChange, accessChange, branchChange, returnChange}

@@ -1,3 +1,4 @@
 pub mod Fetched
 pub mod Filled
 pub mod Examined
+pub mod Onward

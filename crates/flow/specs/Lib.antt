@@ -1,3 +1,5 @@
 pub mod Transfer
 pub mod Edge
 pub mod Readings
+pub mod Flow
+pub mod Laws

@@ -8,6 +8,8 @@ pub mod transfer;
 pub mod edges;
 // The words as they are read.
 pub mod readings;
+// Where control may go from a word.
+pub mod flows;
 
 use alu::Narrowing;
 use v8::WordIndex;

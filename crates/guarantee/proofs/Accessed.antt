@@ -8,7 +8,7 @@ use native.Mathlib.Omega.{arith}
 use lib.Dec.{leb, ltb, eqb}
 use lib.ListN.{getD}
 use borrow.Author.Tests.{leb-true, ltb-true, ltb-false, lt-ltb, le-leb, eq-eqb}
-use Rattle.v8.proofs.Choice.{cond-both}
+use Rattle.v8.proofs.Choice.{cond-both, and-went, false-true}
 use Rattle.v8.specs.Search.{first}
 use Rattle.v8.proofs.Search.{first-passes, first-least}
 use Rattle.v8.specs.declared.StoreOp.{StoreOp}
@@ -45,7 +45,6 @@ use Rattle.rows.specs.Entry.{isUnset, fits, fieldEntry}
 use Rattle.rows.specs.Row.{entryAt, rowWith}
 use Rattle.rows.specs.Matches.{Host, baseOf, Holds}
 use Rattle.rows.specs.Laws.{EntryRules}
-use Rattle.rows.proofs.Tests.{and-went, false-true}
 use Rattle.rows.proofs.Fitting.{fits-matches}
 use Rattle.rows.proofs.Obeying.{field-entry-obeys}
 use Rattle.rules.specs.declared.Reach.{Reach}

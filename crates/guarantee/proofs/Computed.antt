@@ -6,7 +6,7 @@ use mathlib.Core.Bool.{Bool, true, false, not, cond, _&&_}
 use mathlib.Core.List.{List}
 use native.Mathlib.Omega.{arith}
 use lib.Dec.{leb, eqb}
-use Rattle.v8.proofs.Choice.{cond-both}
+use Rattle.v8.proofs.Choice.{cond-both, and-went}
 use Rattle.v8.specs.Signed.{excess}
 use Rattle.v8.specs.declared.AluOp.{AluOp}
 use Rattle.v8.specs.declared.ShiftOp.{ShiftOp}
@@ -30,7 +30,6 @@ use Rattle.rows.specs.Entry.{isUnset, isNumber, constant, isConstant, isCompari
 use Rattle.rows.specs.Row.{entryAt, rowWith}
 use Rattle.rows.specs.Matches.{Host, Holds}
 use Rattle.rows.specs.Laws.{EntryRules}
-use Rattle.rows.proofs.Tests.{and-went}
 use Rattle.rows.proofs.ByKind.{number-rules, holds-number, ruled-number}
 use Rattle.rules.specs.declared.Result.{Result}
 use Rattle.rules.specs.declared.Result.the-variants.{Gives, Fails}

@@ -7,7 +7,7 @@ use mathlib.Core.Bool.{true}
 use native.Mathlib.Omega.{arith}
 use lib.Dec.{ltb}
 use borrow.Author.Tests.{ltb-true, ltb-false}
-use Rattle.v8.proofs.Choice.{cond-both}
+use Rattle.v8.proofs.Choice.{cond-both, false-true}
 use Rattle.v8.specs.Signed.{signExtend, excess}
 use Rattle.v8.specs.declared.LoadOp.{LoadOp}
 use Rattle.v8.specs.declared.LoadOp.the-variants.{Ld, Ldub, Lduh, Ldsb, Ldsh}
@@ -25,7 +25,6 @@ use Rattle.memory.proofs.Starts.{one-part}
 use Rattle.access.specs.Serve.{loadServes, storeServes}
 use Rattle.sets.specs.Sets.{Step, s1, s2, s4}
 use Rattle.sets.proofs.Steps.{by-step}
-use Rattle.rows.proofs.Tests.{false-true}
 use Rattle.guarantee.specs.Fields.{loadFor, fieldOf, byteOf}
 
 -- the elements 1 to 7, one by one

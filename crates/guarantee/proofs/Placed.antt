@@ -7,12 +7,11 @@ use native.Mathlib.Omega.{arith}
 use lib.Dec.{leb, ltb, eqb}
 use lib.ListN.{length, getD}
 use borrow.Author.Tests.{eqb-true, leb-true, ltb-true, ltb-false}
-use Rattle.v8.proofs.Choice.{or-went}
+use Rattle.v8.proofs.Choice.{or-went, and-went}
 use Rattle.v8.specs.Search.{all}
 use Rattle.v8.proofs.Search.{all-at, needed, needed-eq}
 use Rattle.memory.specs.Place.{lengthOf}
 use Rattle.machine.specs.Placement.{basePlacedAt, apartIn, disjointIn, placedIn}
-use Rattle.rows.proofs.Tests.{and-went}
 use Rattle.rules.specs.Laws.{Laid}
 use Rattle.guarantee.specs.Guarantee.{hostOf}
 

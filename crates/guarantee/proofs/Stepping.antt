@@ -8,7 +8,7 @@ use mathlib.Core.List.{List}
 use native.Mathlib.Omega.{arith}
 use lib.Dec.{eqb}
 use borrow.Author.Tests.{eqb-true, eq-eqb}
-use Rattle.v8.proofs.Choice.{cond-both}
+use Rattle.v8.proofs.Choice.{cond-both, false-true}
 use Rattle.v8.specs.Numbers.{never, always, unsetOperand}
 use Rattle.v8.specs.declared.Bicc.{Bicc}
 use Rattle.v8.specs.declared.Operation.{Operation}
@@ -43,7 +43,6 @@ use Rattle.rows.specs.Entry.{isUnset, isReturn}
 use Rattle.rows.specs.Row.{entryAt}
 use Rattle.rows.specs.Matches.{Host}
 use Rattle.rows.specs.Laws.{EntryRules, RowRules}
-use Rattle.rows.proofs.Tests.{false-true}
 use Rattle.rows.proofs.Fitting.{fits-matches}
 use Rattle.rows.proofs.RowFitting.{row-fits}
 use Rattle.rows.proofs.Obeying.{row-obeys}
@@ -57,8 +56,9 @@ use Rattle.rules.proofs.Narrowed.{narrows-row}
 use Rattle.checker.specs.Answer.{passes}
 use Rattle.checker.specs.Routine.{Routine, count, rowAt, resultEntry}
 use Rattle.checker.specs.Passes.{ifRead, readPass, arrive, changeBy, applied, cross, edges, resultRegister}
-use Rattle.checker.specs.Laws.{Checked, Lands, After}
-use Rattle.checker.proofs.Onward.{flows, edges-land, slot-operates}
+use Rattle.flow.specs.Laws.{Lands}
+use Rattle.checker.specs.Laws.{Checked, After}
+use Rattle.flow.proofs.Onward.{flows, edges-land, slot-no-transfer}
 use Rattle.checker.proofs.Looked.{word-makes, edges-looked, slot-applied, slot-skipped, arrives}
 use Rattle.guarantee.specs.Safe.{OperationSafe, ReadingSafe}
 use Rattle.guarantee.specs.Guarantee.{hostOf, heldOf}
@@ -168,7 +168,7 @@ module _ (t : Routine) (bases : List ℕ) (returns : ℕ) (wf : WellFormed (t .p
   slot-is w i e = at (word (w + 1)) refl
     where
       no : {x : Instruction} → word (w + 1) ≡ Read x → isTransfer x ≡ true → Operates (word (w + 1))
-      no q k = false-true (sym (slot-operates (t .readings) (ch .flows) w i e) ∙ ap transfers q ∙ k)
+      no q k = false-true (sym (slot-no-transfer (t .readings) (ch .flows) w i e) ∙ ap transfers q ∙ k)
 
       at : (x : Reading) → word (w + 1) ≡ x → Operates (word (w + 1))
       at (Unread n) q = unread (w + 1) n i q

@@ -24,7 +24,7 @@ use Rattle.rows.specs.Entry.{entryOk}
 use Rattle.rows.specs.Row.{entryAt, entryOf}
 use Rattle.rows.specs.Matches.{Host, Holds, RowMatches}
 use Rattle.rows.specs.Laws.{EntryRules, RowRules}
-use Rattle.rows.proofs.Tests.{and-went}
+use Rattle.v8.proofs.Choice.{and-went}
 use Rattle.rows.proofs.RowFitting.{row-fits}
 use Rattle.rows.proofs.Obeying.{entry-obeys, row-obeys}
 use Rattle.rules.specs.Laws.{Laid}

@@ -13,7 +13,7 @@ use Rattle.flow.specs.Readings.{readingsOf}
 use Rattle.flow.proofs.Fetched.{read-count}
 use Rattle.policy.specs.declared.Policy.{Policy}
 use Rattle.policy.specs.Policy.{policyOk}
-use Rattle.rows.proofs.Tests.{and-went, false-true}
+use Rattle.v8.proofs.Choice.{and-went, false-true}
 use Rattle.checker.specs.declared.Answer.{Answer}
 use Rattle.checker.specs.Answer.{accepted, refuse, passes, refuses, andThen, passOf}
 use Rattle.checker.specs.Passes.{startOk, readPass, flowPass}

@@ -9,7 +9,7 @@ use lib.ListN.{length}
 use borrow.Author.Tests.{ltb-true}
 use Rattle.v8.specs.declared.Reading.{Reading}
 use Rattle.v8.specs.declared.Reading.the-variants.{Read, Unread}
-use Rattle.v8.proofs.Choice.{cond-both}
+use Rattle.v8.proofs.Choice.{cond-both, and-went}
 use Rattle.v8.proofs.Search.{and-both}
 use Rattle.flow.specs.declared.Destination.{Destination}
 use Rattle.flow.specs.declared.Destination.the-variants.{To, Caller}
@@ -17,7 +17,6 @@ use Rattle.flow.specs.declared.Edge.{Edge}
 use Rattle.flow.specs.Transfer.{isTransfer}
 use Rattle.flow.specs.Edge.{edgeOf}
 use Rattle.flow.specs.Readings.{readingAt, examined}
-use Rattle.rows.proofs.Tests.{and-went}
 use Rattle.marks.specs.Marks.{registerCount}
 use Rattle.marks.specs.Effect.{marksAfter}
 use Rattle.lister.specs.Table.{marksAt, reached, TableAtMost}

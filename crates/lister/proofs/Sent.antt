@@ -16,7 +16,7 @@ use Rattle.flow.specs.declared.Edge.{Edge}
 use Rattle.flow.specs.Transfer.{isTransfer}
 use Rattle.flow.specs.Edge.{edgeOf}
 use Rattle.flow.specs.Readings.{readingAt, examined}
-use Rattle.rows.proofs.Tests.{and-went, false-true}
+use Rattle.v8.proofs.Choice.{and-went, false-true}
 use Rattle.marks.specs.Marks.{notReached, unset, registerCount, markOf, MarksAtMost, hasMark}
 use Rattle.marks.specs.Effect.{marksAfter, marksAfterWord}
 use Rattle.marks.specs.Laws.{AllMarked}

@@ -12,9 +12,8 @@ use lib.ListN.{length, replicate, length-replicate, getD-replicate}
 use borrow.Author.Tests.{eqb-true, eqb-false, ltb-true, ltb-false}
 use Rattle.v8.specs.Search.{all}
 use Rattle.v8.specs.declared.Reading.{Reading}
-use Rattle.v8.proofs.Choice.{cond-both}
+use Rattle.v8.proofs.Choice.{cond-both, and-went, false-true}
 use Rattle.v8.proofs.Search.{all-at, all-each, and-both}
-use Rattle.rows.proofs.Tests.{and-went, false-true}
 use Rattle.marks.specs.Marks.{notReached, AtMost, registerCount}
 use Rattle.marks.proofs.Order.{none-at-most, at-most-both}
 use Rattle.lister.specs.Table.{markAt, TableAtMost, height}

@@ -9,7 +9,7 @@ use lib.Dec.{ltb, eqb}
 use lib.ListN.{length, getD, set, length-set}
 use lib.Seq.{ext-getD, getD-set-same, getD-set-other, set-getD}
 use borrow.Author.Tests.{ltb-true, ltb-false, lt-ltb, le-ltb, eqb-true, eqb-false, eq-eqb}
-use Rattle.rows.proofs.Tests.{false-true}
+use Rattle.v8.proofs.Choice.{false-true}
 use Rattle.marks.specs.Marks.{notReached, meet, AtMost, registerCount, markOf}
 use Rattle.marks.proofs.Order.{meets-lowest, at-most-self}
 use Rattle.lister.specs.Table.{placeOf, markAt, raisedAt, TableAtMost, height}

@@ -9,7 +9,7 @@ use lib.ListN.{length, set, length-set}
 use lib.Seq.{getD-set-same, getD-set-other}
 use borrow.Author.Tests.{ltb-true, ltb-false, ne-eqb}
 use Rattle.v8.specs.Numbers.{mostWords}
-use Rattle.rows.proofs.Tests.{false-true}
+use Rattle.v8.proofs.Choice.{false-true}
 use Rattle.marks.specs.Marks.{registerCount}
 use Rattle.marks.proofs.Values.{values-length, value-at, has-all}
 use Rattle.lister.specs.Table.{placeOf, markAt, marksAt, raisedAt, TableAtMost, height}

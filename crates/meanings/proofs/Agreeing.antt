@@ -10,7 +10,7 @@ use lib.Dec.{ltb, eqb}
 use lib.ListN.{length}
 use lib.Seq.{getD-set-same, getD-set-other}
 use borrow.Author.Tests.{eqb-true, eqb-false, ltb-true, ne-eqb}
-use Rattle.v8.proofs.Choice.{cond-both}
+use Rattle.v8.proofs.Choice.{cond-both, and-went, false-true}
 use Rattle.v8.specs.declared.AluOp.{AluOp}
 use Rattle.v8.specs.declared.AluOp.the-variants.{Add, And, Or, Xor, Sub, Andn, Orn, Xnor}
 use Rattle.v8.specs.declared.Operand.{Operand}
@@ -38,7 +38,6 @@ use Rattle.step.specs.Registers.{valueIn, setIn, valuesWith, valueOf, isSet, wr
 use Rattle.step.specs.Effect.{Core, Effect, fault, done, aluRegisters, aimOf, movedSet, touching, accessAt, accessAimed, effectOf}
 use Rattle.flow.specs.Transfer.{accessWrites}
 use Rattle.rows.specs.Matches.{Host}
-use Rattle.rows.proofs.Tests.{and-went, false-true}
 use Rattle.marks.specs.Marks.{notReached, registerCount, markOf, marksWith}
 use Rattle.marks.specs.Effect.{operandMark, isR0, ofNumbers, orMark, aluMark, accessMark, marksAfter}
 use Rattle.marks.specs.Laws.{AllMarked}

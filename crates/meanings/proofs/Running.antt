@@ -28,7 +28,7 @@ use Rattle.rows.proofs.ReadRows.{entry-read}
 use Rattle.rows.proofs.ByKind.{held-start, held-return}
 use Rattle.checker.specs.Answer.{passes, passOf}
 use Rattle.checker.specs.Passes.{flowPass}
-use Rattle.checker.specs.Laws.{Flowing}
+use Rattle.flow.specs.Laws.{Flowing}
 use Rattle.checker.proofs.Accepted.{each-passes, flow-holds}
 use Rattle.guarantee.specs.Guarantee.{hostOf, heldOf, Words, Each}
 use Rattle.guarantee.proofs.Whole.{zero-words, zero-matches}

@@ -7,7 +7,7 @@ use mathlib.Core.List.{List, []}
 use lib.Dec.{ltb, eqb}
 use lib.ListN.{length}
 use borrow.Author.Tests.{ltb-true, ltb-false, lt-ltb}
-use Rattle.v8.proofs.Choice.{cond-both}
+use Rattle.v8.proofs.Choice.{cond-both, and-went, false-true}
 use Rattle.v8.specs.declared.Bicc.{Bicc}
 use Rattle.v8.specs.declared.Operation.{Operation}
 use Rattle.v8.specs.declared.Instruction.{Instruction}
@@ -31,9 +31,8 @@ use Rattle.step.specs.Control.{goTo, atSlot, dueAt}
 use Rattle.step.specs.Effect.{Core, Effect, fault, done, effectOf}
 use Rattle.step.specs.Step.{State, Step, stopped, next, returned, advance, follow, plainStep, branchStep, returnStep, stepWith, stepOf}
 use Rattle.rows.specs.Matches.{Host}
-use Rattle.rows.proofs.Tests.{and-went, false-true}
-use Rattle.checker.specs.Laws.{Flowing, Lands}
-use Rattle.checker.proofs.Onward.{flows, edges-land}
+use Rattle.flow.specs.Laws.{Flowing, Lands}
+use Rattle.flow.proofs.Onward.{flows, edges-land}
 use Rattle.guarantee.proofs.Stepping.{decided}
 use Rattle.marks.specs.Marks.{unset, registerCount, markOf}
 use Rattle.marks.specs.Effect.{marksAfter, marksAfterWord}

@@ -7,7 +7,7 @@ use mathlib.Core.Bool.{Bool, true, false, _&&_, _||_}
 use native.Mathlib.Omega.{arith}
 use lib.Dec.{eqb}
 use borrow.Author.Tests.{eqb-true, eq-eqb}
-use Rattle.v8.proofs.Choice.{or-went}
+use Rattle.v8.proofs.Choice.{or-went, and-went, false-true}
 use Rattle.v8.specs.Signed.{excess, bias}
 use Rattle.sets.specs.declared.NumberSet.{NumberSet}
 use Rattle.sets.specs.Sets.{fitsSet, Member}
@@ -18,7 +18,7 @@ use Rattle.rows.specs.Kind.{Kind, unset, number, address, start, returnA
 use Rattle.rows.specs.Entry.{isUnset, isNumber, isAddress, isStartOrNull, isReturn, isZero, isRegionStart, onlyZero, fits}
 use Rattle.rows.specs.Matches.{Host, baseOf, HoldsAs, Holds}
 use Rattle.rows.specs.Laws.{RulesAs, FitsMatches}
-use Rattle.rows.proofs.Tests.{and-went, true-or, or-true, false-true, other-kind}
+use Rattle.rows.proofs.Tests.{true-or, or-true, other-kind}
 use Rattle.rows.proofs.ByKind.{of-kind, each-kind, held-number, held-address, held-start, held-return, ruled-number, ruled-address}
 
 -- the ways in which an entry fits the start of a region or null

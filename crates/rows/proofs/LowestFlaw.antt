@@ -11,7 +11,7 @@ use Rattle.rows.specs.declared.Flaw.{Flaw}
 use Rattle.rows.specs.declared.Flaw.the-variants.{None, At}
 use Rattle.rows.specs.Geometry.{places}
 use Rattle.rows.specs.Flaw.{flawFrom, flawless}
-use Rattle.rows.proofs.Tests.{false-true}
+use Rattle.v8.proofs.Choice.{false-true}
 
 -- what says that there is none
 pub flawless-none : (f : Flaw) → flawless f ≡ true → f ≡ None

@@ -12,7 +12,7 @@ use borrow.Author.Tests.{ltb-true, ltb-false, leb-true, not-false}
 use Rattle.v8.specs.Signed.{bias}
 use Rattle.v8.proofs.Search.{needed}
 use Rattle.v8.proofs.Table.{at}
-use Rattle.v8.proofs.Choice.{cond-went, cond-both, or-went}
+use Rattle.v8.proofs.Choice.{cond-went, cond-both, or-went, and-went}
 use Rattle.policy.specs.Element.{mosts, mostOf}
 use Rattle.sets.specs.Sets.{setOk, s1, numbers, ended}
 use Rattle.sets.proofs.Formed.{obeys}
@@ -23,7 +23,6 @@ use Rattle.rows.specs.Entry.{noEntry, isUnset, isNumber, isAddress, isSt
 use Rattle.rows.specs.Geometry.{entryCount, entryStart, noteName, places}
 use Rattle.rows.specs.Row.{entryAt, entryOf, noteOf, rowOf, formedAt, brokenAt, formFault}
 use Rattle.rows.specs.Laws.{EntryRules, EntryObeys, RowObeys, FieldEntryObeys}
-use Rattle.rows.proofs.Tests.{and-went}
 use Rattle.rows.proofs.LowestFlaw.{none-broken}
 use Rattle.rows.proofs.Named.{not-note, named-below}
 use Rattle.rows.proofs.ByKind.{number-rules, address-rules, start-rules, unset-rules, return-rules}

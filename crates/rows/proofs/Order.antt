@@ -14,7 +14,7 @@ use Rattle.rows.specs.declared.Entry.{Entry}
 use Rattle.rows.specs.Kind.{Kind, kindOf}
 use Rattle.rows.specs.Entry.{isNumber, isAddress, isRegionStart, onlyZero}
 use Rattle.rows.specs.Laws.{RulesAs, FitsSelf, FitsOn}
-use Rattle.rows.proofs.Tests.{and-went}
+use Rattle.v8.proofs.Choice.{and-went}
 use Rattle.rows.proofs.ByKind.{as-kind, each-kind, ruled-number, ruled-address}
 use Rattle.rows.proofs.Fitting.{FitsStart, same, null, begins, FitsAs, fits-as, as-fits, start-address, only-zero}
 

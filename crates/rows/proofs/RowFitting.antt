@@ -6,7 +6,7 @@ use mathlib.Core.Bool.{Bool, true, false, not, _&&_, _||_}
 use native.Mathlib.Omega.{arith}
 use lib.Dec.{eqb, ltb}
 use borrow.Author.Tests.{eqb-true, ltb-true, ltb-false, le-ltb, not-true, not-false}
-use Rattle.v8.proofs.Choice.{or-went}
+use Rattle.v8.proofs.Choice.{or-went, and-went, false-true}
 use Rattle.rows.specs.declared.Entry.{Entry}
 use Rattle.rows.specs.declared.Flaw.the-variants.{None}
 use Rattle.rows.specs.declared.Row.{Row}
@@ -15,7 +15,7 @@ use Rattle.rows.specs.Geometry.{entryCount, noteName, places}
 use Rattle.rows.specs.Row.{entryAt, fitsAt, misfitsAt, misfit}
 use Rattle.rows.specs.Matches.{Matches, NoteMatches}
 use Rattle.rows.specs.Laws.{NoteFits, RowFits}
-use Rattle.rows.proofs.Tests.{and-went, false-true, one-kind}
+use Rattle.rows.proofs.Tests.{one-kind}
 use Rattle.rows.proofs.LowestFlaw.{none-broken}
 use Rattle.rows.proofs.Named.{not-note, named-below}
 use Rattle.rows.proofs.Fitting.{fits-matches}

@@ -1,17 +1,9 @@
--- What tests that passed say: that both of two did, or one; and that an entry has one kind.
+-- What tests that passed say: one of two is enough; and an entry has one kind.
 use Prim.Native.Nat.{ℕ}
 use mathlib.Core.Path.{_≡_, refl, sym, _∙_}
-use mathlib.Core.Bool.{Bool, true, false, _&&_, _||_}
-use native.Mathlib.Omega.{arith}
+use mathlib.Core.Bool.{Bool, true, false, _||_}
 use lib.Dec.{eqb}
 use borrow.Author.Tests.{eqb-true, ne-eqb}
-
-pub false-true : {C : Type 0} → false ≡ true → C
-false-true e = let z : _≡_ {A = ℕ} 0 1 = cc in absurd (omega arith)
-
-pub and-went : (a b : Bool) → a && b ≡ true → (a ≡ true) × (b ≡ true)
-and-went true b e = (refl, e)
-and-went false b e = false-true e
 
 pub true-or : (a b : Bool) → a ≡ true → a || b ≡ true
 true-or a b e = rw e

@@ -8,7 +8,7 @@ use mathlib.Core.List.{List}
 use native.Mathlib.Omega.{arith}
 use lib.Dec.{eqb}
 use borrow.Author.Tests.{eqb-true, eq-eqb}
-use Rattle.v8.proofs.Choice.{cond-both}
+use Rattle.v8.proofs.Choice.{cond-both, and-went, false-true}
 use Rattle.v8.specs.Signed.{excess, bias}
 use Rattle.v8.specs.declared.AluOp.the-variants.{Sub}
 use Rattle.alu.specs.Codes.{codesOf}
@@ -29,7 +29,7 @@ use Rattle.rows.specs.Entry.{noEntry, isNumber, isStartOrNull, isComparison, nu
 use Rattle.rows.specs.Row.{entryAt}
 use Rattle.rows.specs.Matches.{Host, baseOf, Holds, Matches, Held, RowMatches}
 use Rattle.rows.specs.Laws.{EntryRules, RowRules}
-use Rattle.rows.proofs.Tests.{and-went, false-true, other-kind}
+use Rattle.rows.proofs.Tests.{other-kind}
 use Rattle.rows.proofs.ByKind.{holds-number, holds-address, held-number, held-start, number-rules, address-rules, unset-rules, ruled-number, ruled-start}
 use Rattle.rules.specs.declared.EntryLeft.{EntryLeft}
 use Rattle.rules.specs.declared.EntryLeft.the-variants.{Left, Nothing}

@@ -9,7 +9,7 @@ use lib.ListN.{getD}
 use lib.Dec.{ltb, eqb}
 use borrow.Author.Tests.{eqb-true, ltb-false, not-false}
 use Rattle.v8.specs.Signed.{bias}
-use Rattle.v8.proofs.Choice.{cond-both}
+use Rattle.v8.proofs.Choice.{cond-both, and-went}
 use Rattle.v8.specs.declared.AluOp.the-variants.{Add}
 use Rattle.v8.specs.declared.LoadOp.the-variants.{Ld, Ldub, Lduh, Ldsb, Ldsh}
 use Rattle.v8.specs.declared.StoreOp.the-variants.{St, Stb, Sth}
@@ -36,7 +36,6 @@ use Rattle.rows.specs.declared.Entry.{Entry}
 use Rattle.rows.specs.Entry.{isNumber, isAddress, isStartOrNull, sizeIn}
 use Rattle.rows.specs.Matches.{Host, baseOf, Holds}
 use Rattle.rows.specs.Laws.{EntryRules}
-use Rattle.rows.proofs.Tests.{and-went}
 use Rattle.rows.proofs.ByKind.{held-number, held-address, ruled-number, ruled-address}
 use Rattle.rules.specs.declared.Reach.{Reach}
 use Rattle.rules.specs.declared.Reach.the-variants.{Inside, Outside}

@@ -10,7 +10,7 @@ use lib.Bits.{or-zero-l, or-zero-r}
 use lib.Dec.{leb, eqb}
 use lib.ListN.{getD}
 use borrow.Author.Tests.{eqb-true, leb-true, lt-ltb}
-use Rattle.v8.proofs.Choice.{cond-both}
+use Rattle.v8.proofs.Choice.{cond-both, and-went, false-true}
 use Rattle.v8.specs.Signed.{excess, bias}
 use Rattle.v8.specs.declared.AluOp.{AluOp}
 use Rattle.v8.specs.declared.AluOp.the-variants.{Add, And, Or, Xor, Sub, Andn, Orn, Xnor}
@@ -29,7 +29,6 @@ use Rattle.rows.specs.declared.Entry.{Entry}
 use Rattle.rows.specs.Entry.{isNumber, isAddress, isStartOrNull, isZero, isConstant, wordOf, constant, numberIn, addressIn, sizeIn}
 use Rattle.rows.specs.Matches.{Host, baseOf, Holds}
 use Rattle.rows.specs.Laws.{EntryRules}
-use Rattle.rows.proofs.Tests.{and-went, false-true}
 use Rattle.rows.proofs.ByKind.{holds-number, holds-address, held-number, held-address, number-rules, address-rules, ruled-number, ruled-address}
 use Rattle.rows.proofs.Fitting.{zero-holds}
 use Rattle.rules.specs.declared.Result.{Result}

@@ -9,7 +9,7 @@ use lib.Dec.{leb, ltb, eqb}
 use lib.ListN.{length, getD, set, length-set, List·getD-eq-default}
 use lib.Seq.{getD-set-same, getD-set-other}
 use borrow.Author.Tests.{eqb-true, eqb-false, ltb-true, ltb-false, eq-eqb, ne-eqb}
-use Rattle.v8.proofs.Choice.{cond-both}
+use Rattle.v8.proofs.Choice.{cond-both, and-went, false-true}
 use Rattle.v8.specs.Signed.{excess}
 use Rattle.v8.specs.declared.AluOp.{AluOp}
 use Rattle.v8.specs.declared.AluOp.the-variants.{Add, And, Or, Xor, Sub, Andn, Orn, Xnor}
@@ -21,7 +21,6 @@ use Rattle.rows.specs.Entry.{noEntry, isConstant, isComparison, codesSet, compa
 use Rattle.rows.specs.Row.{entryAt, entriesWith, rowWith}
 use Rattle.rows.specs.Matches.{Host, Holds, Matches, Held, NoteMatches}
 use Rattle.rows.specs.Laws.{EntryRules}
-use Rattle.rows.proofs.Tests.{and-went, false-true}
 use Rattle.rows.proofs.ByKind.{unset-rules}
 use Rattle.rules.specs.Result.{isSub}
 use Rattle.rules.specs.Change.{noteAfter, codesNote}

@@ -1,7 +1,7 @@
 -- The vocabulary that all definitions share: a choice by a test is the library's `cond`.
--- Here stand the way a choice and an alternative went, and the set of laws that turns facts about numbers into the outcomes of tests.
-use mathlib.Core.Path.{_≡_, refl}
-use mathlib.Core.Bool.{Bool, true, false, true≢false, cond, _||_}
+-- Here stand the way a choice, two tests and an alternative went, and the set of laws that turns facts about numbers into the outcomes of tests.
+use mathlib.Core.Path.{_≡_, refl, sym}
+use mathlib.Core.Bool.{Bool, true, false, true≢false, cond, _&&_, _||_}
 use borrow.Author.Tests.{lt-ltb, le-ltb, le-leb, lt-leb, eq-eqb, ne-eqb}
 
 -- the outcomes of tests, from facts about numbers: `search (tests, ..)`
@@ -17,6 +17,15 @@ pub cond-both : {A : Type 0} (P : A → Type 0) (t : Bool) {a b : A} → (t ≡ 
 cond-both P true f g = f refl
 cond-both P false f g = g refl
 
+-- a test that failed has not passed
+pub false-true : {C : Type 0} → false ≡ true → C
+false-true e = absurd (true≢false (sym e))
+
+-- both of two tests passed
+pub and-went : (a b : Bool) → a && b ≡ true → (a ≡ true) × (b ≡ true)
+and-went true b e = (refl, e)
+and-went false b e = false-true e
+
 -- which of two tests passed
 pub or-went : {C : Type 0} (a b : Bool) → a || b ≡ true → (a ≡ true → C) → (b ≡ true → C) → C
 or-went true b e f g = f refl
@@ -24,5 +33,5 @@ or-went false b e f g = g e
 
 -- neither did
 pub or-failed : (a b : Bool) → a || b ≡ false → (a ≡ false) × (b ≡ false)
-or-failed true b e = absurd (true≢false e)
+or-failed true b e = false-true (sym e)
 or-failed false b e = (refl, e)

@@ -13,7 +13,7 @@ use Rattle.checker.proofs.Looked.{straight}
 use Rattle.checker.proofs.Stages.{goes, stops}
 use mathlib.Core.Bool.{Bool, true, false, cond, not}
 use borrow.Author.Tests.{not-true, not-false}
-use Rattle.rows.proofs.Tests.{and-went}
+use Rattle.v8.proofs.Choice.{and-went}
 use borrow.Author.Needs.{needs}
 use Rattle.checker.proofs.edges.edges_of.Statement.{statement}
 use Rattle.checker.proofs.edges.edges_of.Tie as tie

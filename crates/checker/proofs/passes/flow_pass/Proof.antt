@@ -31,23 +31,27 @@ mul-x c = search needs
 array-copy-out-x : tie.Need-array-copy-out-x Inv-loop μ-loop
 array-copy-out-x c = search needs
 
-cast-t14 : tie.Need-cast-t14 Inv-loop μ-loop
-cast-t14 c = search needs
+cast-t15 : tie.Need-cast-t15 Inv-loop μ-loop
+cast-t15 c = search needs
 
-element-copy-out-flow-at : tie.Need-element-copy-out-flow-at Inv-loop μ-loop
-element-copy-out-flow-at c = search needs
+element-copy-out-flows : tie.Need-element-copy-out-flows Inv-loop μ-loop
+element-copy-out-flows c = search needs
 
-flow-at-requires : tie.Need-flow-at-requires Inv-loop μ-loop
-flow-at-requires c κs =
+flows-requires : tie.Need-flows-requires Inv-loop μ-loop
+flows-requires c κs =
     let s = c .before .before .before .before .before in
     let more = c .before .before .loop-test .taken in
     (omega (arith, more, s .pre .0), c .before .before .before .loop .inv .1, s .pre .2 _ more)
 
+need-requires : tie.Need-need-requires Inv-loop μ-loop
+need-requires c κs = search needs
+
 returns : tie.Need-returns Inv-loop μ-loop
 returns c =
-    let t = c .before .before .before .before .before in
+    let t = c .before .before .before .before .before .before in
     let s = t .before .before .before in
-    let here = flow-here (now (s .args .words)) (s .args .t2) (t .before .loop .i) (s .pre .1) (t .loop-test .taken) (s .pre .0) _ (c .before .before .flow-at .ensures) in
+    let here = flow-here (now (s .args .words)) (s .args .t2) (t .before .loop .i) (s .pre .1) (t .loop-test .taken) (s .pre .0) _ _ (c .before .before .before .flows .ensures)
+    (c .before .before .need .ensures) in
     sym (t .before .loop .inv .2 ∙ pass-here _ _ _ _ here (t .loop-test .taken) (c .if1 .taken))
 
 transfers-requires : tie.Need-transfers-requires Inv-loop μ-loop
@@ -61,9 +65,10 @@ loop-less c = search needs
 
 loop-again : tie.Need-loop-again Inv-loop μ-loop
 loop-again c =
-    let t = c .before .before .before .before .before .before in
+    let t = c .before .before .before .before .before .before .before in
     let s = t .before .before .before in
-    let here = flow-here (now (s .args .words)) (s .args .t2) (t .before .loop .i) (s .pre .1) (t .loop-test .taken) (s .pre .0) _ (c .before .before .before .flow-at .ensures) in (
+    let here = flow-here (now (s .args .words)) (s .args .t2) (t .before .loop .i) (s .pre .1) (t .loop-test .taken) (s .pre .0) _ _ (c .before .before .before .before .flows .ensures)
+    (c .before .before .before .need .ensures) in (
       omega (arith, t .loop-test .taken),
       slot-here (now (s .args .words)) (s .args .t2) (t .before .loop .i) (s .pre .1) (t .loop-test .taken) (s .pre .0) _ (c .transfers .ensures),
       t .before .loop .inv .2 ∙ pass-next _ _ _ _ here (t .loop-test .taken) (c .before .if1 .left),
@@ -84,9 +89,10 @@ flow-pass-spec =
     loop-holds
     mul-x
     array-copy-out-x
-    cast-t14
-    element-copy-out-flow-at
-    flow-at-requires
+    cast-t15
+    element-copy-out-flows
+    flows-requires
+    need-requires
     returns
     transfers-requires
     add-i

@@ -14,7 +14,7 @@ use Rattle.v8.specs.declared.Instruction.the-variants.{Plain}
 use Rattle.v8.specs.declared.Reading.the-variants.{Read}
 use Rattle.flow.specs.Readings.{readingsOf, readingAt}
 use Rattle.flow.proofs.Fetched.{read-count, array-has, past-array}
-use Rattle.rows.proofs.Tests.{and-went}
+use Rattle.v8.proofs.Choice.{and-went}
 use Rattle.marks.specs.Marks.{notReached}
 use Rattle.lister.specs.Table.{tableMarks, raisedAt}
 use Rattle.lister.specs.Work.{isPending}

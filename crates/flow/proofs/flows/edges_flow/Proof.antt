@@ -1,7 +1,7 @@
 -- Both edges, each by where it ends.
 use borrow.Author.Needs.{needs}
-use Rattle.checker.proofs.landing.edges_flow.Statement.{statement}
-use Rattle.checker.proofs.landing.edges_flow.Tie as tie
+use Rattle.flow.proofs.flows.edges_flow.Statement.{statement}
+use Rattle.flow.proofs.flows.edges_flow.Tie as tie
 
 edge-of-requires : tie.Need-edge-of-requires
 edge-of-requires c κs = search needs

@@ -1,24 +1,19 @@
-// The flow of a word: where control may go from it (specs/Passes.antt).
+// The flow of a word: where control may go from it (specs/Flow.antt).
 ghost use mathlib.Core.Path.{_≡_};
 ghost use Prim.Native.Nat.{_<_};
 ghost use lib.Dec.{ltb};
 ghost use lib.ListN.{length};
-ghost use Rattle.v8.specs.Numbers.{badFlow, mostWords};
+ghost use Rattle.v8.specs.Numbers.{mostWords};
 ghost use Rattle.v8.specs.declared.Reading.the-variants.{Read};
 ghost use Rattle.flow.specs.Readings.{readingsOf, isSlot, examined};
-ghost use Rattle.checker.specs.Answer.{need};
-ghost use Rattle.checker.specs.Passes.{edgeFlow, edgesFlow, flowOf};
-use crate::Answer;
-use crate::answers::accept;
-use crate::answers::need;
-use flow::Destination;
-use flow::Edge;
-use flow::edges::edge_of;
-use flow::transfer::is_transfer;
+ghost use Rattle.flow.specs.Flow.{edgeFlow, edgesFlow, flowOf};
+use crate::Destination;
+use crate::Edge;
+use crate::edges::edge_of;
+use crate::transfer::is_transfer;
 use v8::Instruction;
 use v8::Reading;
 use v8::WordIndex;
-use v8::numbers::BAD_FLOW;
 
 // Whether a word is one of the code.
 fn inside(words: &[u32], at: WordIndex) -> bool
@@ -78,21 +73,17 @@ fn instruction_flow(
     edges_flow(words, at, x)
 }
 
-// Pass 3 at a word, in a slot or not, examined as an ordinary word or not, read as x: its flow.
-pub fn flow_at(words: &[u32], at: WordIndex, in_slot: bool, ordinary: bool, x: Reading) -> Answer
+// The flow of a word, in a slot or not, examined as an ordinary word or not, read as x.
+pub fn flows(words: &[u32], at: WordIndex, in_slot: bool, ordinary: bool, x: Reading) -> bool
     requires { ⌜
         (at .0 < mostWords)
         × (in_slot ≡ isSlot (readingsOf (now words)) (at .0))
         × (ordinary ≡ examined (readingsOf (now words)) (at .0))
         ⌝ }
-    ensures { λ r. ⌜ r ≡ need (flowOf (readingsOf (now (words .entry))) (at .0) x) badFlow (at .0) 0 ⌝ }
+    ensures { λ r. ⌜ r ≡ flowOf (readingsOf (now (words .entry))) (at .0) x ⌝ }
 {
     match x {
-        Reading::Read(instruction) => need(
-            instruction_flow(words, at, in_slot, ordinary, instruction),
-            BAD_FLOW,
-            at,
-        ),
-        Reading::Unread(_) => accept(),
+        Reading::Read(instruction) => instruction_flow(words, at, in_slot, ordinary, instruction),
+        Reading::Unread(_) => true,
     }
 }

@@ -1,8 +1,8 @@
 -- By whether there is such an edge, and where it ends.
 use borrow.Author.Tests.{not-false}
 use borrow.Author.Needs.{needs}
-use Rattle.checker.proofs.landing.edge_flow.Statement.{statement}
-use Rattle.checker.proofs.landing.edge_flow.Tie as tie
+use Rattle.flow.proofs.flows.edge_flow.Statement.{statement}
+use Rattle.flow.proofs.flows.edge_flow.Tie as tie
 
 returns : tie.Need-returns
 returns c = search needs

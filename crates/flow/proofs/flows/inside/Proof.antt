@@ -1,9 +1,9 @@
 -- As many words are read as there are.
 use denote.Ref.{now}
 use Rattle.flow.proofs.Fetched.{read-count}
 use borrow.Author.Needs.{needs}
-use Rattle.checker.proofs.landing.inside.Statement.{statement}
-use Rattle.checker.proofs.landing.inside.Tie as tie
+use Rattle.flow.proofs.flows.inside.Statement.{statement}
+use Rattle.flow.proofs.flows.inside.Tie as tie
 
 cast-i : tie.Need-cast-i
 cast-i c = search needs

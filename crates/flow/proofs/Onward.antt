@@ -1,26 +1,57 @@
--- Where the words go that each pass 3: an edge of a word that is examined ends at the caller, or at a word of the code that is examined too. A taken
--- edge lands on a word that is examined by that; the other goes on to one that is no slot.
+-- Where control goes in words that each pass 3: an edge of a word that is examined ends at the caller, or at a word of the code that is examined too. A
+-- taken edge lands on a word that is examined by that; the other goes on to one that is no slot.
 use Prim.Native.Nat.{ℕ, _+_, _<_}
 use mathlib.Core.Path.{_≡_, refl, sym, ap, _∙_, subst}
-use mathlib.Core.Bool.{Bool, true, false}
+use mathlib.Core.Bool.{Bool, true, false, not, _&&_, _||_}
 use mathlib.Core.List.{List}
 use native.Mathlib.Omega.{arith}
+use lib.Dec.{ltb}
 use lib.ListN.{length}
-use borrow.Author.Tests.{eq-eqb}
+use borrow.Author.Tests.{ltb-true, eq-eqb, not-true}
 use Rattle.v8.specs.declared.Instruction.{Instruction}
 use Rattle.v8.specs.declared.Instruction.the-variants.{Plain, Branch, Return}
 use Rattle.v8.specs.declared.Reading.{Reading}
 use Rattle.v8.specs.declared.Reading.the-variants.{Read, Unread}
+use Rattle.v8.proofs.Choice.{false-true, and-went}
 use Rattle.v8.proofs.Search.{and-both}
 use Rattle.flow.specs.declared.Destination.{Destination}
 use Rattle.flow.specs.declared.Destination.the-variants.{To, Caller}
+use Rattle.flow.specs.Transfer.{isTransfer}
 use Rattle.flow.specs.Edge.{edgeOf}
 use Rattle.flow.specs.Readings.{readingAt, transfers, endsAt, landsOn, isSlot, examined}
+use Rattle.flow.specs.Flow.{inCode, edgeFlow, edgesFlow, transferFlow, flowOf}
+use Rattle.flow.specs.Laws.{InCode, Flows, InstructionFlows, Flowing, Lands, EdgesLand, SlotNoTransfer}
 use Rattle.flow.proofs.Examined.{free-examined, target-examined, slot-next}
-use Rattle.rows.proofs.Tests.{false-true}
-use Rattle.checker.specs.Passes.{flowOf}
-use Rattle.checker.specs.Laws.{InCode, Flows, Flowing, Lands, EdgesLand, SlotOperates}
-use Rattle.checker.proofs.Looked.{instruction-flows}
+
+-- a test that is asked only where another passes
+asked : (a b : Bool) → not a || b ≡ true → a ≡ true → b ≡ true
+asked true b e t = e
+asked false b e t = false-true t
+
+in-code : (readings : List Reading) (d : Destination) → inCode readings d ≡ true → InCode readings d
+in-code readings (To w) e = ltb-true (w .0) (length readings) e
+in-code readings Caller e = tt
+
+pub instruction-flows : InstructionFlows
+instruction-flows readings w x e =
+    record {
+      slot = λ t. ltb-true (w + 1) (length readings) (own t .0);
+      free = λ t. not-true (isSlot readings w) (own t .1);
+      ends = λ f taken t. in-code readings (edgeOf w x taken .to) (asked (edgeOf w x taken .exists) (inCode readings (edgeOf w x taken .to)) (each f taken) t);
+    }
+  where
+    parts : (not (isTransfer x) || transferFlow readings w ≡ true) × (not (examined readings w) || edgesFlow readings w x ≡ true)
+    parts = and-went (not (isTransfer x) || transferFlow readings w) (not (examined readings w) || edgesFlow readings w x) e
+
+    own : isTransfer x ≡ true → (ltb (w + 1) (length readings) ≡ true) × (not (isSlot readings w) ≡ true)
+    own t = and-went (ltb (w + 1) (length readings)) (not (isSlot readings w)) (asked (isTransfer x) (transferFlow readings w) (parts .0) t)
+
+    both : examined readings w ≡ true → (edgeFlow readings (edgeOf w x true) ≡ true) × (edgeFlow readings (edgeOf w x false) ≡ true)
+    both f = and-went (edgeFlow readings (edgeOf w x true)) (edgeFlow readings (edgeOf w x false)) (asked (examined readings w) (edgesFlow readings w x) (parts .1) f)
+
+    each : examined readings w ≡ true → (taken : Bool) → edgeFlow readings (edgeOf w x taken) ≡ true
+    each f true = both f .0
+    each f false = both f .1
 
 module _ (readings : List Reading) (ok : Flowing readings) where
   -- an instruction goes where 3 allows
@@ -74,5 +105,5 @@ module _ (readings : List Reading) (ok : Flowing readings) where
 pub edges-land : EdgesLand
 edges-land readings ok w x q i free taken e = lands readings ok w x q i free taken e
 
-pub slot-operates : SlotOperates
-slot-operates readings ok w i e = operates readings ok w i e
+pub slot-no-transfer : SlotNoTransfer
+slot-no-transfer readings ok w i e = operates readings ok w i e

@@ -2,10 +2,10 @@
 use mathlib.Core.Path.{_≡_, refl, sym}
 use mathlib.Core.Bool.{Bool, true, false, not, _&&_, _||_}
 use borrow.Author.Tests.{not-true, not-false}
-use Rattle.rows.proofs.Tests.{false-true}
+use Rattle.v8.proofs.Choice.{false-true}
 use borrow.Author.Needs.{needs}
-use Rattle.checker.proofs.landing.instruction_flow.Statement.{statement}
-use Rattle.checker.proofs.landing.instruction_flow.Tie as tie
+use Rattle.flow.proofs.flows.instruction_flow.Statement.{statement}
+use Rattle.flow.proofs.flows.instruction_flow.Tie as tie
 
 -- a transfer that may not stand there, and an instruction that may
 stops : (t u rest : Bool) → t && not u ≡ true → false ≡ (not t || u) && rest
