@@ -25,9 +25,12 @@ module _ (readings : List Reading) where
   free-examined w e = rw e
 
   -- so is one that a taken edge lands on
-  pub target-examined : (v w : ℕ) → v < length readings → landsOn v (readingAt readings v) w ≡ true → examined readings w ≡ true
+  targeted : (v w : ℕ) → v < length readings → landsOn v (readingAt readings v) w ≡ true → isTarget readings w ≡ true
   unfolding isTarget
-  target-examined v w l e = rw (any-at (λ u. landsOn u (readingAt readings u) w) (length readings) v l e, or-true)
+  targeted v w l e = any-at (λ u. landsOn u (readingAt readings u) w) (length readings) v l e
+
+  pub target-examined : (v w : ℕ) → v < length readings → landsOn v (readingAt readings v) w ≡ true → examined readings w ≡ true
+  target-examined v w l e = rw (targeted v w l e, or-true)
 
   -- word 0 is no slot
   pub first-free : isSlot readings 0 ≡ false
