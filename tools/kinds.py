@@ -38,7 +38,6 @@ import script
 from script import Problem
 
 MOST_WORDS = 128
-RETURN = 0x81C3E008
 NOT_REACHED, UNSET = ".", "-"
 KINDS = {"n": "number", "a": "address", "z": "address or null", "r": "return"}
 LETTERS = {NOT_REACHED: "not reached", **KINDS, UNSET: "unset"}
@@ -118,14 +117,10 @@ def groups_text(letters):
     return " ".join(letters[k:k + 8] for k in range(0, len(letters), 8))
 
 
-def is_transfer(word):
-    return word == RETURN or assembly.target_of(0, word) is not None
-
-
 def listing_lines(words, labels, marks, table):
     """Each word with its kinds; a slot is called one."""
     text = groups_text if table else kinds_text
-    slots = [False] + [is_transfer(word) for word in words]
+    slots = [False] + [assembly.is_transfer(word) for word in words]
     lines = [f"{shown}  {text(letters)}{'  (slot)' if slot else ''}"
              for shown, letters, slot in zip(bundle.words_shown(words, labels), marks, slots)]
     head = "%g0 to %g7, %o0 to %o7, %l0 to %l7, %i0 to %i7: " + ", ".join(f"{letter} {name}" for letter, name in LETTERS.items())
