@@ -764,13 +764,13 @@ def landings():
         yield Case("landing-" + name, routine(code, rows, TWO), answer)
     for condition in range(16):
         for annul in False, True:
-            code = [branch(condition, 3, annul), *BY_ALWAYS[1:]]
-            answer = "0 0 0" if condition == NEVER else "4 3 3"
-            yield Case(f"landing-on-{condition}" + "-annulled" * annul, routine(code, [FEW_SET, {}, FEW, {}, {}, {}]), answer)
+            name, answer = f"landing-on-{condition}" + "-annulled" * annul, "0 0 0" if condition == NEVER else "4 3 3"
+            yield Case(name, routine([branch(condition, 3, annul), *BY_ALWAYS[1:]], [FEW_SET, {}, FEW, {}, {}, {}]), answer)
     adds = [branch(ALWAYS, 3), NOP, RETURN, word("add", 8, 8, 1), RETURN, word("or", 8, 0, 5)]
     small, large, more = {8: number(0, 8)}, {8: number(20, 29)}, {8: number(21, 30)}
     for name, rows, answer in [
-            ("none-of-the-slot", [large, {}, small, large, more, {}], "0 0 0"), ("of-the-return", [large, {}, {8: number(0, 9)}, large, more, {}], "14 2 8"),
+            ("none-of-the-slot", [large, {}, small, large, more, {}], "0 0 0"),
+            ("of-the-return", [large, {}, {8: number(0, 9)}, large, more, {}], "14 2 8"),
             ("by-the-returns-row", [small, {}, large, small, {}, {}], "14 2 8")]:
         yield Case("landing-result-" + name, routine(adds, rows, result=number(0, 9)), answer)
 
@@ -783,7 +783,9 @@ BY_RETURN = [branch(ALWAYS, 3), NOP, RETURN, COUNTS, *ONWARD]
 SKIPPED = [branch(ALWAYS, 3), NOP, branch(ALWAYS, 2, True), COUNTS, *ONWARD]
 SKIPPED_BY_NEVER = [branch(ALWAYS, 3), NOP, branch(NEVER, 0, True), COUNTS, *ONWARD]
 PARTING = [branch(ALWAYS, 3), NOP, branch(ALWAYS, 4), COUNTS, *ONWARD, *ONWARD]
-OWN, OWN_SKIPPED, OWN_ON_EQUAL = ([branch(condition, 1, annul), COUNTS, *ONWARD] for condition, annul in ((ALWAYS, False), (ALWAYS, True), (EQUAL, False)))
+OWN, OWN_SKIPPED = [branch(ALWAYS, 1), COUNTS, *ONWARD], [branch(ALWAYS, 1, True), COUNTS, *ONWARD]
+OWN_ON_EQUAL, BEHIND = [branch(EQUAL, 1), COUNTS, *ONWARD], [branch(ALWAYS, 2), COUNTS, branch(EQUAL, -1), NOP, *ONWARD]
+UNREACHED = [branch(ALWAYS, 2), COUNTS, *ONWARD, branch(ALWAYS, -3), NOP]
 STORES, STORED = [branch(ALWAYS, 3), NOP, branch(ALWAYS, 2), word("stb", 3, 1, 0), *ONWARD], {1: start(), **FEW}
 NO_MEMBER = {1: number(0, 4), **FEW, "note": note(2, 1, 9)}
 LANDINGS = [
@@ -819,10 +821,10 @@ LANDINGS = [
     ("own-skipped-unset-by-its-row", OWN_SKIPPED, [FEW, {}, {}, {}], "4 1 3"),
     ("own-on-equal-once-or-twice", OWN_ON_EQUAL, [FEW_SET, MORE, {3: number(1, 11)}, {}], "0 0 0"),
     ("own-on-equal-misfit-of-the-slot", OWN_ON_EQUAL, [FEW_SET, MORE, MORE, {}], "12 1 3"),
-    ("from-behind", [branch(ALWAYS, 2), COUNTS, branch(EQUAL, -1), NOP, *ONWARD], [FEW_SET, {}, {"note": SET}, {}, {}, {}], "4 1 3"),
-    ("from-behind-misfit", [branch(ALWAYS, 2), COUNTS, branch(EQUAL, -1), NOP, *ONWARD], [FEW_SET, FEW_SET, {**MORE, "note": SET}, {}, {}, {}], "12 2 3"),
+    ("from-behind", BEHIND, [FEW_SET, {}, {"note": SET}, {}, {}, {}], "4 1 3"),
+    ("from-behind-misfit", BEHIND, [FEW_SET, {**FEW, "note": SET}, {**MORE, "note": SET}, {}, {}, {}], "12 2 3"),
     ("from-the-last-branch", [branch(ALWAYS, 2), COUNTS, branch(ALWAYS, -1), NOP], [FEW, {}, {}, {}], "4 1 3"),
-    ("from-an-unreached-branch", [branch(ALWAYS, 2), COUNTS, *ONWARD, branch(ALWAYS, -3), NOP], [FEW, {}, {}, {}, {}, {}], "4 1 3"),
+    ("from-an-unreached-branch", UNREACHED, [FEW, {}, {}, {}, {}, {}], "4 1 3"),
     ("with-no-member-left", [branch(EQUAL, 3), *BY_ALWAYS[1:]], [NO_MEMBER, {}, FEW, {}, {}, {}], "4 3 3"),
     ("with-no-member-left-fits", [branch(EQUAL, 3), *BY_ALWAYS[1:]], [NO_MEMBER, {}, FEW, {3: number(0, 3)}, MORE, {}], "0 0 0"),
     ("stores", STORES, [STORED, {}, STORED, STORED, {}, {}], "0 0 0"),

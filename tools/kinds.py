@@ -16,9 +16,9 @@ needs its objdump, and is left out otherwise. A BUNDLE has no labels.
 Each word is printed with the registers that are not unset: `%o0 address  %o1 number`; %g0, which is always the number 0, is
 left out. The kinds are number, address, address or null, and return. What a register holds on one way to the word and not on
 another, and all that a load of a word (ld) gives, is unset here; a row may say more. A word that no way leads to is not
-reached. A slot has the kinds of its branch or return, before that runs. With --table the letters of %g0 to %g7, %o0 to %o7,
-%l0 to %l7 and %i0 to %i7 follow each other: `.` not reached, `n` number, `a` address, `z` address or null, `r` return, `-`
-unset.
+reached. A slot has the kinds of its branch or return, before that runs; those of a branch that goes into the slot meet with
+them. With --table the letters of %g0 to %g7, %o0 to %o7, %l0 to %l7 and %i0 to %i7 follow each other: `.` not reached, `n`
+number, `a` address, `z` address or null, `r` return, `-` unset.
 
 A routine that cannot be listed (23, 18 to 21, 2, 24 and 3, as in the check) is explained as by explain.py.
 
