@@ -7,12 +7,12 @@
 BUNDLES has bundles one after another, each after its length as a 32-bit big-endian number; line n of ANSWERS is
 the answer to bundle n: number, word and register in decimal.
 
-There are three sources: the independent implementation's bundles, the bundles of cases.py, and those of examples/ with the
-answers that stand beside them. The independent implementation's that stand in the data stay there. Of the others of the first two
-only those are taken that are needed: every wrong version of tools/plain/mutants.txt is told apart by a record, and every number is
-the answer to EACH bundles of the independent implementation, if it has so many. Beside them every number of flow and of later
-passes is the answer to EACH_LANDING of its bundles in which a branch goes into a slot. The choice is the same at each run. It takes
-some minutes: each version is compiled and answers every bundle.
+There are three sources: the independent implementation's bundles, the bundles of cases.py, and those of examples/ with
+the answers that stand beside them. What the data has of the first stays there. Else only those of the first two are taken
+that are needed: every wrong version of tools/plain/mutants.txt is told apart by a record, and every number is the answer to
+EACH bundles of the independent implementation, if it has so many. Beside them EACH that are accepted have a branch into a
+slot, and every number from the pass of flow on is once the answer at such a slot. The choice is the same at each run. It
+takes some minutes: each version is compiled and answers every bundle.
 
 The records stand in the order of the sources. The first made bundle is that of the program crates/answer, so that what
 stands before it is the independent implementation's. A record: number (a byte), register (a byte), word (16
@@ -33,9 +33,9 @@ import script
 TOOLS = os.path.dirname(os.path.abspath(__file__))
 EXAMPLES = os.path.join(TOOLS, "..", "examples")
 CRATE = os.path.join(TOOLS, "..", "crates", "corpus")
-EACH, EACH_LANDING = 3, 1
-# The numbers of passes before that of flow.
-BEFORE_FLOW = ["1", "2", "18", "19", "20", "21", "23", "24"]
+EACH = 3
+# The numbers that name a word before the pass of flow.
+BEFORE_FLOW = ["1", "2", "24"]
 # What a record costs beside its bytes, in bytes.
 BEGINNING = 400
 
@@ -82,11 +82,15 @@ def standing(first_made):
     return there[:places[0]] if places else []
 
 
-def sort_of(words, answer, landing):
-    """What one of the independent implementation's records counts as, and how many of these there are to be."""
-    number, *_ = answer.split()
-    if number not in BEFORE_FLOW and assembly.slots_landed_on(words):
-        return "landing, number " + number, landing
+def sort_of(words, answer, accepted, refused):
+    """What one of the independent implementation's records counts as, and how many of these there are to be: so many that are accepted
+    with a branch into a slot, so many that are refused at such a slot."""
+    number, word, _ = answer.split()
+    slots = assembly.slots_landed_on(words)
+    if number == "0" and slots:
+        return "branch into a slot", accepted
+    if number not in BEFORE_FLOW and int(word) in slots:
+        return "slot, number " + number, refused
     return "number " + number, EACH
 
 
@@ -128,8 +132,9 @@ def main(arguments):
     shown = examples()
     other = [one for one in dict.fromkeys(kept + more) if len(one[0]) <= mutants.ROOM]
     stock, first = other + made + shown, len(other)
-    sorts = [sort_of(words_in(bundle), answer, EACH_LANDING) for bundle, answer in other]
-    places = chosen(stock, mutants.all_wrong(stock), sorts, [*range(len(kept)), first, *range(len(stock) - len(shown), len(stock))])
+    sorts = [sort_of(words_in(bundle), answer, EACH, 1) for bundle, answer in other]
+    always = [*range(len(kept)), first, *range(len(stock) - len(shown), len(stock))]
+    places = chosen(stock, mutants.all_wrong(stock), sorts, always)
     with open(os.path.join(CRATE, "stdin"), "wb") as file:
         file.write(b"".join(record(*stock[at]) for at in places))
     with open(os.path.join(CRATE, "stdout"), "w") as file:

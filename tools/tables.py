@@ -51,8 +51,8 @@ CRATE = os.path.join(TOOLS, "..", "crates", "tables")
 REGIONS, FIELDS, HEAD, EXCESS = 8, 16, 25, 2 ** 31
 # Seconds that the plain program has for all listings, and for one.
 SECONDS, SECONDS_EACH = 20, 2
-# How many listings of a number there are to be in which a branch goes into a slot.
-EACH_LANDING = 10
+# How many listings there are to be with a branch into a slot, and how many that are refused at such a slot.
+LANDING, REFUSED = 10, 5
 
 
 # Records
@@ -178,7 +178,7 @@ def chosen(text, other, kept, made, folder):
             raise Problem(f"{version.name}: " + ("survives" if version.reason is None else "has a reason, but is told apart"))
         told.append((version, [at for at in places if at < len(other)]))
     stock = [(one, expected(one)[0]) for one in other]
-    sorts = [corpus.sort_of(words_of(one), answer, EACH_LANDING) for one, answer in stock]
+    sorts = [corpus.sort_of(words_of(one), answer, LANDING, REFUSED) for one, answer in stock]
     return corpus.chosen(stock, told, sorts, range(kept))
 
 
