@@ -158,10 +158,10 @@ def landings():
     yield listed("own-slot-of-ba-a", [branch(ALWAYS, 1, True), copy] + END, f"{FIRST} {FIRST} 11234511 11234511")
     yield listed("own-slot-of-be", [branch(EQUAL, 1), total] + END, f"{FIRST} {' '.join(['11234552'] * 3)}")
     yield listed("own-slot-of-be-a", [branch(EQUAL, 1, True), copy] + END, f"{FIRST} 11234515 11234515 11234515")
-    # The slot is passed on again when an edge from behind it has raised it; the edge of its transfer to word 6 is not.
+    # An edge from behind raises the slot, which passes this on; the edge of its transfer to word 6 stays as it was.
     yield listed("slot-landed-on-from-behind", [branch(EQUAL, 6, True), copy, NOP, give, branch(ALWAYS, -3), NOP] + END,
                  f"{FIRST} 11234555 11234555 11234555 11234535 11234535 11234511 11234511")
-    # Only where its branch may be taken does a slot make its register unset.
+    # Each slot makes a register unset, if its branch can be taken.
     for annul in False, True:
         each = [[branch(condition, 3, annul), NOP, branch(ALWAYS, 2, True), word("or", 8 + condition, 0, "r1")] for condition in range(16)]
         yield listed(f"conditions-that-land-{annul:d}", [one for four in each for one in four] + END, None, NUMBERS)

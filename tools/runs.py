@@ -18,10 +18,10 @@ RUNS has runs of the machine as text, a blank line between two. A line is a name
 and what the run gives: end (0 returned, 1 spent, else the number of the refusal or fault), steps,
 regs, codes, and memory (`same`, or whole).
 
-Of the runs that fit the program's room a sample is taken: EACH runs at most of every end with the memory changed and
-of every end with it unchanged, with a branch into a slot and without, evenly over the sizes of memory; none that ends with 20. Those
-that stand in the data stay there. After them come runs that are made from one run of the sample, with what document 01 says of
-them, which needs no implementation to tell:
+Of the runs that fit the program's room a sample is taken: EACH runs at most of every end with the memory
+changed and of every end with it unchanged, with a branch into a slot and without, evenly over the sizes of
+memory; none that ends with 20. Those that stand in the data stay there. After them come runs that are made from
+one run of the sample, with what document 01 says of them, which needs no implementation to tell:
   20   its policy is changed so that it breaks one rule, another each time; a run that is refused changes nothing
   20   it has no words, and its policy breaks a rule
   21   it has neither words nor bases
@@ -29,10 +29,10 @@ them, which needs no implementation to tell:
   101  a branch or a return stands in the slot of a branch
   102  after a nop an add, a store or a return reads a register that is not set; the store also at an odd address
   104  after a nop a half is stored at an odd address
-  0    a branch goes into a slot: its own, that of another branch, of a return, one that is skipped; some of these runs are cut
-       short (1) or have no word after the slot (101)
-The first of them ends with 20, so that they are known again. How many runs there are of each end, and how many with a branch
-into a slot, is written to standard error.
+  0    a branch goes into a slot: its own, that of another branch or of a return, one that is skipped, one with a
+       branch in it, which is run; and some of these with few steps allowed (1), or no word after the slot (101)
+The first of them ends with 20, so that they are known again. How many runs there are of each end, and how many
+with a branch into a slot, is written to standard error.
 
 A record of the data is numbers of 32 bits, big-endian, and then bytes. The first number says how many come
 after it; these are
@@ -151,7 +151,7 @@ def standing():
 
 
 def sample(kept, others):
-    """The runs that stay, and others where there are too few, sort by sort."""
+    """The runs that stay and, where they are fewer than EACH, others, sort by sort."""
     classes = collections.defaultdict(lambda: ([], []))
     for runs, place in (kept, 0), (others, 1):
         for run in runs:
@@ -254,7 +254,8 @@ def faulting(run):
 
 
 def landing(run):
-    """Runs of routines with a branch into a slot. r1 and r2 are 0 at first: the slot adds 1 to r1, and other slots add 1 to r2."""
+    """Runs of routines with a branch into a slot. r1 and r2 are 0 at first: the slot adds 1 to r1, and other slots add 1 to r2. The
+    codes are at first as they are left."""
     count, mark = word("add", 1, 1, 1), word("add", 2, 2, 1)
     into, last = [branch(ALWAYS, 3), mark], [RETURN, mark]
     own = [branch(ALWAYS, 1), count, *last]
