@@ -15,6 +15,7 @@ from script import Problem
 BINUTILS = "sparc64-linux-gnu-"
 SECONDS = 30  # for a tool to end
 SOURCE = "routine.s"
+RETURN = 0x81C3E008
 # Of an object file: 32-bit, most significant byte first, version 1; relocatable; SPARC.
 IDENT, RELOCATABLE, SPARC = b"\x7fELF\1\2\1", 1, 2
 HEADER = struct.Struct(">16sHHIIIIIHHHHHH")
@@ -120,6 +121,16 @@ def target_of(index, word):
         return None
     distance = word & 0x3FFFFF
     return index + distance - (distance >> 21 << 22)
+
+
+def is_transfer(word):
+    return word == RETURN or target_of(0, word) is not None
+
+
+def slots_landed_on(words):
+    """The slots that a taken edge lands on: targets of branches other than never, reached or not."""
+    targets = {target_of(index, word) for index, word in enumerate(words) if word >> 25 & 15}
+    return [index for index in range(1, len(words)) if index in targets and is_transfer(words[index - 1])]
 
 
 def with_target(index, word, text):

@@ -1,4 +1,4 @@
-"""cases.py: bundles made for the program crates/corpus, each with the answer that document 01 gives it.
+"""cases.py: bundles made for the program crates/corpus, each with the answer that document 01, with requests 1 to 4, gives it.
 
 They are what the wrong versions of tools/plain/mutants.txt need beside the bundles of the independent implementation.
 Each case has a name that says what it is about. Most are a few words long: what is tried stands at word 0 or 1,
@@ -667,13 +667,32 @@ FLOWS = [
     ("return-in-slot", [RETURN, RETURN, NOP], "3 1 0"),
     ("branch-in-slot", [RETURN, branch(ALWAYS, -1), NOP], "3 1 0"),
     ("never-in-slot", [branch(NEVER, 0), branch(NEVER, 0), NOP, *ONWARD], "3 1 0"),
-    ("slot-of-a-slot", [branch(ALWAYS, 2), branch(ALWAYS, 1), NOP, *ONWARD], "3 0 0"),
+    ("slot-of-a-slot", [branch(ALWAYS, 2), branch(ALWAYS, 1), NOP, *ONWARD], "3 1 0"),
     ("always-to-itself", [branch(ALWAYS, 0), NOP], "0 0 0"),
-    ("to-own-slot", [branch(ALWAYS, 1), NOP, *ONWARD], "3 0 0"),
-    ("to-other-slot", [branch(ALWAYS, 3), NOP, *ONWARD], "3 0 0"),
-    ("to-slot-of-return", [NOP, branch(ALWAYS, 3), NOP, *ONWARD], "3 1 0"),
-    ("to-slot-of-never", [branch(ALWAYS, 3), NOP, branch(NEVER, 0), NOP, *ONWARD], "3 0 0"),
-    ("to-slot-of-annulled", [branch(ALWAYS, 3), NOP, branch(ALWAYS, -2, True), NOP], "3 0 0"),
+    ("to-own-slot", [branch(ALWAYS, 1), NOP, *ONWARD], "0 0 0"),
+    ("to-own-slot-skipped", [branch(ALWAYS, 1, True), NOP, *ONWARD], "0 0 0"),
+    ("to-slot-of-return", [branch(ALWAYS, 3), NOP, *ONWARD, *ONWARD], "0 0 0"),
+    ("to-slot-of-always", [branch(ALWAYS, 3), NOP, branch(ALWAYS, 2), NOP, *ONWARD], "0 0 0"),
+    ("to-slot-of-equal", [branch(ALWAYS, 3), NOP, branch(EQUAL, 0), NOP, *ONWARD], "0 0 0"),
+    ("to-slot-of-never", [branch(ALWAYS, 3), NOP, branch(NEVER, 0), NOP, *ONWARD], "0 0 0"),
+    ("to-slot-of-annulled-always", [branch(ALWAYS, 3), NOP, branch(ALWAYS, -2, True), NOP, *ONWARD], "0 0 0"),
+    ("to-slot-of-annulled-never", [branch(ALWAYS, 3), NOP, branch(NEVER, 0, True), NOP, *ONWARD], "0 0 0"),
+    ("to-slot-before", [branch(ALWAYS, 2), NOP, branch(EQUAL, -1), NOP, *ONWARD], "0 0 0"),
+    ("to-own-last-slot", [branch(ALWAYS, 1), NOP], "3 1 0"),
+    ("to-own-last-slot-skipped", [NOP, branch(ALWAYS, 1, True), NOP], "3 2 0"),
+    ("to-own-last-slot-and-on", [NOP, branch(EQUAL, 1), NOP], "3 1 0"),
+    ("to-last-slot-of-return", [NOP, branch(ALWAYS, 3), NOP, *ONWARD], "3 4 0"),
+    ("to-last-slot-of-return-from-unreached", [*ONWARD, branch(EQUAL, 3), NOP, *ONWARD], "3 5 0"),
+    ("to-last-slot-of-always", [branch(ALWAYS, 3), NOP, branch(ALWAYS, -2), NOP], "3 3 0"),
+    ("to-last-slot-of-annulled-always", [branch(ALWAYS, 3), NOP, branch(ALWAYS, -2, True), NOP], "3 3 0"),
+    ("to-last-slot-and-a-bad-target", [branch(ALWAYS, 5), NOP, branch(ALWAYS, 100), NOP, *ONWARD], "3 2 0"),
+    ("to-last-slot-and-a-transfer-in-slot", [branch(ALWAYS, 5), NOP, RETURN, RETURN, RETURN, NOP], "3 3 0"),
+    ("never-to-last-slot", [branch(NEVER, 3), NOP, *ONWARD], "0 0 0"),
+    ("never-annulled-to-last-slot", [branch(NEVER, 3, True), NOP, *ONWARD], "0 0 0"),
+    ("to-a-transfer-in-slot", [branch(ALWAYS, 3), NOP, RETURN, RETURN, NOP], "3 3 0"),
+    ("to-a-branch-in-skipped-slot", [branch(ALWAYS, 3), NOP, branch(ALWAYS, 2, True), branch(ALWAYS, 1), *ONWARD], "3 3 0"),
+    ("to-a-transfer-in-own-slot", [branch(ALWAYS, 1), branch(ALWAYS, 1), *ONWARD], "3 1 0"),
+    ("to-a-last-transfer-in-slot", [branch(ALWAYS, 3), NOP, RETURN, RETURN], "3 3 0"),
     ("to-the-end", [branch(ALWAYS, 2), NOP], "3 0 0"),
     ("below-0", [NOP, branch(ALWAYS, -2), NOP], "3 1 0"),
     ("to-0", [NOP, branch(ALWAYS, -1), NOP], "0 0 0"),
@@ -735,6 +754,83 @@ EDGES = [
     ("return-unset", [RETURN, NOP], [{15: NONE}, {}], "4 0 15"),
     ("return-number", [RETURN, NOP], [{15: FULL}, {}], "6 0 15"),
     ("entry-and-not-read", [0, NOP], [{3: BACK}, {}], "2 0 0"),
+]
+
+
+# Branches into slots. The branch is word 0, the slot's transfer word 2 and the slot word 3, unless it is told.
+
+def landings():
+    for name, code, rows, answer in LANDINGS:
+        yield Case("landing-" + name, routine(code, rows, TWO), answer)
+    for condition in range(16):
+        for annul in False, True:
+            name, answer = f"landing-on-{condition}" + "-annulled" * annul, "0 0 0" if condition == NEVER else "4 3 3"
+            yield Case(name, routine([branch(condition, 3, annul), *BY_ALWAYS[1:]], [FEW_SET, {}, FEW, {}, {}, {}]), answer)
+    adds = [branch(ALWAYS, 3), NOP, RETURN, word("add", 8, 8, 1), RETURN, word("or", 8, 0, 5)]
+    small, large, more = {8: number(0, 8)}, {8: number(20, 29)}, {8: number(21, 30)}
+    for name, rows, answer in [
+            ("none-of-the-slot", [large, {}, small, large, more, {}], "0 0 0"),
+            ("of-the-return", [large, {}, {8: number(0, 9)}, large, more, {}], "14 2 8"),
+            ("by-the-returns-row", [small, {}, large, small, {}, {}], "14 2 8")]:
+        yield Case("landing-result-" + name, routine(adds, rows, result=number(0, 9)), answer)
+
+
+# The slot adds 1 to r3.
+FEW, MORE, LATER, TO_12 = {3: number(0, 9)}, {3: number(1, 10)}, {3: number(2, 11)}, {3: number(0, 12)}
+BY_ALWAYS = [branch(ALWAYS, 3), NOP, branch(ALWAYS, 2), COUNTS, *ONWARD]
+BY_EQUAL = [branch(ALWAYS, 3), NOP, branch(EQUAL, 2, True), COUNTS, *ONWARD]
+BY_RETURN = [branch(ALWAYS, 3), NOP, RETURN, COUNTS, *ONWARD]
+SKIPPED = [branch(ALWAYS, 3), NOP, branch(ALWAYS, 2, True), COUNTS, *ONWARD]
+SKIPPED_BY_NEVER = [branch(ALWAYS, 3), NOP, branch(NEVER, 0, True), COUNTS, *ONWARD]
+PARTING = [branch(ALWAYS, 3), NOP, branch(ALWAYS, 4), COUNTS, *ONWARD, *ONWARD]
+OWN, OWN_SKIPPED = [branch(ALWAYS, 1), COUNTS, *ONWARD], [branch(ALWAYS, 1, True), COUNTS, *ONWARD]
+OWN_ON_EQUAL, BEHIND = [branch(EQUAL, 1), COUNTS, *ONWARD], [branch(ALWAYS, 2), COUNTS, branch(EQUAL, -1), NOP, *ONWARD]
+UNREACHED = [branch(ALWAYS, 2), COUNTS, *ONWARD, branch(ALWAYS, -3), NOP]
+STORES, STORED = [branch(ALWAYS, 3), NOP, branch(ALWAYS, 2), word("stb", 3, 1, 0), *ONWARD], {1: start(), **FEW}
+NO_MEMBER = {1: number(0, 4), **FEW, "note": note(2, 1, 9)}
+LANDINGS = [
+    ("fits-both-ways", BY_ALWAYS, [FEW, {}, FEW, FEW, MORE, {}], "0 0 0"),
+    ("unset-by-its-row", BY_ALWAYS, [FEW, {}, FEW, {}, MORE, {}], "4 3 3"),
+    ("unset-by-its-row-then-another", BY_ALWAYS, [FEW, {}, FEW, {}, {15: NONE}, {}], "4 3 3"),
+    ("unset-by-its-row-after-another", BY_ALWAYS, [FEW, {}, FEW, {}, LATER, {}], "12 2 3"),
+    ("unset-by-its-transfers-row", BY_ALWAYS, [FEW, {}, {}, FEW, MORE, {}], "4 3 3"),
+    ("misfit-of-the-branch", BY_ALWAYS, [FEW, {}, FEW, {3: number(0, 5)}, MORE, {}], "12 0 3"),
+    ("misfit-of-the-branch-in-the-note", BY_ALWAYS, [FEW_SET, {}, FEW, {"note": note(2, 3, 5)}, MORE, {}], "12 0 32"),
+    ("fits-its-row-alone", BY_ALWAYS, [FEW, {}, {3: number(0, 5)}, FEW, MORE, {}], "0 0 0"),
+    ("misfit-of-the-slot", BY_ALWAYS, [FEW, {}, FEW, TO_12, MORE, {}], "12 3 3"),
+    ("misfit-of-the-slot-then-another", BY_ALWAYS, [FEW, {}, FEW, TO_12, {**MORE, 15: NONE}, {}], "12 3 3"),
+    ("misfit-of-the-transfer", BY_ALWAYS, [FEW, {}, TO_12, FEW, MORE, {}], "12 2 3"),
+    ("misfit-of-transfer-and-slot", BY_ALWAYS, [FEW, {}, TO_12, TO_12, MORE, {}], "12 2 3"),
+    ("parts-from-the-transfer", PARTING, [FEW, {}, FEW, TO_12, {3: number(1, 13)}, {}, MORE, {}], "0 0 0"),
+    ("misfit-where-it-parts", PARTING, [FEW, {}, FEW, FEW, LATER, {}, MORE, {}], "12 3 3"),
+    ("on-equal-unset-by-its-row", BY_EQUAL, [FEW, {}, FEW_SET, {}, {}, {}], "4 3 3"),
+    ("of-return-fits-both-ways", BY_RETURN, [FEW, {}, FEW, FEW, MORE, {}], "0 0 0"),
+    ("of-return-unset-by-its-row", BY_RETURN, [FEW, {}, FEW, {}, {}, {}], "4 3 3"),
+    ("of-return-unset-by-the-returns-row", BY_RETURN, [FEW, {}, {}, FEW, MORE, {}], "4 3 3"),
+    ("of-return-misfit", BY_RETURN, [FEW, {}, FEW, FEW, LATER, {}], "12 3 3"),
+    ("skipped-by-its-row", SKIPPED, [FEW, {}, {}, FEW, {}, {}], "0 0 0"),
+    ("skipped-unset-by-its-row", SKIPPED, [FEW, {}, FEW, {}, {}, {}], "4 3 3"),
+    ("skipped-misfit", SKIPPED, [FEW, {}, LATER, FEW, LATER, {}], "12 3 3"),
+    ("skipped-by-never-by-its-row", SKIPPED_BY_NEVER, [FEW, {}, {}, FEW, {}, {}], "0 0 0"),
+    ("skipped-by-never-unset-by-its-row", SKIPPED_BY_NEVER, [FEW, {}, FEW, {}, {}, {}], "4 3 3"),
+    ("own-twice", OWN, [FEW, MORE, LATER, {}], "0 0 0"),
+    ("own-unset-by-its-row", OWN, [FEW, {}, {}, {}], "4 1 3"),
+    ("own-misfit-of-the-branch", OWN, [FEW, FEW, {}, {}], "12 0 3"),
+    ("own-misfit-of-the-slot", OWN, [FEW, MORE, MORE, {}], "12 1 3"),
+    ("own-skipped-once", OWN_SKIPPED, [FEW, FEW, MORE, {}], "0 0 0"),
+    ("own-skipped-unset-by-its-row", OWN_SKIPPED, [FEW, {}, {}, {}], "4 1 3"),
+    ("own-on-equal-once-or-twice", OWN_ON_EQUAL, [FEW_SET, MORE, {3: number(1, 11)}, {}], "0 0 0"),
+    ("own-on-equal-misfit-of-the-slot", OWN_ON_EQUAL, [FEW_SET, MORE, MORE, {}], "12 1 3"),
+    ("from-behind", BEHIND, [FEW_SET, {}, {"note": SET}, {}, {}, {}], "4 1 3"),
+    ("from-behind-misfit", BEHIND, [FEW_SET, {**FEW, "note": SET}, {**MORE, "note": SET}, {}, {}, {}], "12 2 3"),
+    ("from-the-last-branch", [branch(ALWAYS, 2), COUNTS, branch(ALWAYS, -1), NOP], [FEW, {}, {}, {}], "4 1 3"),
+    ("from-an-unreached-branch", UNREACHED, [FEW, {}, {}, {}, {}, {}], "4 1 3"),
+    ("with-no-member-left", [branch(EQUAL, 3), *BY_ALWAYS[1:]], [NO_MEMBER, {}, FEW, {}, {}, {}], "4 3 3"),
+    ("with-no-member-left-fits", [branch(EQUAL, 3), *BY_ALWAYS[1:]], [NO_MEMBER, {}, FEW, {3: number(0, 3)}, MORE, {}], "0 0 0"),
+    ("stores", STORES, [STORED, {}, STORED, STORED, {}, {}], "0 0 0"),
+    ("stores-outside-by-its-row", STORES, [STORED, {}, STORED, {**STORED, 1: at(0, 8)}, {}, {}], "7 3 1"),
+    ("stores-too-much-by-its-row", STORES, [STORED, {}, STORED, {1: start(), **TO_12}, {}, {}], "11 3 3"),
+    ("stores-too-much-by-its-transfers-row", STORES, [STORED, {}, {1: start(), **TO_12}, STORED, {}, {}], "11 3 3"),
 ]
 
 
@@ -828,7 +924,7 @@ ONE_LEFT = [
 ]
 
 
-GROUPS = [layouts, long_ones, adds, forms, fitting, results, conditions, accesses, words, flows, edges, returns, narrowing]
+GROUPS = [layouts, long_ones, adds, forms, fitting, results, conditions, accesses, words, flows, edges, landings, returns, narrowing]
 
 
 def cases():

@@ -2,16 +2,17 @@
 """corpus.py: chooses the records of the program crates/corpus and writes its data, stdin and stdout.
 
     tools/corpus.py                       from the bundles that the repository has
-    tools/corpus.py BUNDLES ANSWERS       with other bundles of the independent implementation
+    tools/corpus.py BUNDLES ANSWERS       with more bundles of the independent implementation
 
 BUNDLES has bundles one after another, each after its length as a 32-bit big-endian number; line n of ANSWERS is
 the answer to bundle n: number, word and register in decimal.
 
-There are three sources: the independent implementation's bundles (without BUNDLES those that stand in the data
-already), the bundles of cases.py, and those of examples/ with the answers that stand beside them. Of the
-first two only those are taken that are needed: every wrong version of tools/plain/mutants.txt is told apart by
-a record, and every number is the answer to EACH bundles of the independent implementation, if it has so many.
-The choice is the same at each run. It takes some minutes: each version is compiled and answers every bundle.
+There are three sources: the independent implementation's bundles, the bundles of cases.py, and those of examples/ with
+the answers that stand beside them. What the data has of the first stays there. Else only those of the first two are taken
+that are needed: every wrong version of tools/plain/mutants.txt is told apart by a record, and every number is the answer to
+EACH bundles of the independent implementation, if it has so many. Beside them EACH that are accepted have a branch into a
+slot, and every number from the pass of flow on is once the answer at such a slot. The choice is the same at each run. It
+takes some minutes: each version is compiled and answers every bundle.
 
 The records stand in the order of the sources. The first made bundle is that of the program crates/answer, so that what
 stands before it is the independent implementation's. A record: number (a byte), register (a byte), word (16
@@ -23,7 +24,9 @@ import sys
 from collections import Counter
 
 sys.dont_write_bytecode = True
+import assembly
 import cases
+import layout
 import mutants
 import script
 
@@ -31,6 +34,8 @@ TOOLS = os.path.dirname(os.path.abspath(__file__))
 EXAMPLES = os.path.join(TOOLS, "..", "examples")
 CRATE = os.path.join(TOOLS, "..", "crates", "corpus")
 EACH = 3
+# The numbers that name a word before the pass of flow.
+BEFORE_FLOW = ["1", "2", "24"]
 # What a record costs beside its bytes, in bytes.
 BEGINNING = 400
 
@@ -61,6 +66,14 @@ def examples():
     return found
 
 
+def words_in(bundle):
+    """The words of a bundle; none if its length is wrong."""
+    try:
+        return layout.open_bundle(bundle)[3]
+    except script.Problem:
+        return []
+
+
 def standing(first_made):
     """The independent implementation's bundles in the data."""
     with open(os.path.join(CRATE, "stdin"), "rb") as file:
@@ -69,20 +82,31 @@ def standing(first_made):
     return there[:places[0]] if places else []
 
 
-def chosen(stock, told, others, always):
+def sort_of(words, answer, accepted, refused):
+    """What one of the independent implementation's records counts as, and how many of these there are to be: so many that are accepted
+    with a branch into a slot, so many that are refused at such a slot."""
+    number, word, _ = answer.split()
+    slots = assembly.slots_landed_on(words)
+    if number == "0" and slots:
+        return "branch into a slot", accepted
+    if number not in BEFORE_FLOW and int(word) in slots:
+        return "slot, number " + number, refused
+    return "number " + number, EACH
+
+
+def chosen(stock, told, sorts, always):
     """The places of the records to take, those at `always` among them: one after another the one that serves most for
-    its length. `told` has the places of the records that tell each version apart. The first `others` are the
-    independent implementation's."""
+    its length. `told` has the places of the records that tell each version apart. `sorts` has the sort of each of the first
+    records, the independent implementation's, and how many of that sort there are to be."""
     wants = Counter()
     serves = [[] for _ in stock]
     for version, places in told:
         for at in places:
             serves[at].append(version.name)
         wants[version.name] = min(1, len(places))
-    numbers = Counter(answer.split()[0] for _, answer in stock[:others])
-    for at, (_, answer) in enumerate(stock[:others]):
-        serves[at].append("number " + answer.split()[0])
-    wants.update({"number " + number: min(EACH, count) for number, count in numbers.items()})
+    for at, (sort, _) in enumerate(sorts):
+        serves[at].append(sort)
+    wants.update({sort: min(each, count) for (sort, each), count in Counter(sorts).items()})
     taken = set()
 
     def take(at):
@@ -99,17 +123,18 @@ def chosen(stock, told, others, always):
 
 def main(arguments):
     made = [(case.bundle, case.answer) for case in cases.cases() if len(case.bundle) <= mutants.ROOM]
+    kept, more = standing(made[0][0]), []
     if len(arguments) == 2:
         with open(arguments[0], "rb") as bundles, open(arguments[1]) as answers:
-            other = stream(bundles.read(), answers.read())
-    elif not arguments:
-        other = standing(made[0][0])
-    else:
+            more = stream(bundles.read(), answers.read())
+    elif arguments:
         raise script.Problem("call it as `corpus.py` or `corpus.py BUNDLES ANSWERS`")
     shown = examples()
-    stock = [one for one in dict.fromkeys(other) if len(one[0]) <= mutants.ROOM] + made + shown
-    first = len(stock) - len(made) - len(shown)
-    places = chosen(stock, mutants.all_wrong(stock), first, [first, *range(len(stock) - len(shown), len(stock))])
+    other = [one for one in dict.fromkeys(kept + more) if len(one[0]) <= mutants.ROOM]
+    stock, first = other + made + shown, len(other)
+    sorts = [sort_of(words_in(bundle), answer, EACH, 1) for bundle, answer in other]
+    always = [*range(len(kept)), first, *range(len(stock) - len(shown), len(stock))]
+    places = chosen(stock, mutants.all_wrong(stock), sorts, always)
     with open(os.path.join(CRATE, "stdin"), "wb") as file:
         file.write(b"".join(record(*stock[at]) for at in places))
     with open(os.path.join(CRATE, "stdout"), "w") as file:

@@ -1,6 +1,6 @@
 """kindcases.py: routines made for the program crates/tables, each for one rule of the listing of kinds.
 
-Each case has a name that says what it is about. Those that are short have what request 2 of document 02 gives, written
+Each case has a name that says what it is about. Those that are short have what requests 2 and 4 of document 02 give, written
 down here: the answer, or a text of marks. This has for each word the marks of r0 to r7 as digits, or `-` if the word is not
 reached; r8 to r31 are at each word that is reached as in the entry row. A longer one has None, and what it gives is what
 tools/plain/kinds.c gives.
@@ -134,6 +134,41 @@ def flows():
     yield listed("store-in-slot", [branch(ALWAYS, 2), word("st", 6, 2, 0)] + END, " ".join([FIRST] * 4))
 
 
+def landings():
+    """Branches into slots. In most of them r6 is made an address or null on the edge into word 3, the slot of word 2, which copies it
+    to r7."""
+    give, copy = word("or", 6, 0, "r3"), word("or", 7, 0, "r6")
+    met, given = "11234552 11234555 11234555", "11234532 11234533 11234533"
+    into = [branch(EQUAL, 3, True), give]
+    yield listed("slot-landed-on", into + [branch(ALWAYS, 4), copy] + END + END, f"{FIRST} {FIRST} {FIRST} {met} 11234511 11234511")
+    yield listed("slot-of-ba-a-landed-on", into + [branch(ALWAYS, 4, True), copy] + END + END, f"{FIRST} {FIRST} {FIRST} {met} {FIRST} {FIRST}")
+    yield listed("slot-of-be-landed-on", into + [branch(EQUAL, 4), copy] + END + END, f"{FIRST} {FIRST} {FIRST} {met} 11234511 11234511")
+    yield listed("slot-of-bn-a-landed-on", into + [branch(NEVER, 0, True), copy] + END, f"{FIRST} {FIRST} {FIRST} {met}")
+    yield listed("slot-of-return-landed-on", into + [RETURN, copy] + END, f"{FIRST} {FIRST} {FIRST} {met}")
+    for name, transfer in ("branch", branch(ALWAYS, 4)), ("return", RETURN):
+        words = [branch(ALWAYS, 3), give, transfer, copy] + END + END
+        yield listed(f"slot-of-an-unreached-{name}-landed-on", words, f"{FIRST} {FIRST} - {given} - -")
+    back = [branch(ALWAYS, 4, True), copy] + END + END + [branch(ALWAYS, -5, True), NOP]
+    yield listed("slot-landed-on-by-an-unreached-branch", back, f"{FIRST} {FIRST} 11234511 11234511 {FIRST} {FIRST} - -")
+    words = [branch(NEVER, 3), NOP, branch(ALWAYS, 4), copy] + END + END
+    yield listed("slot-named-by-bn", words, f"{FIRST} {FIRST} {FIRST} {FIRST} - - 11234511 11234511")
+    # A slot that is landed on by its own branch is run a second time.
+    total = word("add", 6, 6, "r2")
+    yield listed("own-slot", [branch(ALWAYS, 1), copy] + END, f"{FIRST} 11234515 11234511 11234511")
+    yield listed("own-slot-of-ba-a", [branch(ALWAYS, 1, True), copy] + END, f"{FIRST} {FIRST} 11234511 11234511")
+    yield listed("own-slot-of-be", [branch(EQUAL, 1), total] + END, f"{FIRST} {' '.join(['11234552'] * 3)}")
+    yield listed("own-slot-of-be-a", [branch(EQUAL, 1, True), copy] + END, f"{FIRST} 11234515 11234515 11234515")
+    # An edge from behind raises the slot, which passes this on; the edge of its transfer to word 6 stays as it was.
+    yield listed("slot-landed-on-from-behind", [branch(EQUAL, 6, True), copy, NOP, give, branch(ALWAYS, -3), NOP] + END,
+                 f"{FIRST} 11234555 11234555 11234555 11234535 11234535 11234511 11234511")
+    # Each slot makes a register unset, if its branch can be taken.
+    for annul in False, True:
+        each = [[branch(condition, 3, annul), NOP, branch(ALWAYS, 2, True), word("or", 8 + condition, 0, "r1")] for condition in range(16)]
+        yield listed(f"conditions-that-land-{annul:d}", [one for four in each for one in four] + END, None, NUMBERS)
+    longest = [branch(EQUAL, WORDS - 3, True), give] + [NOP] * (WORDS - 6) + [RETURN, copy] + END
+    yield listed("last-slot-that-may-be-landed-on", longest, f"{' '.join([FIRST] * (WORDS - 3))} {met}")
+
+
 NUMBERS = {register: cases.FULL for register in range(2, MARKS)}
 
 
@@ -235,7 +270,12 @@ def forms():
     yield refused("word-behind-not-read", "2 2 0", END + [CALL] + END)
     yield refused("target-before", "3 0 0", [branch(EQUAL, -1), NOP] + END)
     yield refused("target-behind", "3 0 0", [branch(EQUAL, 4), NOP] + END)
-    yield refused("target-a-slot", "3 0 0", [branch(EQUAL, 3), NOP] + END)
+    yield refused("last-slot-landed-on", "3 3 0", [branch(EQUAL, 3), NOP] + END)
+    yield refused("last-slot-landed-on-by-its-branch", "3 1 0", [branch(ALWAYS, 1), NOP])
+    yield refused("last-slot-landed-on-by-an-unreached-branch", "3 5 0", END + [branch(EQUAL, 3), NOP] + END)
+    yield refused("last-slot-landed-on-and-a-bad-target", "3 2 0", [branch(EQUAL, 5), NOP, branch(EQUAL, 99), NOP] + END)
+    yield listed("last-slot-named-by-bn", [branch(NEVER, 3), NOP] + END, " ".join([FIRST] * 4))
+    yield refused("transfer-in-a-slot-landed-on", "3 3 0", [branch(EQUAL, 3), NOP, RETURN, RETURN] + END)
     yield refused("transfer-in-slot", "3 1 0", [RETURN, RETURN, NOP])
     yield refused("last-word-goes-on", "3 0 0", [NOP])
     yield refused("unreached-goes-on", "3 2 0", END + [NOP])
@@ -275,5 +315,5 @@ def policies():
 
 def made():
     """All cases; the first is that by which they are known from others."""
-    for several in (flows, loops, meetings, copies, sums, numbers, accesses, every_pair, lengths, forms, orders, policies):
+    for several in (flows, landings, loops, meetings, copies, sums, numbers, accesses, every_pair, lengths, forms, orders, policies):
         yield from several()

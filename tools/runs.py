@@ -2,7 +2,7 @@
 """runs.py: writes the data of the program crates/runs to standard output.
 
     tools/runs.py            from the runs that stand in the data
-    tools/runs.py RUNS       from others
+    tools/runs.py RUNS       from these and others
 
 RUNS has runs of the machine as text, a blank line between two. A line is a name and what stands for it:
   policy N             the number of regions; for each of them
@@ -19,9 +19,9 @@ and what the run gives: end (0 returned, 1 spent, else the number of the refusal
 regs, codes, and memory (`same`, or whole).
 
 Of the runs that fit the program's room a sample is taken: EACH runs at most of every end with the memory
-changed and of every end with it unchanged, evenly over the sizes of memory; none that ends with 20. After them
-come runs that are made from one run of the sample, with what document 01 says of them, which needs no
-implementation to tell:
+changed and of every end with it unchanged, with a branch into a slot and without, evenly over the sizes of
+memory; none that ends with 20. Those that stand in the data stay there. After them come runs that are made from
+one run of the sample, with what document 01 says of them, which needs no implementation to tell:
   20   its policy is changed so that it breaks one rule, another each time; a run that is refused changes nothing
   20   it has no words, and its policy breaks a rule
   21   it has neither words nor bases
@@ -29,8 +29,10 @@ implementation to tell:
   101  a branch or a return stands in the slot of a branch
   102  after a nop an add, a store or a return reads a register that is not set; the store also at an odd address
   104  after a nop a half is stored at an odd address
-The first of them ends with 20, so that they are known again. How many runs there are of each end is written to
-standard error.
+  0    a branch goes into a slot: its own, that of another branch or of a return, one that is skipped, one with a
+       branch in it, which is run; and some of these with few steps allowed (1), or no word after the slot (101)
+The first of them ends with 20, so that they are known again. How many runs there are of each end, and how many
+with a branch into a slot, is written to standard error.
 
 A record of the data is numbers of 32 bits, big-endian, and then bytes. The first number says how many come
 after it; these are
@@ -52,13 +54,15 @@ import struct
 import sys
 
 sys.dont_write_bytecode = True
+import assembly
 import script
+from cases import ALWAYS, EQUAL, NEVER, NOT_EQUAL, branch, word
 from parts import NOP, RETURN
 
 DATA = os.path.join(os.path.dirname(os.path.abspath(__file__)), "..", "crates", "runs", "stdin")
 # How the first run ends that is made here; none ends so that is not.
 MADE = 20
-BAD_SHAPE, BAD_PLACEMENT, NO_WORD, UNSET_READ, UNALIGNED = 21, 22, 101, 102, 104
+RETURNED, SPENT, BAD_SHAPE, BAD_PLACEMENT, NO_WORD, UNSET_READ, UNALIGNED = 0, 1, 21, 22, 101, 102, 104
 # Words of those that are made, beside the nop and the return: a branch always to the second word after it, r1 and r2 added, and a store
 # of the half in r2 at the address in r1.
 BRANCH, ADD, STORE = 0x10800002, 0x86004002, 0xC4304000
@@ -67,6 +71,8 @@ LINK = 15
 MEMORY, WORDS = 2048, 132
 EACH = 35
 REGIONS, FIELDS, REGISTERS = 8, 16, 32
+# The codes of a state: that they are set; Z alone; N and C.
+CODES_SET, EQUALS, IS_LESS = 16, 4, 9
 EXCESS = 2 ** 31
 Field = collections.namedtuple("Field", "place element permission target offset count lo hi")
 
@@ -75,7 +81,7 @@ def state(registers, codes):
     values = [int(register[:-1], 16) for register in registers]
     marks = sum(2 ** r for r, register in enumerate(registers) if register[-1] == "+")
     (digit, mark), = codes
-    return values + [marks, int(digit, 16) + (16 if mark == "+" else 0)]
+    return values + [marks, int(digit, 16) + (CODES_SET if mark == "+" else 0)]
 
 
 def padded(numbers):
@@ -101,6 +107,9 @@ class Run:
 
     def fits(self):
         return len(self.memory) <= MEMORY and len(self.words) <= WORDS and len(self.bases) <= REGIONS
+
+    def sort(self):
+        return self.end, self.changed, bool(assembly.slots_landed_on(self.words))
 
     def record(self):
         numbers = [self.end, self.steps, self.allowance, self.returns, self.regions]
@@ -141,14 +150,17 @@ def standing():
     return runs
 
 
-def sample(runs):
-    classes = collections.defaultdict(list)
-    for run in runs:
-        if run.fits() and run.end != MADE:
-            classes[run.end, run.changed].append(run)
-    for _, members in sorted(classes.items()):
+def sample(kept, others):
+    """The runs that stay and, where they are fewer than EACH, others, sort by sort."""
+    classes = collections.defaultdict(lambda: ([], []))
+    for runs, place in (kept, 0), (others, 1):
+        for run in runs:
+            if run.fits() and run.end != MADE:
+                classes[run.sort()][place].append(run)
+    for _, (stay, members) in sorted(classes.items()):
         members.sort(key=lambda run: len(run.memory))
-        taken = min(EACH, len(members))
+        taken = max(0, min(EACH - len(stay), len(members)))
+        yield from stay
         for k in range(taken):
             yield members[k * len(members) // taken]
 
@@ -241,6 +253,39 @@ def faulting(run):
         yield altered(run, {"fields": fields, "words": words, "before": registers + rest}, end=fault, steps=1, after=[0] + registers[1:] + rest)
 
 
+def landing(run):
+    """Runs of routines with a branch into a slot. r1 and r2 are 0 at first: the slot adds 1 to r1, and other slots add 1 to r2. The
+    codes are at first as they are left."""
+    count, mark = word("add", 1, 1, 1), word("add", 2, 2, 1)
+    into, last = [branch(ALWAYS, 3), mark], [RETURN, mark]
+    own = [branch(ALWAYS, 1), count, *last]
+    loop = [branch(ALWAYS, 2), count, word("subcc", 0, 1, 3), branch(NOT_EQUAL, -2), mark, *last]
+    for end, steps, words, codes, first, second in [
+            (RETURNED, 5, own, 0, 2, 1),
+            (RETURNED, 4, [branch(ALWAYS, 1, True), count, *last], 0, 1, 1),
+            (RETURNED, 5, [branch(EQUAL, 1), count, *last], EQUALS, 2, 1),
+            (RETURNED, 4, [branch(EQUAL, 1), count, *last], 0, 1, 1),
+            (RETURNED, 5, [branch(EQUAL, 1, True), count, *last], EQUALS, 2, 1),
+            (RETURNED, 3, [branch(EQUAL, 1, True), count, *last], 0, 0, 1),
+            (RETURNED, 5, [*into, branch(ALWAYS, 0), count, *last], 0, 1, 2),
+            (RETURNED, 5, [*into, branch(EQUAL, 0), count, *last], 0, 1, 2),
+            (RETURNED, 5, [*into, branch(ALWAYS, 0, True), count, *last], 0, 1, 2),
+            (RETURNED, 5, [*into, branch(NEVER, 0, True), count, *last], 0, 1, 2),
+            (RETURNED, 5, [*into, RETURN, count, *last], 0, 1, 2),
+            (RETURNED, 4, [branch(ALWAYS, 3, True), mark, RETURN, count, *last], 0, 1, 1),
+            (RETURNED, 6, [*into, branch(ALWAYS, 0), branch(ALWAYS, 2), count, *last], 0, 1, 2),
+            (RETURNED, 15, loop, EQUALS, 3, 4),
+            (SPENT, 2, own, 0, 1, 0),
+            (SPENT, 3, own, 0, 2, 0),
+            (SPENT, 10, loop, IS_LESS, 3, 2),
+            (NO_WORD, 3, [*into, RETURN, count], 0, 1, 1)]:
+        registers = run.before[:REGISTERS]
+        registers[1:3], registers[LINK] = [0, 0], run.returns
+        rest = [2 ** REGISTERS - 1, CODES_SET + codes]
+        change = {"words": words, "before": registers + rest, "allowance": steps if end == SPENT else 99}
+        yield altered(run, change, end=end, steps=steps, after=[0, first, second, *registers[3:], *rest])
+
+
 def run_of(text):
     """The run that a text has; a problem names its first line."""
     try:
@@ -252,20 +297,21 @@ def run_of(text):
 def main(arguments):
     if len(arguments) > 1:
         raise script.Problem("call it as `runs.py` or `runs.py RUNS`; `runs.py --help` says more")
+    others = []
     if arguments:
         with open(arguments[0], encoding="utf-8", errors="replace") as text:
-            runs = list(sample(run_of(each) for each in text.read().split("\n\n") if each.strip()))
-    else:
-        runs = list(sample(standing()))
+            others = [run_of(each) for each in text.read().split("\n\n") if each.strip()]
+    runs = list(sample(standing(), others))
     whole = [run for run in runs if run.end == 0 and 3 <= run.regions < REGIONS and all(kinds(run))]
     if not whole:
         raise script.Problem("no run that returned can be made into others: it needs three to seven regions, an address and two signed halves")
-    for made in refused, empty, misplaced, faulting:
+    for made in refused, empty, misplaced, faulting, landing:
         runs += made(whole[0])
     for run in runs:
         sys.stdout.buffer.write(run.record())
     for end, count in sorted(collections.Counter(run.end for run in runs).items()):
         print(f"end {end}: {count} runs", file=sys.stderr)
+    print(f"with a branch into a slot: {sum(bool(assembly.slots_landed_on(run.words)) for run in runs)} runs", file=sys.stderr)
 
 
 if __name__ == "__main__":

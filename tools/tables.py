@@ -2,7 +2,7 @@
 """tables.py: chooses the records of the program crates/tables and writes its data, stdin and stdout.
 
     tools/tables.py                from the listings that the repository has
-    tools/tables.py LISTINGS       with others of the independent implementation
+    tools/tables.py LISTINGS       with more of the independent implementation
 
 LISTINGS has listings of kinds as text, a blank line between two. A line is a name and what stands for it:
   policy HEX     the number of regions, a byte; the regions, 4 bytes each; the fields of all, 16 bytes each, as in a bundle
@@ -13,12 +13,12 @@ LISTINGS has listings of kinds as text, a blank line between two. A line is a na
   marks M ..     32 digits a word, or `same` if the table is left as it was
 Other lines are passed over.
 
-There are two sources: the independent implementation's listings (without LISTINGS those that stand in the data already),
-and those of kindcases.py, all of which are taken. Of the first only those are taken that are needed: every wrong version of
+There are two sources: the independent implementation's listings, and those of kindcases.py, all of which are taken. Of the
+first those that stand in the data stay there. Of others only those are taken that are needed: every wrong version of
 tools/plain/kinds-mutants.txt that is told apart by one of them is told apart by one that is taken, and every number is the
-answer to several. The plain program (tools/plain/kinds.c) must give what is expected of every listing, and every version must be told
-apart by the data, but those that the list shows to be no wrong versions. It takes some minutes: each version is compiled and makes every
-listing.
+answer to several, with a branch into a slot and without. The plain program (tools/plain/kinds.c) must give what is expected of
+every listing, and every version must be told apart by the data, but those that the list shows to be no wrong versions. It takes
+some minutes: each version is compiled and makes every listing.
 
 A record of the data is numbers of 32 bits, big-endian, and then bytes. The first number says how many come
 after it; these are
@@ -51,6 +51,8 @@ CRATE = os.path.join(TOOLS, "..", "crates", "tables")
 REGIONS, FIELDS, HEAD, EXCESS = 8, 16, 25, 2 ** 31
 # Seconds that the plain program has for all listings, and for one.
 SECONDS, SECONDS_EACH = 20, 2
+# How many listings there are to be with a branch into a slot, and how many that are refused at such a slot.
+LANDING, REFUSED = 10, 5
 
 
 # Records
@@ -91,6 +93,12 @@ def expected(one):
     number, at_word, register, *_, count = struct.unpack_from(">9I", one, 4)
     marks = one[len(one) - count:].ljust(kindcases.TABLE, b"\0")
     return f"{number} {at_word} {register}", "same" if number else "".join(map(str, marks))
+
+
+def words_of(one):
+    """The words of a record."""
+    (count,) = struct.unpack_from(">I", one, 4 + 4 * 5)
+    return struct.unpack_from(f">{count}I", one, 4 + 4 * HEAD)
 
 
 # Listings as text
@@ -158,8 +166,9 @@ def standing(first_made):
     return there[:there.index(first_made)] if first_made in there else []
 
 
-def chosen(text, other, made, folder):
-    """The places of the other records to take. Every version must be told apart by one of these or by a record that is made."""
+def chosen(text, other, kept, made, folder):
+    """The places of the other records to take, the first `kept` among them. Every version must be told apart by one of these or by a
+    record that is made."""
     told, amiss = [], wrong(text, other, folder)
     if amiss:
         raise Problem(f"kinds.c itself gives something else for listing {amiss[0]}")
@@ -168,7 +177,9 @@ def chosen(text, other, made, folder):
         if bool(places) == (version.reason is not None):
             raise Problem(f"{version.name}: " + ("survives" if version.reason is None else "has a reason, but is told apart"))
         told.append((version, [at for at in places if at < len(other)]))
-    return corpus.chosen([(one, expected(one)[0]) for one in other], told, len(other), [])
+    stock = [(one, expected(one)[0]) for one in other]
+    sorts = [corpus.sort_of(words_of(one), answer, LANDING, REFUSED) for one, answer in stock]
+    return corpus.chosen(stock, told, sorts, range(kept))
 
 
 def main(arguments):
@@ -177,13 +188,14 @@ def main(arguments):
     with open(SOURCE, encoding="utf-8") as file:
         text = file.read()
     with tempfile.TemporaryDirectory() as folder:
+        more = []
         if arguments:
             with open(arguments[0], encoding="utf-8", errors="replace") as file:
-                other = [record(case_of(each)) for each in file.read().split("\n\n") if each.strip()]
+                more = [record(case_of(each)) for each in file.read().split("\n\n") if each.strip()]
         made = made_records(text, folder)
-        if not arguments:
-            other = standing(made[0])
-        taken = [other[at] for at in chosen(text, other, made, folder)]
+        kept = standing(made[0])
+        other = list(dict.fromkeys(kept + more))
+        taken = [other[at] for at in chosen(text, other, len(kept), made, folder)]
     with open(os.path.join(CRATE, "stdin"), "wb") as file:
         file.write(b"".join(taken + made))
     with open(os.path.join(CRATE, "stdout"), "w") as file:

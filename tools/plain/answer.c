@@ -864,6 +864,7 @@ struct code {
     struct entry result;
     int words;
     struct insn insn[MAX_WORDS];
+    bool is_target[MAX_WORDS];  /* does a taken edge land on the word? */
     struct row row[MAX_WORDS];
 };
 
@@ -872,14 +873,33 @@ static bool is_slot(const struct code *c, int word)
     return word > 0 && is_transfer(&c->insn[word - 1]);
 }
 
+/* Any branch but never has a taken edge, whether it is reached or not. */
+static void find_targets(struct code *c)
+{
+    memset(c->is_target, 0, sizeof c->is_target);
+    for (int w = 0; w < c->words; w++) {
+        const struct insn *in = &c->insn[w];
+        int target = w + in->imm;
+
+        if (in->form == BICC && in->condition != NEVER &&
+            target >= 0 && target < c->words)
+            c->is_target[target] = true;
+    }
+}
+
+/* A slot is examined as an ordinary word too if a taken edge lands on it. */
+static bool is_examined(const struct code *c, int word)
+{
+    return !is_slot(c, word) || c->is_target[word];
+}
+
 static bool flow_well_formed(const struct code *c, int word)
 {
     const struct insn *in = &c->insn[word];
-    bool slot = is_slot(c, word);
 
     if (!is_transfer(in))
-        return slot || word + 1 < c->words;
-    if (slot || word + 1 == c->words)
+        return word + 1 < c->words || !is_examined(c, word);
+    if (is_slot(c, word) || word + 1 == c->words)
         return false;
     if (in->form == RETURN)
         return true;
@@ -888,7 +908,7 @@ static bool flow_well_formed(const struct code *c, int word)
     if (in->condition != NEVER) {
         int target = word + in->imm;
 
-        return target >= 0 && target < c->words && !is_slot(c, target);
+        return target >= 0 && target < c->words;
     }
     return true;
 }
@@ -991,7 +1011,7 @@ static struct answer check_code(const struct code *c)
     if (reg >= 0)
         return refuse(BAD_ENTRY, 0, reg);
     for (int w = 0; w < c->words; w++) {
-        if (is_slot(c, w))
+        if (!is_examined(c, w))
             continue;
 
         struct answer answer = check_word(c, w);
@@ -1123,6 +1143,7 @@ static struct answer answer_bundle(const uint8_t *bundle, size_t size,
     at += ROW_BYTES + ENTRY_BYTES;
     for (int w = 0; w < c->words; w++, at += WORD_BYTES)
         c->insn[w] = decode(get32(at));
+    find_targets(c);
     for (int w = 0; w < c->words; w++, at += ROW_BYTES) {
         get_row(at, &c->row[w]);
 

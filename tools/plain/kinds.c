@@ -146,16 +146,16 @@ static void pass_branch(struct listing *l, int word)
         send_over_slot(l, word, !in->annul, word + 2);
 }
 
-/* Pass on the marks of a word that is no slot. */
+/* Pass on the marks of a word; a slot does so if a taken edge lands on it. */
 static void pass_on(struct listing *l, int word)
 {
     const struct insn *in = &l->code->insn[word];
 
     if (is_transfer(in)) {
-        memcpy(l->mark[word + 1], l->mark[word], REGISTERS);
+        send(l, l->mark[word], word + 1);
         if (in->form == BICC)
             pass_branch(l, word);
-    } else {
+    } else if (is_examined(l->code, word)) {
         uint8_t marks[REGISTERS];
 
         memcpy(marks, l->mark[word], sizeof marks);
@@ -253,6 +253,7 @@ static struct answer list_record(struct record *record, struct code *c)
         if (c->insn[w].form == UNREAD)
             return refuse(c->insn[w].refusal, w, 0);
     }
+    find_targets(c);
     for (int w = 0; w < c->words; w++)
         if (!flow_well_formed(c, w))
             return refuse(BAD_FLOW, w, 0);
