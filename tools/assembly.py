@@ -26,6 +26,7 @@ SYMBOLS, RELOCATIONS, EMPTY = 2, 4, 8   # types of sections; an empty one has no
 LOADED = 2                              # a flag of sections
 LABEL_TYPES = (0, 2)                    # types of symbols: none, function
 COMMON = 0xFFF2                         # the section of a symbol that .comm makes
+RETURN, NEVER = 0x81C3E008, 0           # retl; the condition of bn
 # V8's privileged instructions: their names, by format and opcode.
 PRIVILEGED = {
     (2, 0x29): "rd %psr", (2, 0x2A): "rd %wim", (2, 0x2B): "rd %tbr",
@@ -124,13 +125,26 @@ def target_of(index, word):
 
 
 def is_transfer(word):
+    """Whether a word is a Bicc or the return, so that the word after it is its slot."""
     return word == RETURN or target_of(0, word) is not None
 
 
-def slots_landed_on(words):
-    """The slots that a taken edge lands on: targets of branches other than never, reached or not."""
-    targets = {target_of(index, word) for index, word in enumerate(words) if word >> 25 & 15}
-    return [index for index in range(1, len(words)) if index in targets and is_transfer(words[index - 1])]
+def landings(words):
+    """The slots that branches land on, each with the words of these branches. (A slot that is a branch or return is
+    refused, and has none here.)"""
+    found = {}
+    for index, word in enumerate(words):
+        target = target_of(index, word)
+        inside = target is not None and 0 < target < len(words)
+        if inside and word >> 25 & 15 != NEVER and is_transfer(words[target - 1]) and not is_transfer(words[target]):
+            found.setdefault(target, []).append(index)
+    return found
+
+
+def branches_text(branches):
+    """That these words branch to a word: `word 3 branches`, `words 3 and 9 branch`."""
+    *first, last = branches
+    return f"words {', '.join(map(str, first))} and {last} branch" if first else f"word {last} branches"
 
 
 def with_target(index, word, text):

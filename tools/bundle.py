@@ -35,7 +35,8 @@ rows.txt
     REGISTER = ENTRY              r0 to r31, or %g0 to %i7
     note none, note set           condition codes not set; set
     note compared REGISTER N      set by comparing that register's present value with the number N
-    slot                          alone: a row for a delay slot, which is not read; all unset
+    slot                          alone: a row for a delay slot, which is not read; all unset; not for a slot
+                                  that a branch lands on, whose row is read
   ENTRY        unset; return; any number; SET; REGION+SET; REGION (that is REGION+0); REGION or null
   SET          N; LO..HI (step 1); LO..HI step S
 """
@@ -180,10 +181,10 @@ def unnamed(regions):
 
 class Rows:
     """The entry row and result entry by their names, and the rows by their words, as far as they are read. It knows the
-    names of the regions, the word of each label and how many words there are."""
+    names of the regions, the word of each label, how many words there are and which branches land on slots."""
 
-    def __init__(self, names, labels, count):
-        self.names, self.labels, self.count = names, labels, count
+    def __init__(self, names, labels, count, landings={}):
+        self.names, self.labels, self.count, self.landings = names, labels, count, landings
         self.named, self.rows = {}, {}
 
     def add(self, text):
@@ -199,7 +200,11 @@ class Rows:
             self.named[key] = self.row_of(rest)
         else:
             word = self.next_word(key)
-            self.rows[word] = self.row_of(rest)
+            row = self.row_of(rest)
+            if row is SLOT and word in self.landings:
+                raise Problem(f"{self.called(word)} is the slot of word {word - 1}, but {assembly.branches_text(self.landings[word])} "
+                              "to it: it needs a row, with what holds when it is branched to")
+            self.rows[word] = row
 
     def next_word(self, key):
         """The word that a line's key names, which comes after those above."""
@@ -321,7 +326,7 @@ def set_of(text):
 
 def read_rows(path, names, labels, words):
     """Entry row, result entry, rows."""
-    rows, name = Rows(names, labels, len(words)), os.path.basename(path)
+    rows, name = Rows(names, labels, len(words), assembly.landings(words)), os.path.basename(path)
     for first, last, text in lines_of(path):
         at_lines(path, first, last, rows.add, text)
     for key in ("entry", "result"):

@@ -86,7 +86,7 @@ def sort_of(words, answer, accepted, refused):
     """What one of the independent implementation's records counts as, and how many of these there are to be: so many that are accepted
     with a branch into a slot, so many that are refused at such a slot."""
     number, word, _ = answer.split()
-    slots = assembly.slots_landed_on(words)
+    slots = assembly.landings(words)
     if number == "0" and slots:
         return "branch into a slot", accepted
     if number not in BEFORE_FLOW and int(word) in slots:

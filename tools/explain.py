@@ -7,7 +7,8 @@
 Prints the answer, the entry of its number in docs/CARD.md, and then what in the bundle it is about: the word (disassembled
 by GNU binutils for SPARC, if that is here), its operands, the region's fields and the bytes reached; for 12 and 14 the way,
 what was narrowed on it or why nothing was, what the word and its slot make of the register and what it does not fit; for 1
-and 18 to 23 the bytes that are badly formed. A slot is shown with the row that its branch or return hands on.
+and 18 to 23 the bytes that are badly formed. A slot is shown with the row that its branch or return hands on; or with its own,
+if a branch lands on it and it is refused with that.
 
 All this is found by the program `explain` (target/bin/explain, made by `rt check explain`), which calls the functions of the
 check; this script has the names and the words.
@@ -164,9 +165,21 @@ def words_in(data, said):
 
 def word_text(data, said, index):
     words, texts = words_in(data, said)
-    text = texts[index] if texts else instruction_name(said) if index == first(said, "word")[0] else ""
-    slot = "  (slot of word {})".format(*first(said, "slot")) if "slot" in said.items and index == first(said, "word")[0] else ""
-    return f"word {index}: {words[index]:08X}  {text}".rstrip() + slot
+    named = index == first(said, "word")[0]
+    text = texts[index] if texts else instruction_name(said) if named else ""
+    return f"word {index}: {words[index]:08X}  {text}".rstrip() + (slot_text(data, said) if named else "")
+
+
+def slot_text(data, said):
+    """Of which word the word that is named is the slot, and which branch to it if that is why it is looked at."""
+    if "landed" in said.items:
+        return "  (slot of word {}; {} to it)".format(*first(said, "landed"), landing_text(data, said))
+    return "  (slot of word {})".format(*first(said, "slot")) if "slot" in said.items else ""
+
+
+def landing_text(data, said):
+    """That these words branch to the word that is named."""
+    return assembly.branches_text(assembly.landings(layout.open_bundle(data)[3])[first(said, "word")[0]])
 
 
 def edge_text(said):
@@ -314,7 +327,7 @@ def word_reason(names, said):
 def word_lines(data, names, said):
     """A refusal by one word's own conditions, or by a slot's."""
     at = first(said, "row")[0]
-    lines = [f"with row {at}:"]
+    lines = [f"with row {at}" + (", its own, as a word that is branched to:" if "landed" in said.items else ":")]
     if "slot" in said.items:
         text = narrowing_text(data, names, said)
         lines = [f"with row {at} as word {at} hands it on ({edge_text(said)}):" + (" " + text if text else "")]
@@ -331,7 +344,8 @@ def edge_lines(data, names, said):
     transfer = "branch" in said.items or "return" in said.items
     lines = [word_text(data, said, word + 1) + f"  (slot of word {word})"] if transfer else []
     slot = f"; the slot {'runs' if runs else 'is skipped'}" if transfer else ""
-    lines += [f"way: {edge_text(said)}{slot}", f"row {word}: {held_text(names, said.rows['row'], register)}"]
+    own = ", from its own row" if "landed" in said.items else ""
+    lines += [f"way: {edge_text(said)}{own}{slot}", f"row {word}: {held_text(names, said.rows['row'], register)}"]
     if "branch" in said.items:
         lines += [f"on this way{', before the slot' if runs else ''}: {held_text(names, said.rows['handed'], register)}",
                   "  " + narrowing_text(data, names, said)]
@@ -340,7 +354,14 @@ def edge_lines(data, names, said):
         lines.append(f"{after}: {held_text(names, said.rows['made'], register)}")
     asks = bundle.note_text(tuple(first(said, "asks-note"))) if register == NOTE else entry_text(names, first(said, "asks"))
     asked = f"next row, {first(said, 'to')[0]}: " + ("" if register == NOTE else f"r{register} = ") if "to" in said.items else "result: "
-    return lines + [asked + asks, "wrong: " + misfit_text(names, said)]
+    return lines + [asked + asks] + target_lines(said) + ["wrong: " + misfit_text(names, said)]
+
+
+def target_lines(said):
+    """What the next row is for, where it is that of a slot."""
+    to, _, slot = first(said, "to") if "to" in said.items else (0, 0, 0)
+    text = f"  word {to} is the slot of word {to - 1}: row {to} is for the branches to it; as a slot it runs with row {to - 1}"
+    return [text] if slot else []
 
 
 def start_lines(names, said):
@@ -351,7 +372,7 @@ def start_lines(names, said):
     return [f"entry row: {text(tuple(first(said, has)))}", f"row 0: {text(tuple(first(said, asks)))}", "wrong: " + misfit_text(names, said)]
 
 
-def flow_reason(said):
+def flow_reason(data, said):
     """Why the flow of a word is wrong."""
     _, word, _ = said.answer
     count, edges, ends = first(said, "words")[0], said.items["edge"], list(said.items.get("to", []))
@@ -360,15 +381,15 @@ def flow_reason(said):
         return "a branch or return is the last word, so that it has no slot"
     if transfer and "slot" in said.items:
         return "a branch or return stands in the slot of word {}".format(*first(said, "slot"))
+    if "landed" in said.items:
+        return f"no word follows: as a slot it needs none, but {landing_text(data, said)} to it, and then it goes on to the next word"
     if not transfer:
         return "no word follows, and this is no slot"
-    for (taken, exists, _), (to, inside, slot) in zip(edges, ends):
+    for (taken, exists, _), (to, inside, _) in zip(edges, ends):
         if exists and not inside:
             far = to - 2**32 if to >= 2**31 else to
             way = "its target" if taken else "not taken, the next word after its slot"
             return f"{way} is word {far}, and the code has words 0 to {count - 1}"
-        if exists and taken and slot:
-            return f"its target, word {to}, is the slot of word {to - 1}"
     return "its edges do not end where they may"
 
 
@@ -432,7 +453,7 @@ def detail_lines(data, names, said):
         name = assembly.PRIVILEGED[assembly.opcode_of(first(said, "word")[1])]
         return lines + [f"wrong: this is {name}, which only the supervisor may run"]
     if number == 3:
-        return lines + ["wrong: " + flow_reason(said)]
+        return lines + ["wrong: " + flow_reason(data, said)]
     if number == 15:
         return lines + start_lines(names, said)
     return lines + (edge_lines if number in (12, 14) else word_lines)(data, names, said)

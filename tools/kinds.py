@@ -16,9 +16,9 @@ needs its objdump, and is left out otherwise. A BUNDLE has no labels.
 Each word is printed with the registers that are not unset: `%o0 address  %o1 number`; %g0, which is always the number 0, is
 left out. The kinds are number, address, address or null, and return. What a register holds on one way to the word and not on
 another, and all that a load of a word (ld) gives, is unset here; a row may say more. A word that no way leads to is not
-reached. A slot has the kinds of its branch or return, before that runs; those of a branch that goes into the slot meet with
-them. With --table the letters of %g0 to %g7, %o0 to %o7, %l0 to %l7 and %i0 to %i7 follow each other: `.` not reached, `n`
-number, `a` address, `z` address or null, `r` return, `-` unset.
+reached. A slot has the kinds of its branch or return, before that runs; a slot that a branch lands on has what is alike in
+these and on the ways into it. With --table the letters of %g0 to %g7, %o0 to %o7, %l0 to %l7 and %i0 to %i7 follow each
+other: `.` not reached, `n` number, `a` address, `z` address or null, `r` return, `-` unset.
 
 A routine that cannot be listed (23, 18 to 21, 2, 24 and 3, as in the check) is explained as by explain.py.
 
@@ -117,12 +117,16 @@ def groups_text(letters):
     return " ".join(letters[k:k + 8] for k in range(0, len(letters), 8))
 
 
+def slot_text(branches):
+    return f"  (slot; {assembly.branches_text(branches)} to it)" if branches else "  (slot)"
+
+
 def listing_lines(words, labels, marks, table):
-    """Each word with its kinds; a slot is called one."""
+    """Each word with its kinds; a slot is called one, with the words that branch to it."""
     text = groups_text if table else kinds_text
-    slots = [False] + [assembly.is_transfer(word) for word in words]
-    lines = [f"{shown}  {text(letters)}{'  (slot)' if slot else ''}"
-             for shown, letters, slot in zip(bundle.words_shown(words, labels), marks, slots)]
+    slots, landings = [False] + [assembly.is_transfer(word) for word in words], assembly.landings(words)
+    lines = [f"{shown}  {text(letters)}{slot_text(landings.get(k)) if slots[k] else ''}"
+             for k, (shown, letters) in enumerate(zip(bundle.words_shown(words, labels), marks))]
     head = "%g0 to %g7, %o0 to %o7, %l0 to %l7, %i0 to %i7: " + ", ".join(f"{letter} {name}" for letter, name in LETTERS.items())
     return ([head] if table else []) + lines
 

@@ -109,7 +109,7 @@ class Run:
         return len(self.memory) <= MEMORY and len(self.words) <= WORDS and len(self.bases) <= REGIONS
 
     def sort(self):
-        return self.end, self.changed, bool(assembly.slots_landed_on(self.words))
+        return self.end, self.changed, bool(assembly.landings(self.words))
 
     def record(self):
         numbers = [self.end, self.steps, self.allowance, self.returns, self.regions]
@@ -311,7 +311,7 @@ def main(arguments):
         sys.stdout.buffer.write(run.record())
     for end, count in sorted(collections.Counter(run.end for run in runs).items()):
         print(f"end {end}: {count} runs", file=sys.stderr)
-    print(f"with a branch into a slot: {sum(bool(assembly.slots_landed_on(run.words)) for run in runs)} runs", file=sys.stderr)
+    print(f"with a branch into a slot: {sum(bool(assembly.landings(run.words)) for run in runs)} runs", file=sys.stderr)
 
 
 if __name__ == "__main__":

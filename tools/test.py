@@ -604,6 +604,81 @@ def refusals_before_rows():
     yield "kinds.py with a field past its region", status == 0 and out.startswith("20 0 0\n") and "it does not end inside its region" in out, out + said
 
 
+# Slots that branches land on
+
+LOOP = words_of("heaviest")
+BRANCH, NEVER = 0x10800003, 0x00800003  # ba and bn to the third word from here
+
+
+def changed(entries, name="heaviest"):
+    """The bundle of an example with other entries in its rows, by word and register."""
+    policy, entry, result, words, rows = layout.open_bundle(read(EXAMPLES, name, "bundle.bin"))
+    for (word, register), other in entries.items():
+        rows[word][0][register] = other
+    return layout.bundle_bytes(policy, entry, result, words, rows)
+
+
+@cases()
+def slots_that_are_targets():
+    for what, words, expected in [
+            ("a loop that begins in a slot", LOOP, {4: [9]}), ("a loop that does not", WORDS, {}),
+            ("a slot after a return", [BRANCH, parts.NOP, parts.RETURN, parts.NOP], {3: [0]}),
+            ("a target that is no slot", [BRANCH, parts.NOP, parts.NOP, parts.NOP], {}),
+            ("bn", [NEVER, parts.NOP, parts.RETURN, parts.NOP], {}),
+            ("a branch to its own slot", [0x30800001, parts.NOP], {1: [0]}),
+            ("a return in a slot", [BRANCH, parts.NOP, parts.RETURN, parts.RETURN, parts.NOP], {}),
+            ("a target outside", [BRANCH, parts.NOP, parts.RETURN], {})]:
+        yield f"slots that branches land on: {what}", assembly.landings(words) == expected, repr(assembly.landings(words))
+    for branches, expected in [([9], "word 9 branches"), ([3, 9], "words 3 and 9 branch"), ([3, 5, 9], "words 3, 5 and 9 branch")]:
+        yield f"the text of {branches}", assembly.branches_text(branches) == expected, assembly.branches_text(branches)
+    rows = read(EXAMPLES, "heaviest", ROWS)
+    for what, text, expected in [
+            ("its row", rows, ""), ("an empty row", re.sub(rb"(?m)^4: .*$", b"4:", rows).replace(b"5: as before, ", b"5: "), ""),
+            ("`slot`", re.sub(rb"(?m)^4: .*$", b"4: slot", rows),
+             "rows.txt, line 8: word 4 (next) is the slot of word 3, but word 9 branches to it: it needs a row")]:
+        with routine() as folder, assembler_giving(object_file(LOOP, [("next", 4)])):
+            write(read(EXAMPLES, "heaviest", POLICY), folder, POLICY)
+            write(text, folder, ROWS)
+            said = problem_of(folder)
+        yield f"a slot that a branch lands on with {what}", said.startswith(expected) and bool(said) == bool(expected), said
+
+
+@cases(EXPLAIN)
+def refusals_of_slots():
+    number = layout.NUMBER, 0
+    policy, entry, result, _, _ = layout.open_bundle(read(EXAMPLES, "heaviest", "bundle.bin"))
+    last = layout.bundle_bytes(policy, entry, result, [BRANCH, parts.NOP, parts.RETURN, parts.NOP], [entry] * 4)
+    both = "(slot of word 3; word 9 branches to it)"
+    for what, data, answer, expected in [
+            ("its own row", read(EXAMPLES, "heaviest-one-past", "bundle.bin"), "7 4 8",
+             [both, "with row 4, its own, as a word that is branched to:", "wrong: byte 40 is not in field 0"]),
+            ("what its branch hands on", changed({(3, 1): (*number, 4, 0, 40)}), "7 4 8",
+             ["(slot of word 3)\n", "with row 3 as word 3 hands it on (taken, to word 11):", "wrong: byte 40 is not in field 0"]),
+            ("an unset register of its own row", changed({(4, 1): layout.NOTHING}), "4 4 1",
+             [both, "with row 4, its own, as a word that is branched to:", "wrong: r1 is unset"]),
+            ("the row after it", changed({(5, 1): (*number, 4, 0, 32)}), "12 4 1",
+             [both, "way: to word 5, from its own row\n", "after word 4: r1 = 4..36 step 4", "wrong: 36 is not in 0..32 step 4"]),
+            ("what a branch brings", changed({(4, 1): (*number, 8, 0, 0)}), "12 9 1",
+             ["way: taken, to word 4; the slot runs\n", "word 4 is the slot of word 3: row 4 is for the branches to it; as a slot it runs with row 3\n",
+              "wrong: 4 is not 0"]),
+            ("no word after it", last, "3 3 0",
+             ["(slot of word 2; word 0 branches to it)", "wrong: no word follows: as a slot it needs none, but word 0 branches to it"])]:
+        with example() as folder:
+            path = os.path.join(folder, "other.bin")
+            write(data, path)
+            status, out, said = called("explain.py", path)
+        right = status == 0 and out.startswith(answer + "\n") and all(text in out for text in expected) and not said
+        yield f"explain.py with a slot refused by {what}", right, out + said
+
+
+@cases(KINDS)
+def kinds_of_slots():
+    status, out, said = called("kinds.py", os.path.join(EXAMPLES, "heaviest", "bundle.bin"))
+    slots = {k: line.partition("  (")[2] for k, line in enumerate(out.splitlines()) if "  (" in line}
+    expected = {4: "slot; word 9 branches to it)", 7: "slot)", 10: "slot)", 12: "slot)"}
+    yield "kinds.py says which slot a branch lands on", (status, slots, said) == (0, expected, ""), out + said
+
+
 # Searches for fields
 
 @cases()

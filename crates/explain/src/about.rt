@@ -5,19 +5,21 @@ use crate::flowing::show_flow;
 use crate::form::show_broken_row;
 use crate::form::show_shape;
 use crate::items::done;
-use crate::items::single;
 use crate::items::value;
 use crate::shown::show_reading;
 use crate::unopened::show_no_bundle;
+use crate::ways::reading_at;
 use crate::ways::row_of;
 use crate::ways::show_flaw;
+use crate::ways::show_slot;
+use crate::ways::slot_at;
 use crate::words::show_row_of;
 use crate::words::show_way;
 use crate::words::show_word_in;
+use crate::words::way_refused;
 use bundle::answer;
 use bundle::open;
 use checker::Answer;
-use flow::readings::examine_all;
 use flow::readings::read_all;
 use output::print;
 use policy::Policy;
@@ -32,17 +34,7 @@ use v8::numbers::BAD_SHAPE;
 use v8::numbers::EDGE_MISFIT;
 use v8::numbers::ENTRY_MISFIT;
 use v8::numbers::MOST_WORDS;
-use v8::numbers::NOT_READ;
 use v8::numbers::RESULT_MISFIT;
-
-// The reading of a word; not read where there is none.
-fn reading_at(readings: [Reading; MOST_WORDS], at: usize) -> Reading {
-    if MOST_WORDS <= at {
-        return Reading::Unread(NOT_READ);
-    }
-    let x = readings[at];
-    x
-}
 
 // The word that is looked at: the one that is named, or the one before it, whose slot that is.
 fn looked_at(named: usize, slot: bool) -> usize
@@ -56,13 +48,37 @@ fn looked_at(named: usize, slot: bool) -> usize
     named
 }
 
+// Whether a refusal at a slot is one of the word before it, by what that hands on; if not, it is one of
+// the slot's own row.
+fn by_transfer(
+    policy: Policy,
+    readings: [Reading; MOST_WORDS],
+    rows: &[u8],
+    result: &[u8],
+    at: usize,
+) -> bool {
+    if at < 1 {
+        return false;
+    }
+    if rows.len() < ROW_BYTES {
+        return false;
+    }
+    let from = at - 1;
+    let row = row_of(rows, from, read_row(rows, 0));
+    let x = reading_at(readings, at);
+    match reading_at(readings, from) {
+        Reading::Read(i) => way_refused(policy, rows, result, from, i, x, row),
+        Reading::Unread(_) => false,
+    }
+}
+
 // A refusal of the last pass at a word: by its own conditions, or of the word before it, whose slot it
-// is, or of its edges.
+// is, or of its edges. A slot that a branch lands on is looked at both ways, that of the word before it
+// first.
 fn show_looked(
     policy: Policy,
     readings: [Reading; MOST_WORDS],
     words: usize,
-    marks: &[bool; MOST_WORDS],
     rows: &[u8],
     result: &[u8],
     a: Answer,
@@ -75,29 +91,21 @@ fn show_looked(
         return;
     }
     let edge = (a.number == EDGE_MISFIT) | (a.number == RESULT_MISFIT);
-    let own = marks[at] & !edge;
-    let from = looked_at(at, !own & !edge);
-    if from < at {
-        single(b"slot", from as u64);
+    let slot = slot_at(readings, at);
+    let handed = slot & !edge & by_transfer(policy, readings, rows, result, at);
+    let from = looked_at(at, handed);
+    if slot {
+        show_slot(at, !handed);
     }
     let row = row_of(rows, from, read_row(rows, 0));
     show_row_of(from, row);
-    let x = reading_at(readings, from);
-    if own {
-        return show_word_in(policy, row, x);
-    }
-    match x {
-        Reading::Read(i) => show_way(
-            policy,
-            rows,
-            result,
-            from,
-            words,
-            marks,
-            i,
-            reading_at(readings, from + 1),
-            row,
-        ),
+    match reading_at(readings, from) {
+        Reading::Read(i) => {
+            if edge | handed {
+                return show_way(policy, rows, result, from, words, readings, i, row);
+            }
+            show_word_in(policy, row, Reading::Read(i))
+        }
         Reading::Unread(_) => {}
     }
 }
@@ -120,12 +128,11 @@ fn show_named(policy: Policy, words: &[u32], rows: &[u8], entry: &[u8], result: 
         return;
     }
     let readings = read_all(words);
-    let marks = examine_all(words, readings);
     let x = reading_at(readings, at);
     show_word(at, words[at]);
     show_reading(x);
     if a.number == BAD_FLOW {
-        return show_flow(at, x, count, &marks);
+        return show_flow(at, count, readings);
     }
     if a.number == ENTRY_MISFIT {
         if ROW_BYTES <= entry.len() {
@@ -134,7 +141,7 @@ fn show_named(policy: Policy, words: &[u32], rows: &[u8], entry: &[u8], result: 
         return;
     }
     match x {
-        Reading::Read(_) => show_looked(policy, readings, count, &marks, rows, result, a),
+        Reading::Read(_) => show_looked(policy, readings, count, rows, result, a),
         Reading::Unread(_) => {}
     }
 }

@@ -13,6 +13,8 @@
 //   unread NUMBER
 //   words N                             how many words there are
 //   slot W                              the word is the slot of word W, and looked at with what W hands on
+//   landed W                            the word is the slot of word W, and looked at as an ordinary word,
+//                                       with its own row, since a branch lands on it
 //   row W                               the row of word W: its entries that are not unset, and its note
 //   handed, made                        the same of the row that an edge hands on, and that it ends with
 //   entry R KIND REGION STEP LO HI

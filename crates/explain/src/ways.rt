@@ -10,6 +10,7 @@ use crate::shown::show_row;
 use checker::change_by;
 use flow::Destination;
 use flow::Edge;
+use flow::readings::transfers;
 use output::print;
 use policy::Policy;
 use rows::Entry;
@@ -35,6 +36,7 @@ use rules::narrows;
 use v8::Reading;
 use v8::numbers::ACCEPTED;
 use v8::numbers::MOST_WORDS;
+use v8::numbers::NOT_READ;
 use v8::signed::BIAS;
 
 // r8, which has the result.
@@ -174,37 +176,57 @@ pub fn show_narrowing(e: Edge, row: Row, handed: Row) {
 }
 
 // Where an edge ends, in a routine of this many words, and whether a slot stands there.
-pub fn show_end(to: Destination, words: usize, marks: &[bool; MOST_WORDS]) {
+pub fn show_end(to: Destination, words: usize, readings: [Reading; MOST_WORDS]) {
     match to {
         Destination::To(next) => {
             let at = next.0 as usize;
             print(b"to");
             value(at as u64);
             flag(at < words);
-            flag(slot_at(marks, at));
+            flag(slot_at(readings, at));
             done();
         }
         Destination::Caller => bare(b"caller"),
     }
 }
 
-// Whether a slot stands at a word.
-pub fn slot_at(marks: &[bool; MOST_WORDS], at: usize) -> bool {
+// The reading of a word; not read where there is none.
+pub fn reading_at(readings: [Reading; MOST_WORDS], at: usize) -> Reading {
     if MOST_WORDS <= at {
+        return Reading::Unread(NOT_READ);
+    }
+    let x = readings[at];
+    x
+}
+
+// Whether a word is a slot, examined as an ordinary word too or not: the word before it is a transfer.
+pub fn slot_at(readings: [Reading; MOST_WORDS], at: usize) -> bool {
+    if at < 1 {
         return false;
     }
-    !marks[at]
+    transfers(reading_at(readings, at - 1))
+}
+
+// The word that a slot is of; the slot is looked at as an ordinary word, or with what that hands on.
+pub fn show_slot(at: usize, ordinary: bool) {
+    if at < 1 {
+        return;
+    }
+    if ordinary {
+        return single(b"landed", (at - 1) as u64);
+    }
+    single(b"slot", (at - 1) as u64)
 }
 
 // An edge: whether it is the taken one, whether there is one, and whether its slot runs.
-pub fn show_edge(e: Edge, taken: bool, words: usize, marks: &[bool; MOST_WORDS]) {
+pub fn show_edge(e: Edge, taken: bool, words: usize, readings: [Reading; MOST_WORDS]) {
     print(b"edge");
     flag(taken);
     flag(e.exists);
     flag(e.slot);
     done();
     let to = e.to;
-    show_end(to, words, marks);
+    show_end(to, words, readings);
 }
 
 // A place that does not fit: what a row has there and what another asks.

@@ -7,6 +7,7 @@ use crate::shown::end_entry;
 use crate::shown::show_row;
 use crate::ways::OnWay;
 use crate::ways::along;
+use crate::ways::reading_at;
 use crate::ways::refused_at;
 use crate::ways::show_arrival;
 use crate::ways::show_edge;
@@ -90,32 +91,53 @@ fn show_refused(
     show_arrival(rows, result, to, made)
 }
 
-// The edge of an instruction that is refused, the taken one before the other; its slot is read as x.
+// Whether an edge of an instruction is refused, the taken one or the other; its slot is read as x.
+pub fn way_refused(
+    policy: Policy,
+    rows: &[u8],
+    result: &[u8],
+    at: usize,
+    i: Instruction,
+    x: Reading,
+    before: Row,
+) -> bool {
+    if MOST_WORDS <= at {
+        return false;
+    }
+    let index = WordIndex(at as u32);
+    let row = made_by(policy, before, Reading::Read(i));
+    let taken = edge_of(index, i, true);
+    let other = edge_of(index, i, false);
+    is_refused(rows, result, taken, along(policy, taken, x, row))
+        | is_refused(rows, result, other, along(policy, other, x, row))
+}
+
+// The edge of an instruction that is refused, the taken one before the other.
 pub fn show_way(
     policy: Policy,
     rows: &[u8],
     result: &[u8],
     at: usize,
     words: usize,
-    marks: &[bool; MOST_WORDS],
+    readings: [Reading; MOST_WORDS],
     i: Instruction,
-    x: Reading,
     before: Row,
 ) {
     if MOST_WORDS <= at {
         return;
     }
     let index = WordIndex(at as u32);
+    let x = reading_at(readings, at + 1);
     let row = made_by(policy, before, Reading::Read(i));
     let taken = edge_of(index, i, true);
     let first = along(policy, taken, x, row);
     if is_refused(rows, result, taken, first) {
-        show_edge(taken, true, words, marks);
+        show_edge(taken, true, words, readings);
         return show_refused(policy, rows, result, taken, x, row, first);
     }
     let other = edge_of(index, i, false);
     let second = along(policy, other, x, row);
-    show_edge(other, false, words, marks);
+    show_edge(other, false, words, readings);
     show_refused(policy, rows, result, other, x, row, second)
 }
 
