@@ -15,7 +15,6 @@ from script import Problem
 BINUTILS = "sparc64-linux-gnu-"
 SECONDS = 30  # for a tool to end
 SOURCE = "routine.s"
-RETURN = 0x81C3E008
 # Of an object file: 32-bit, most significant byte first, version 1; relocatable; SPARC.
 IDENT, RELOCATABLE, SPARC = b"\x7fELF\1\2\1", 1, 2
 HEADER = struct.Struct(">16sHHIIIIIHHHHHH")

@@ -272,6 +272,7 @@ def forms():
     yield refused("target-behind", "3 0 0", [branch(EQUAL, 4), NOP] + END)
     yield refused("last-slot-landed-on", "3 3 0", [branch(EQUAL, 3), NOP] + END)
     yield refused("last-slot-landed-on-by-its-branch", "3 1 0", [branch(ALWAYS, 1), NOP])
+    yield refused("last-slot-of-a-full-routine-landed-on", "3 127 0", [branch(EQUAL, WORDS - 1)] + [NOP] * (WORDS - 3) + END)
     yield refused("last-slot-landed-on-by-an-unreached-branch", "3 5 0", END + [branch(EQUAL, 3), NOP] + END)
     yield refused("last-slot-landed-on-and-a-bad-target", "3 2 0", [branch(EQUAL, 5), NOP, branch(EQUAL, 99), NOP] + END)
     yield listed("last-slot-named-by-bn", [branch(NEVER, 3), NOP] + END, " ".join([FIRST] * 4))
