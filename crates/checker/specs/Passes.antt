@@ -1,11 +1,10 @@
 -- The passes of the check (document 01, "Check. 20 .. 21 .. 1 .. 2 .. 3 .. 15 .. Then each word outside slots"; request 4). Each takes what it reads.
 use Prim.Native.Nat.{ℕ, _+_, _*_}
-use mathlib.Core.Bool.{Bool, true, false, cond, not, _&&_, _||_}
+use mathlib.Core.Bool.{Bool, true, false, cond, _&&_}
 use mathlib.Core.List.{List}
-use lib.Dec.{leb, ltb, eqb}
+use lib.Dec.{leb, eqb}
 use lib.ListN.{length}
 use Rattle.v8.specs.Numbers.{badPolicy, badShape, badRow, badFlow, entryMisfit, edgeMisfit, resultMisfit, mostWords}
-use Rattle.v8.specs.declared.Instruction.{Instruction}
 use Rattle.v8.specs.declared.Reading.{Reading}
 use Rattle.v8.specs.declared.Reading.the-variants.{Read, Unread}
 use Rattle.flow.specs.declared.Destination.{Destination}

@@ -3,7 +3,7 @@
 -- is outside slots or one of those i lands on it; after all, whether it is examined.
 use Prim.Native.Nat.{ℕ, _+_, _-_, _<_, _≤_}
 use mathlib.Core.Path.{_≡_, refl, sym, ap, _∙_}
-use mathlib.Core.Bool.{Bool, true, false, not, _&&_, _||_, or-true, or-false}
+use mathlib.Core.Bool.{Bool, true, false, not, _||_, or-true, or-false}
 use mathlib.Core.List.{List, _∷_}
 use native.Mathlib.Omega.{arith}
 use lib.Dec.{eqb}
@@ -11,10 +11,7 @@ use lib.ListN.{length, getD, set, length-set}
 use lib.Seq.{getD-set-same, getD-set-other}
 use borrow.Author.Tests.{eqb-true, eqb-false, ne-eqb, eq-eqb}
 use Rattle.v8.specs.Search.{any}
-use Rattle.v8.specs.Numbers.{mostWords}
-use Rattle.v8.specs.declared.Instruction.{Instruction}
 use Rattle.v8.specs.declared.Reading.{Reading}
-use Rattle.v8.specs.declared.Reading.the-variants.{Read}
 use Rattle.v8.proofs.Search.{any-none, any-more, any-at}
 use Rattle.flow.specs.Readings.{readingsOf, readingAt, transfers, landsOn, isSlot, isTarget, examined, Outside, Examines, Adds}
 use Rattle.flow.proofs.Fetched.{read-count}

@@ -5,12 +5,9 @@ use mathlib.Core.Path.{_≡_, refl, sym, ap, _∙_, subst}
 use mathlib.Core.Bool.{Bool, true, false, _&&_}
 use mathlib.Core.List.{List}
 use native.Mathlib.Omega.{arith}
-use lib.Dec.{leb, ltb, eqb}
-use lib.ListN.{getD}
-use borrow.Author.Tests.{leb-true, ltb-true, ltb-false, lt-ltb, le-leb, eq-eqb}
-use Rattle.v8.proofs.Choice.{cond-both, and-went, false-true}
-use Rattle.v8.specs.Search.{first}
-use Rattle.v8.proofs.Search.{first-passes, first-least}
+use lib.Dec.{ltb, eqb}
+use borrow.Author.Tests.{eq-eqb}
+use Rattle.v8.proofs.Choice.{cond-both}
 use Rattle.v8.specs.declared.StoreOp.{StoreOp}
 use Rattle.v8.specs.declared.Access.{Access}
 use Rattle.v8.specs.declared.Access.the-variants.{Loads, Stores}
@@ -21,10 +18,8 @@ use Rattle.alu.specs.Result.{add32}
 use Rattle.policy.specs.declared.Policy.{Policy}
 use Rattle.policy.specs.declared.Field.{Field}
 use Rattle.policy.specs.declared.Found.the-variants as Found·
-use Rattle.policy.specs.Policy.{sizeOf, placeOf, fieldAt, fieldEnd}
-use Rattle.policy.specs.Find.{findField}
+use Rattle.policy.specs.Policy.{sizeOf, fieldAt, fieldEnd}
 use Rattle.policy.specs.Laws.{WellFormed}
-use Rattle.policy.proofs.FoundField.{finds}
 use Rattle.memory.specs.Memory.{loadOf, storeOf}
 use Rattle.memory.proofs.Memory.{load-fits, store-keeps-length, store-keeps-bytes}
 use Rattle.access.specs.declared.Located.the-variants as Located·

@@ -1,5 +1,5 @@
--- The rules of a listing (document 02, request 2): where the marks of each word go on, and what it is that a table is closed under these
--- rules.
+-- The rules of a listing (document 02, requests 2 and 4): where the marks of each word go on, and what it is that a table is closed under
+-- these rules.
 use Prim.Native.Nat.{ℕ, _+_}
 use mathlib.Core.Bool.{Bool, true, false, cond, _&&_}
 use mathlib.Core.List.{List, [], _∷_}
@@ -67,7 +67,9 @@ abbrev pub entrySent : ℕ → List ℕ → Sent
 entrySent n entry = toWord n 0 (entryMarks entry)
 
 module _ (readings : List Reading) where
-  -- all that word w sends in a table; a slot that is no ordinary word too sends nothing of its own
+  -- all that word w sends in a table, if it is examined as an ordinary word. Request 4, of a slot that a taken edge lands on: "such a slot shows its
+  -- transfer's marks met with those on the edges into it, and passes these on as an ordinary word; its transfer's edges go on from the transfer's
+  -- marks alone". Any other slot sends nothing of its own.
   unfoldable pub sentBy : List ℕ → ℕ → List Sent
   sentBy table w =
       cond (examined readings w)

@@ -14,12 +14,12 @@ use Rattle.v8.proofs.Search.{needed}
 use Rattle.v8.proofs.Table.{at}
 use Rattle.v8.proofs.Choice.{cond-went, cond-both, or-went, and-went}
 use Rattle.policy.specs.Element.{mosts, mostOf}
-use Rattle.sets.specs.Sets.{setOk, s1, numbers, ended}
+use Rattle.sets.specs.Sets.{setOk, s1, numbers}
 use Rattle.sets.proofs.Formed.{obeys}
 use Rattle.sets.proofs.Ends.{ended-formed, single-formed}
 use Rattle.rows.specs.declared.Entry.{Entry}
 use Rattle.rows.specs.declared.Flaw.the-variants.{None}
-use Rattle.rows.specs.Entry.{noEntry, isUnset, isNumber, isAddress, isStartOrNull, isReturn, isBlank, numberIn, regionStart, startOrNull, sizeIn, entryOk, fieldEntry}
+use Rattle.rows.specs.Entry.{isUnset, isNumber, isAddress, isStartOrNull, isReturn, isBlank, sizeIn, entryOk, fieldEntry}
 use Rattle.rows.specs.Geometry.{entryCount, entryStart, noteName, places}
 use Rattle.rows.specs.Row.{entryAt, entryOf, noteOf, rowOf, formedAt, brokenAt, formFault}
 use Rattle.rows.specs.Laws.{EntryRules, EntryObeys, RowObeys, FieldEntryObeys}

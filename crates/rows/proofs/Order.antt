@@ -10,7 +10,6 @@ use Rattle.sets.specs.declared.NumberSet.{NumberSet}
 use Rattle.sets.specs.Sets.{fitsSet, Step, SetRules}
 use Rattle.sets.proofs.Steps.{by-step}
 use Rattle.sets.proofs.Fits.{fits-holds, holds-fits}
-use Rattle.rows.specs.declared.Entry.{Entry}
 use Rattle.rows.specs.Kind.{Kind, kindOf}
 use Rattle.rows.specs.Entry.{isNumber, isAddress, isRegionStart, onlyZero}
 use Rattle.rows.specs.Laws.{RulesAs, FitsSelf, FitsOn}

@@ -25,7 +25,7 @@ use Rattle.sets.proofs.Ends.{single-formed, single-holds}
 use Rattle.sets.proofs.Narrowing.{narrow-formed, narrow-keeps}
 use Rattle.rows.specs.declared.Entry.{Entry}
 use Rattle.rows.specs.declared.Row.{Row}
-use Rattle.rows.specs.Entry.{noEntry, isNumber, isStartOrNull, isComparison, numberIn, constant, regionStart}
+use Rattle.rows.specs.Entry.{isNumber, isStartOrNull, isComparison}
 use Rattle.rows.specs.Row.{entryAt}
 use Rattle.rows.specs.Matches.{Host, baseOf, Holds, Matches, Held, RowMatches}
 use Rattle.rows.specs.Laws.{EntryRules, RowRules}

@@ -26,7 +26,7 @@ use Rattle.sets.proofs.Arithmetic.{alu-formed, alu-holds}
 use Rattle.sets.proofs.Shifts.{shift-formed, shift-holds}
 use Rattle.sets.proofs.Offsets.{adds-offset, subs-offset}
 use Rattle.rows.specs.declared.Entry.{Entry}
-use Rattle.rows.specs.Entry.{isNumber, isAddress, isStartOrNull, isZero, isConstant, wordOf, constant, numberIn, addressIn, sizeIn}
+use Rattle.rows.specs.Entry.{isNumber, isAddress, isStartOrNull, isZero, isConstant, wordOf, constant, numberIn, sizeIn}
 use Rattle.rows.specs.Matches.{Host, baseOf, Holds}
 use Rattle.rows.specs.Laws.{EntryRules}
 use Rattle.rows.proofs.ByKind.{holds-number, holds-address, held-number, held-address, number-rules, address-rules, ruled-number, ruled-address}

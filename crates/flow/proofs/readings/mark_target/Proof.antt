@@ -1,7 +1,5 @@
 -- By what the word is read as.
 use denote.Ref.{now}
-use mathlib.Core.Path.{_≡_, refl, subst, sym}
-use mathlib.Core.Bool.{false}
 use borrow.Author.Needs.{needs}
 use Rattle.flow.proofs.Examined.{adds-none, adds-as}
 use Rattle.flow.proofs.readings.mark_target.Statement.{statement}
