@@ -37,29 +37,30 @@ use Rattle.slotrows.specs.CheckRows.{checkRows}
 use Rattle.slotrows.specs.RunRows.{runRows}
 use Rattle.slotrows.specs.ListRows.{listRows}
 use Rattle.slotrows.specs.Table.{Holds, TrialsHold, TableHolds}
+use Rattle.slotrows.proofs.Passes.{passes-answer}
 
 flows-hold : Holds flowRows
-unfolding readingOf format00 format10 format11 operandOf countOf signExtend conditionOf lowest first any widthOf fieldAt holdsIn stopOf findIn slotRuns targetOf isSlot isTarget ended fitsSet within addSets atMost atLeast lessThan isMember only without fits fitsNote fieldEntry entryAt entriesWith entryOf noteOf rowOf flawFrom fitsAt misfit offsetsGive addressSum aluResult inField inRegion reachOf noteAfter codesNote aluChange accessChange branchChange returnChange narrowEntry narrowRow passOf flowPass cross narrowedEdge wordPass
+unfolding readingOf format00 format10 format11 operandOf countOf signExtend lowest first any targetOf isSlot isTarget passOf flowPass
 flows-hold = refl
 
 shared-hold : Holds sharedRows
-unfolding readingOf format00 format10 format11 operandOf countOf signExtend conditionOf lowest first any widthOf fieldAt holdsIn stopOf findIn slotRuns targetOf isSlot isTarget ended fitsSet within addSets atMost atLeast lessThan isMember only without fits fitsNote fieldEntry entryAt entriesWith entryOf noteOf rowOf flawFrom fitsAt misfit offsetsGive addressSum aluResult inField inRegion reachOf noteAfter codesNote aluChange accessChange branchChange returnChange narrowEntry narrowRow passOf flowPass cross narrowedEdge wordPass
+unfolding readingOf format00 format10 format11 operandOf countOf signExtend conditionOf lowest first any widthOf fieldAt holdsIn stopOf findIn slotRuns targetOf isSlot isTarget ended fitsSet within addSets fits fitsNote fieldEntry entryAt entriesWith entryOf noteOf rowOf flawFrom fitsAt misfit offsetsGive addressSum aluResult inField inRegion reachOf noteAfter codesNote aluChange accessChange branchChange returnChange narrowRow passOf flowPass cross narrowedEdge wordPass
 shared-hold = refl
 
 own-hold : Holds ownRows
-unfolding readingOf format00 format10 format11 operandOf countOf signExtend conditionOf lowest first any widthOf fieldAt holdsIn stopOf findIn slotRuns targetOf isSlot isTarget ended fitsSet within addSets atMost atLeast lessThan isMember only without fits fitsNote fieldEntry entryAt entriesWith entryOf noteOf rowOf flawFrom fitsAt misfit offsetsGive addressSum aluResult inField inRegion reachOf noteAfter codesNote aluChange accessChange branchChange returnChange narrowEntry narrowRow passOf flowPass cross narrowedEdge wordPass
+unfolding readingOf format00 format10 format11 operandOf countOf signExtend conditionOf lowest first any slotRuns targetOf isSlot isTarget ended fitsSet within addSets atMost atLeast lessThan isMember only without fits fitsNote entryAt entriesWith entryOf noteOf rowOf flawFrom fitsAt misfit aluResult noteAfter codesNote aluChange branchChange returnChange narrowEntry narrowRow passOf flowPass cross narrowedEdge wordPass
 own-hold = refl
 
 homes-hold : Holds homeRows
-unfolding readingOf format00 format10 format11 operandOf countOf signExtend conditionOf lowest first any widthOf fieldAt holdsIn stopOf findIn slotRuns targetOf isSlot isTarget ended fitsSet within addSets atMost atLeast lessThan isMember only without fits fitsNote fieldEntry entryAt entriesWith entryOf noteOf rowOf flawFrom fitsAt misfit offsetsGive addressSum aluResult inField inRegion reachOf noteAfter codesNote aluChange accessChange branchChange returnChange narrowEntry narrowRow passOf flowPass cross narrowedEdge wordPass
+unfolding readingOf format00 format10 format11 operandOf countOf signExtend conditionOf lowest first any slotRuns targetOf isSlot isTarget fitsSet fits fitsNote entryAt entriesWith entryOf noteOf rowOf flawFrom fitsAt misfit noteAfter branchChange returnChange narrowRow passOf flowPass cross narrowedEdge wordPass
 homes-hold = refl
 
 idle-hold : Holds idleRows
-unfolding readingOf format00 format10 format11 operandOf countOf signExtend conditionOf lowest first any widthOf fieldAt holdsIn stopOf findIn slotRuns targetOf isSlot isTarget ended fitsSet within addSets atMost atLeast lessThan isMember only without fits fitsNote fieldEntry entryAt entriesWith entryOf noteOf rowOf flawFrom fitsAt misfit offsetsGive addressSum aluResult inField inRegion reachOf noteAfter codesNote aluChange accessChange branchChange returnChange narrowEntry narrowRow passOf flowPass cross narrowedEdge wordPass
+unfolding readingOf format00 format10 format11 operandOf countOf signExtend conditionOf lowest first any widthOf fieldAt holdsIn stopOf findIn slotRuns targetOf isSlot isTarget ended fitsSet within addSets fits fitsNote fieldEntry entryAt entriesWith entryOf noteOf rowOf flawFrom fitsAt misfit offsetsGive addressSum aluResult inField inRegion reachOf noteAfter accessChange branchChange returnChange narrowRow passOf flowPass cross narrowedEdge wordPass
 idle-hold = refl
 
 checks-hold : TrialsHold checkRows
-unfolding readingOf format00 format10 format11 operandOf countOf signExtend conditionOf lowest first all any widthOf leastOf mostOf fieldAt valuesOk fieldOk endBefore fieldFits fieldAtOk regionOk policyOk holdsIn stopOf findIn slotRuns targetOf isSlot isTarget ended setOk fitsSet within addSets atMost atLeast lessThan isMember only without sizeIn entryOk fits noteOk fitsNote fieldEntry entryAt entriesWith entryOf noteOf rowOf formedAt flawFrom formFault fitsAt misfit offsetsGive addressSum aluResult inField inRegion reachOf noteAfter codesNote aluChange accessChange branchChange returnChange narrowEntry narrowRow passOf shapeOk rowPass readPass flowPass entryPass cross narrowedEdge wordPass answerOf checkOf
+unfolding readingOf format00 format10 format11 operandOf countOf signExtend conditionOf lowest first all any widthOf leastOf mostOf fieldAt valuesOk fieldOk endBefore fieldFits fieldAtOk regionOk policyOk holdsIn stopOf findIn slotRuns targetOf isSlot isTarget ended setOk fitsSet within addSets sizeIn entryOk fits noteOk fitsNote fieldEntry entryAt entriesWith entryOf noteOf rowOf formedAt flawFrom formFault fitsAt misfit offsetsGive addressSum aluResult inField inRegion reachOf noteAfter codesNote aluChange accessChange branchChange returnChange narrowRow passOf shapeOk rowPass readPass flowPass entryPass cross narrowedEdge wordPass answerOf checkOf
 checks-hold = refl
 
 runs-hold : TrialsHold runRows
@@ -67,7 +68,7 @@ unfolding readingOf format00 format10 format11 operandOf countOf signExtend cond
 runs-hold = refl
 
 lists-hold : Kinds·.Holds listRows
-unfolding readingOf format00 format10 format11 operandOf countOf signExtend conditionOf lowest first all any slotRuns targetOf isSlot isTarget widthOf leastOf mostOf fieldAt valuesOk fieldOk endBefore fieldFits fieldAtOk regionOk policyOk setOk sizeIn entryOk noteOk entryOf noteOf formedAt flawFrom formFault passOf readPass flowPass Marks·.meet Marks·.markOf Marks·.marksWith ofNumbers sumMark differenceMark orMark marksAt reached raisedAt entryMarks sentBy takenIn closedAt closed raisedByWords raisedOnce raisedUntilClosed listingOf listingAnswer listed
+unfolding readingOf format00 format10 format11 operandOf countOf signExtend lowest first all any slotRuns targetOf isSlot isTarget widthOf leastOf mostOf fieldAt valuesOk fieldOk endBefore fieldFits fieldAtOk regionOk policyOk setOk sizeIn entryOk noteOk entryOf noteOf formedAt flawFrom formFault passOf readPass flowPass Marks·.meet Marks·.markOf Marks·.marksWith ofNumbers orMark marksAt reached raisedAt entryMarks sentBy takenIn closedAt closed raisedByWords raisedOnce raisedUntilClosed listingOf listingAnswer listed
 lists-hold = refl
 
 pub table-holds : TableHolds
@@ -78,6 +79,7 @@ table-holds =
       own = own-hold;
       homes = homes-hold;
       idle = idle-hold;
+      passes = passes-answer;
       checks = checks-hold;
       runs = runs-hold;
       lists = lists-hold;

@@ -25,8 +25,6 @@ flowRows =
     flow (0x10800003 ∷ 0x01000000 ∷ 0x81C3E008 ∷ 0x01000000 ∷ []) gives answers 3 3 0
     -- .. a slot that never runs as one: ba,a 1; nop
     ∷ flow (0x30800001 ∷ 0x01000000 ∷ []) gives answers 3 1 0
-    -- bn lands nowhere: bn 3; nop; retl; nop
-    ∷ flow (0x00800003 ∷ 0x01000000 ∷ 0x81C3E008 ∷ 0x01000000 ∷ []) gives answers 0 0 0
     -- "a transfer in a slot", which a branch lands on: ba 1; retl; nop, and ba,a 1; retl; nop
     ∷ flow (0x10800001 ∷ 0x81C3E008 ∷ 0x01000000 ∷ []) gives answers 3 1 0
     ∷ flow (0x30800001 ∷ 0x81C3E008 ∷ 0x01000000 ∷ []) gives answers 3 1 0
@@ -126,7 +124,9 @@ idleRows =
     -- the slot is examined
     idle pointing pointing gives answers 0 0 0
     ∷ idle pointing called gives answers 4 1 1
-    -- ba 2; ld [%g1], %g3; bn 1; nop; retl; nop: never lands nowhere, and the row of the slot is not read
+    -- never lands nowhere, bn 3; nop; retl; nop: the last word is no target
+    ∷ flow (0x00800003 ∷ 0x01000000 ∷ 0x81C3E008 ∷ 0x01000000 ∷ []) gives answers 0 0 0
+    -- ba 2; ld [%g1], %g3; bn 1; nop; retl; nop: the row of the slot is not read
     ∷ routine (0x10800002 ∷ 0xC6004000 ∷ 0x00BFFFFF ∷ 0x01000000 ∷ 0x81C3E008 ∷ 0x01000000 ∷ [])
     (pointing ∷ called ∷ called ∷ called ∷ called ∷ called ∷ [])
     unset

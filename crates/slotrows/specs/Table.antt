@@ -1,9 +1,11 @@
 -- The table of request 4's worked cases, in parts small enough for one proof each.
 use mathlib.Core.Path.{_≡_}
 use mathlib.Core.List.{List, map}
+use Rattle.checker.specs.Routine.{Routine}
+use Rattle.checker.specs.Passes.{answerOf}
 use Rattle.trials.specs.Case as Trials·
 use Rattle.kindrows.specs.Table as Kinds·
-use Rattle.slotrows.specs.Case.{Row, outcome, given, expected}
+use Rattle.slotrows.specs.Case.{Row, outcome, given, expected, twoPasses, OthersAccept}
 use Rattle.slotrows.specs.PassRows.{flowRows, sharedRows, ownRows, homeRows, idleRows}
 use Rattle.slotrows.specs.CheckRows.{checkRows}
 use Rattle.slotrows.specs.RunRows.{runRows}
@@ -23,6 +25,8 @@ pub record TableHolds : Type 0 where
   pub own : Holds ownRows
   pub homes : Holds homeRows
   pub idle : Holds idleRows
+  -- where the other passes accept, the check answers as the two passes of these rows do
+  pub passes : (t : Routine) → OthersAccept t → answerOf t ≡ twoPasses t
   pub checks : TrialsHold checkRows
   pub runs : TrialsHold runRows
   pub lists : Kinds·.Holds listRows
