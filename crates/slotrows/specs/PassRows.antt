@@ -56,7 +56,7 @@ sharedRows =
     ∷ shared 0x10800002 0x01000000 0x01000000 called (first fours) called gives answers 12 2 1
     -- .. 12 at the slot's word, against the row of the following word; the transfer's row has what this asks for
     ∷ shared 0x10800002 0x01000000 0x01000000 (first fours) called (first fours) gives answers 12 1 1
-    -- ba 2; ld [%g1], %g3; ba 1; nop: both rows have the address; its own has not
+    -- ba 2; ld [%g1], %g3; ba 1; nop: both rows have the address; the transfer's alone has it
     ∷ shared 0x10800002 0xC6004000 0x01000000 pointing pointing pointing gives answers 0 0 0
     ∷ shared 0x10800002 0xC6004000 0x01000000 pointing called called gives answers 4 1 1
     -- .. both break a condition: the transfer's row comes first
