@@ -109,8 +109,8 @@ flowRows =
     -- "a target outside the code": ba two on, nop; ba one back, nop
     ∷ flow (0x10800002 ∷ 0x01000000 ∷ []) gives answers 3 0 0
     ∷ flow (0x10BFFFFF ∷ 0x01000000 ∷ []) gives answers 3 0 0
-    -- "a target that is a slot": ba to its own
-    ∷ flow (0x10800001 ∷ 0x01000000 ∷ []) gives answers 3 0 0
+    -- request 4, "a targeted slot whose next word is outside gives 3, with the slot's word": ba to its own slot, nop
+    ∷ flow (0x10800001 ∷ 0x01000000 ∷ []) gives answers 3 1 0
     -- 15: row 0 asks for r3, for r31 and for the codes
     ∷ rowed (noted someCodes (put 31 returnAddress (put 3 fours called))) called gives answers 15 0 3
     ∷ []

@@ -1,5 +1,5 @@
--- The flow of words: their edges, taken and other, the slots, and the registers that words write (V8, Bicc, JMPL and delayed transfer; document
--- 01, "It is skipped when the annul bit is set and the condition is always or the branch isn't taken").
+-- The flow of words: their edges, taken and other, the words examined, and the registers that words write (V8, Bicc, JMPL and delayed transfer;
+-- document 01, "It is skipped when the annul bit is set and the condition is always or the branch isn't taken").
 use Prim.Native.Nat.{ℕ}
 use mathlib.Core.Bool.{Bool, true, false}
 use mathlib.Core.List.{List, [], _∷_, _++_}
@@ -93,13 +93,20 @@ writtenRows =
     ∷ writing 0x81C3E008 gives yields 0
     ∷ []
 
--- "The word after a Bicc or return is its slot": the last word first
+-- "The word after a Bicc or return is its slot"; request 4: "A slot that a taken edge lands on is also examined as an ordinary word". The last
+-- word first
 abbrev pub slotRows : List Row
 slotRows =
     examining (0x01000000 ∷ 0x81C3E008 ∷ 0x01000000 ∷ []) gives marks (false ∷ true ∷ true ∷ [])
     ∷ examining (0x10800000 ∷ 0x01000000 ∷ 0x01000000 ∷ []) gives marks (true ∷ false ∷ true ∷ [])
     ∷ examining (0x30800000 ∷ 0x81C3E008 ∷ 0x00000000 ∷ []) gives marks (false ∷ false ∷ true ∷ [])
     ∷ examining (0x00000000 ∷ 0x01000000 ∷ []) gives marks (true ∷ true ∷ [])
+    -- ba to the slot of another; bn, which lands nowhere
+    ∷ examining (0x10800003 ∷ 0x01000000 ∷ 0x10800000 ∷ 0x01000000 ∷ []) gives marks (true ∷ true ∷ false ∷ true ∷ [])
+    ∷ examining (0x00800003 ∷ 0x01000000 ∷ 0x10800000 ∷ 0x01000000 ∷ []) gives marks (false ∷ true ∷ false ∷ true ∷ [])
+    -- be to a return's slot; ba,a to its own
+    ∷ examining (0x81C3E008 ∷ 0x01000000 ∷ 0x02BFFFFF ∷ 0x01000000 ∷ []) gives marks (false ∷ true ∷ true ∷ true ∷ [])
+    ∷ examining (0x30800001 ∷ 0x01000000 ∷ []) gives marks (true ∷ true ∷ [])
     ∷ []
 
 abbrev pub flowRows : List Row

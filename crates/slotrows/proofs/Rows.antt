@@ -1,0 +1,86 @@
+-- The table holds: the definitions give each row's outcome, by computation.
+use mathlib.Core.Path.{refl}
+use Rattle.v8.specs.Search.{all, any, lowest, first}
+use Rattle.v8.specs.Signed.{signExtend}
+use Rattle.v8.specs.Read.{readingOf, format00, format10, format11, operandOf, countOf}
+use Rattle.alu.specs.Condition.{condHolds, conditionOf}
+use Rattle.flow.specs.Transfer.{slotRuns, targetOf}
+use Rattle.flow.specs.Readings.{isSlot, isTarget}
+use Rattle.policy.specs.Element.{widthOf, leastOf, mostOf}
+use Rattle.policy.specs.Policy.{fieldAt, valuesOk, fieldOk, endBefore, fieldFits, fieldAtOk, regionOk, policyOk}
+use Rattle.policy.specs.Find.{holdsIn, stopOf, findIn}
+use Rattle.memory.specs.Place.{partStart}
+use Rattle.step.specs.Registers.{valueIn, setIn, valuesWith, marksWith}
+use Rattle.step.specs.Step.{stepOf}
+use Rattle.machine.specs.Placement.{disjointIn, placedIn}
+use Rattle.machine.specs.Run.{runFrom, refusalOf, runOf}
+use Rattle.sets.specs.Sets.{ended, setOk, fitsSet}
+use Rattle.sets.specs.Rules.{within, addSets}
+use Rattle.sets.specs.Narrow.{atMost, atLeast, lessThan, isMember, only, without}
+use Rattle.rows.specs.Entry.{sizeIn, entryOk, fits, noteOk, fitsNote, fieldEntry}
+use Rattle.rows.specs.Flaw.{flawFrom}
+use Rattle.rows.specs.Row.{entryAt, entriesWith, entryOf, noteOf, rowOf, formedAt, formFault, fitsAt, misfit}
+use Rattle.rules.specs.Result.{offsetsGive, addressSum, aluResult}
+use Rattle.rules.specs.Reach.{inField, inRegion, reachOf}
+use Rattle.rules.specs.Change.{noteAfter, codesNote, aluChange, accessChange, branchChange, returnChange}
+use Rattle.rules.specs.Narrow.{narrowEntry, narrowRow}
+use Rattle.checker.specs.Answer.{passOf}
+use Rattle.checker.specs.Passes.{shapeOk, rowPass, readPass, flowPass, entryPass, cross, narrowedEdge, wordPass, answerOf, checkOf}
+use Rattle.marks.specs.Marks as Marks·
+use Rattle.marks.specs.Effect.{ofNumbers, sumMark, differenceMark, orMark}
+use Rattle.lister.specs.Table.{marksAt, reached, raisedAt}
+use Rattle.lister.specs.Rules.{entryMarks, sentBy, takenIn, closedAt, closed}
+use Rattle.lister.specs.Listing.{raisedByWords, raisedOnce, raisedUntilClosed, listingOf, listingAnswer, listed}
+use Rattle.kindrows.specs.Table as Kinds·
+use Rattle.slotrows.specs.PassRows.{flowRows, sharedRows, ownRows, homeRows, idleRows}
+use Rattle.slotrows.specs.CheckRows.{checkRows}
+use Rattle.slotrows.specs.RunRows.{runRows}
+use Rattle.slotrows.specs.ListRows.{listRows}
+use Rattle.slotrows.specs.Table.{Holds, TrialsHold, TableHolds}
+use Rattle.slotrows.proofs.Passes.{passes-answer}
+
+flows-hold : Holds flowRows
+unfolding readingOf format00 format10 format11 operandOf countOf signExtend lowest first any targetOf isSlot isTarget passOf flowPass
+flows-hold = refl
+
+shared-hold : Holds sharedRows
+unfolding readingOf format00 format10 format11 operandOf countOf signExtend conditionOf lowest first any widthOf fieldAt holdsIn stopOf findIn slotRuns targetOf isSlot isTarget ended fitsSet within addSets fits fitsNote fieldEntry entryAt entriesWith entryOf noteOf rowOf flawFrom fitsAt misfit offsetsGive addressSum aluResult inField inRegion reachOf noteAfter codesNote aluChange accessChange branchChange returnChange narrowRow passOf flowPass cross narrowedEdge wordPass
+shared-hold = refl
+
+own-hold : Holds ownRows
+unfolding readingOf format00 format10 format11 operandOf countOf signExtend conditionOf lowest first any slotRuns targetOf isSlot isTarget ended fitsSet within addSets atMost atLeast lessThan isMember only without fits fitsNote entryAt entriesWith entryOf noteOf rowOf flawFrom fitsAt misfit aluResult noteAfter codesNote aluChange branchChange returnChange narrowEntry narrowRow passOf flowPass cross narrowedEdge wordPass
+own-hold = refl
+
+homes-hold : Holds homeRows
+unfolding readingOf format00 format10 format11 operandOf countOf signExtend conditionOf lowest first any slotRuns targetOf isSlot isTarget fitsSet fits fitsNote entryAt entriesWith entryOf noteOf rowOf flawFrom fitsAt misfit noteAfter branchChange returnChange narrowRow passOf flowPass cross narrowedEdge wordPass
+homes-hold = refl
+
+idle-hold : Holds idleRows
+unfolding readingOf format00 format10 format11 operandOf countOf signExtend conditionOf lowest first any widthOf fieldAt holdsIn stopOf findIn slotRuns targetOf isSlot isTarget ended fitsSet within addSets fits fitsNote fieldEntry entryAt entriesWith entryOf noteOf rowOf flawFrom fitsAt misfit offsetsGive addressSum aluResult inField inRegion reachOf noteAfter accessChange branchChange returnChange narrowRow passOf flowPass cross narrowedEdge wordPass
+idle-hold = refl
+
+checks-hold : TrialsHold checkRows
+unfolding readingOf format00 format10 format11 operandOf countOf signExtend conditionOf lowest first all any widthOf leastOf mostOf fieldAt valuesOk fieldOk endBefore fieldFits fieldAtOk regionOk policyOk holdsIn stopOf findIn slotRuns targetOf isSlot isTarget ended setOk fitsSet within addSets sizeIn entryOk fits noteOk fitsNote fieldEntry entryAt entriesWith entryOf noteOf rowOf formedAt flawFrom formFault fitsAt misfit offsetsGive addressSum aluResult inField inRegion reachOf noteAfter codesNote aluChange accessChange branchChange returnChange narrowRow passOf shapeOk rowPass readPass flowPass entryPass cross narrowedEdge wordPass answerOf checkOf
+checks-hold = refl
+
+runs-hold : TrialsHold runRows
+unfolding readingOf format00 format10 format11 operandOf countOf signExtend condHolds conditionOf all lowest first widthOf leastOf mostOf fieldAt valuesOk fieldOk endBefore fieldFits fieldAtOk regionOk policyOk partStart valueIn setIn valuesWith marksWith slotRuns targetOf stepOf disjointIn placedIn runFrom refusalOf runOf
+runs-hold = refl
+
+lists-hold : Kinds·.Holds listRows
+unfolding readingOf format00 format10 format11 operandOf countOf signExtend lowest first all any slotRuns targetOf isSlot isTarget widthOf leastOf mostOf fieldAt valuesOk fieldOk endBefore fieldFits fieldAtOk regionOk policyOk setOk sizeIn entryOk noteOk entryOf noteOf formedAt flawFrom formFault passOf readPass flowPass Marks·.meet Marks·.markOf Marks·.marksWith ofNumbers orMark marksAt reached raisedAt entryMarks sentBy takenIn closedAt closed raisedByWords raisedOnce raisedUntilClosed listingOf listingAnswer listed
+lists-hold = refl
+
+pub table-holds : TableHolds
+table-holds =
+    record {
+      flows = flows-hold;
+      shared = shared-hold;
+      own = own-hold;
+      homes = homes-hold;
+      idle = idle-hold;
+      passes = passes-answer;
+      checks = checks-hold;
+      runs = runs-hold;
+      lists = lists-hold;
+    }
