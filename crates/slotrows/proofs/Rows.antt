@@ -27,7 +27,7 @@ use Rattle.rules.specs.Narrow.{narrowEntry, narrowRow}
 use Rattle.checker.specs.Answer.{passOf}
 use Rattle.checker.specs.Passes.{shapeOk, rowPass, readPass, flowPass, entryPass, cross, narrowedEdge, wordPass, answerOf, checkOf}
 use Rattle.marks.specs.Marks as Marks·
-use Rattle.marks.specs.Effect.{ofNumbers, sumMark, differenceMark, orMark}
+use Rattle.marks.specs.Effect.{ofNumbers, orMark}
 use Rattle.lister.specs.Table.{marksAt, reached, raisedAt}
 use Rattle.lister.specs.Rules.{entryMarks, sentBy, takenIn, closedAt, closed}
 use Rattle.lister.specs.Listing.{raisedByWords, raisedOnce, raisedUntilClosed, listingOf, listingAnswer, listed}
