@@ -10,6 +10,7 @@ use Rattle.v8.specs.Numbers.{badPolicy, badShape, badRow, badFlow, entryMisfit}
 use Rattle.v8.specs.Search.{first}
 use Rattle.v8.specs.declared.Reading.{Reading}
 use Rattle.v8.proofs.Search.{first-passes, first-least, needed}
+use Rattle.v8.proofs.Choice.{false-true}
 use Rattle.flow.specs.Readings.{readingAt, examined}
 use Rattle.flow.specs.Flow.{flowOf}
 use Rattle.policy.specs.Policy.{policyOk}
@@ -17,7 +18,6 @@ use Rattle.rows.specs.declared.Flaw.{Flaw}
 use Rattle.rows.specs.declared.Flaw.the-variants.{None, At}
 use Rattle.rows.specs.Geometry.{rowBytes}
 use Rattle.rows.specs.Row.{entryFormed, formFault, misfit}
-use Rattle.v8.proofs.Choice.{false-true}
 use Rattle.rows.proofs.LowestFlaw.{flawless-none}
 use Rattle.checker.specs.declared.Answer.{Answer}
 use Rattle.checker.specs.Answer.{accepted, passes, andThen, need, refuses, passOf}

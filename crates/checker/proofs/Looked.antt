@@ -7,6 +7,7 @@ use Rattle.v8.specs.Numbers.{edgeMisfit, resultMisfit}
 use Rattle.v8.specs.declared.Reading.{Reading}
 use Rattle.v8.specs.declared.Reading.the-variants.{Read, Unread}
 use Rattle.v8.specs.Laws.{ReadingSound}
+use Rattle.v8.proofs.Choice.{false-true}
 use Rattle.flow.specs.declared.Destination.the-variants.{To, Caller}
 use Rattle.flow.specs.declared.Edge.{Edge}
 use Rattle.flow.specs.Edge.{edgeOf}
@@ -14,7 +15,6 @@ use Rattle.policy.specs.declared.Policy.{Policy}
 use Rattle.rows.specs.declared.Row.{Row}
 use Rattle.rows.specs.Entry.{fits}
 use Rattle.rows.specs.Row.{entryAt, rowWith, misfit}
-use Rattle.v8.proofs.Choice.{false-true}
 use Rattle.rules.specs.declared.Change.{Change}
 use Rattle.rules.specs.declared.Change.the-variants.{Writes, Keeps, Breaks}
 use Rattle.rules.specs.Narrow.{RowLeft, left, narrows, narrowRow}

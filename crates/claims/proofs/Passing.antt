@@ -8,12 +8,12 @@ use lib.Dec.{ltb}
 use borrow.Author.Tests.{ltb-true, ltb-false, le-ltb}
 use Rattle.v8.specs.Search.{first}
 use Rattle.v8.proofs.Search.{first-passes}
+use Rattle.v8.proofs.Choice.{false-true}
 use Rattle.policy.specs.Policy.{policyOk}
 use Rattle.rows.specs.declared.Flaw.{Flaw}
 use Rattle.rows.specs.declared.Flaw.the-variants.{None}
 use Rattle.rows.specs.Geometry.{rowBytes}
 use Rattle.rows.specs.Row.{brokenAt, formFault}
-use Rattle.v8.proofs.Choice.{false-true}
 use Rattle.rows.proofs.LowestFlaw.{none-broken, no-flaw}
 use Rattle.checker.specs.declared.Answer.{Answer}
 use Rattle.checker.specs.Answer.{accepted, passes, refuses, passOf}

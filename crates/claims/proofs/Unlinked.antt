@@ -5,6 +5,7 @@ use native.Mathlib.Omega.{arith}
 use Rattle.v8.specs.Signed.{signExtend}
 use Rattle.v8.specs.Search.{all, any, lowest, first}
 use Rattle.v8.specs.Read.{readingOf, format00, format10, format11, operandOf, countOf}
+use Rattle.v8.proofs.Choice.{false-true}
 use Rattle.alu.specs.Codes.{codesOf}
 use Rattle.alu.specs.Condition.{condHolds, conditionOf}
 use Rattle.flow.specs.Transfer.{slotRuns, targetOf}
@@ -26,7 +27,6 @@ use Rattle.rows.specs.Entry.{sizeIn, entryOk, fits, noteOk, fitsNote, fieldEntr
 use Rattle.rows.specs.Flaw.{flawFrom}
 use Rattle.rows.specs.Row.{entryAt, entriesWith, entryOf, noteOf, rowOf, formedAt, formFault, fitsAt, misfit}
 use Rattle.rows.specs.Matches.{Host, RowMatches}
-use Rattle.v8.proofs.Choice.{false-true}
 use Rattle.rules.specs.Result.{offsetsGive, addressSum, addressDifference, aluResult}
 use Rattle.rules.specs.Reach.{inField, inRegion, reachOf}
 use Rattle.rules.specs.Change.{noteAfter, codesNote, aluChange, accessChange, branchChange, returnChange}

@@ -58,7 +58,7 @@ module _ (readings : List Reading) (ok : Flowing readings) where
   pub flows : (w : ℕ) → w < length readings → (x : Instruction) → readingAt readings w ≡ Read x → Flows readings w x
   flows w i x q = instruction-flows readings w x (subst (λ (y : Reading). flowOf readings w y ≡ true) q (ok w i))
 
-  -- the slot of a transfer is none
+  -- no transfer stands in the slot of another
   operates : (w : ℕ) → w + 1 < length readings → transfers (readingAt readings w) ≡ true → transfers (readingAt readings (w + 1)) ≡ false
   operates w i e = at (readingAt readings (w + 1)) refl
     where
@@ -81,7 +81,7 @@ module _ (readings : List Reading) (ok : Flowing readings) where
       two : (w : ℕ) → w + 1 + 1 ≡ w + 2
       two w = omega arith
 
-  -- a taken edge lands where its target is examined
+  -- a taken edge that ends in the code lands on a word that is examined, by that very edge
   taken-lands : (w : ℕ) (x : Instruction) (d : Destination) → edgeOf w x true .to ≡ d → readingAt readings w ≡ Read x → w < length readings
       → edgeOf w x true .exists ≡ true → InCode readings d → Lands readings d
   taken-lands w x Caller z q i e c = tt
@@ -103,7 +103,7 @@ module _ (readings : List Reading) (ok : Flowing readings) where
   lands w Return q i free false e = tt
 
 pub edges-land : EdgesLand
-edges-land readings ok w x q i free taken e = lands readings ok w x q i free taken e
+edges-land = lands
 
 pub slot-no-transfer : SlotNoTransfer
-slot-no-transfer readings ok w i e = operates readings ok w i e
+slot-no-transfer = operates

@@ -26,6 +26,8 @@ use Rattle.flow.specs.declared.Edge.{Edge}
 use Rattle.flow.specs.Transfer.{isTransfer, readsCodes, hasEdge, link}
 use Rattle.flow.specs.Edge.{toWord, edgeOf}
 use Rattle.flow.specs.Readings.{readingAt, transfers}
+use Rattle.flow.specs.Laws.{Lands}
+use Rattle.flow.proofs.Onward.{flows, edges-land, slot-no-transfer}
 use Rattle.policy.specs.declared.Policy.{Policy}
 use Rattle.policy.specs.Laws.{WellFormed}
 use Rattle.access.specs.Layout.{Layout, layoutOf}
@@ -55,9 +57,7 @@ use Rattle.rules.proofs.Narrowed.{narrows-row}
 use Rattle.checker.specs.Answer.{passes}
 use Rattle.checker.specs.Routine.{Routine, count, rowAt, resultEntry}
 use Rattle.checker.specs.Passes.{ifRead, readPass, arrive, changeBy, applied, cross, edges, resultRegister}
-use Rattle.flow.specs.Laws.{Lands}
 use Rattle.checker.specs.Laws.{Checked, After}
-use Rattle.flow.proofs.Onward.{flows, edges-land, slot-no-transfer}
 use Rattle.checker.proofs.Looked.{word-makes, edges-looked, slot-applied, slot-skipped, arrives}
 use Rattle.guarantee.specs.Safe.{OperationSafe, ReadingSafe}
 use Rattle.guarantee.specs.Guarantee.{hostOf, heldOf}

@@ -10,6 +10,7 @@ use lib.ListN.{length, getD, set, length-set}
 use lib.Seq.{getD-set-same, getD-set-other}
 use borrow.Author.Tests.{le-ltb, eqb-true, eqb-false}
 use Rattle.v8.specs.Numbers.{mostWords}
+use Rattle.v8.proofs.Choice.{and-went}
 use Rattle.policy.specs.declared.Policy.{Policy}
 use Rattle.policy.specs.Laws.{WellFormed}
 use Rattle.policy.proofs.WellFormed.{obeys}
@@ -24,7 +25,6 @@ use Rattle.rows.specs.Entry.{entryOk}
 use Rattle.rows.specs.Row.{entryAt, entryOf}
 use Rattle.rows.specs.Matches.{Host, Holds, RowMatches}
 use Rattle.rows.specs.Laws.{EntryRules, RowRules}
-use Rattle.v8.proofs.Choice.{and-went}
 use Rattle.rows.proofs.RowFitting.{row-fits}
 use Rattle.rows.proofs.Obeying.{entry-obeys, row-obeys}
 use Rattle.rules.specs.Laws.{Laid}

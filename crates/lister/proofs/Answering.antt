@@ -9,11 +9,11 @@ use borrow.Author.Tests.{ltb-true, eqb-true, eq-eqb, ne-eqb}
 use Rattle.v8.specs.Numbers.{badPolicy, badShape}
 use Rattle.v8.specs.Search.{first}
 use Rattle.v8.proofs.Search.{first-passes}
+use Rattle.v8.proofs.Choice.{and-went, false-true}
 use Rattle.flow.specs.Readings.{readingsOf}
 use Rattle.flow.proofs.Fetched.{read-count}
 use Rattle.policy.specs.declared.Policy.{Policy}
 use Rattle.policy.specs.Policy.{policyOk}
-use Rattle.v8.proofs.Choice.{and-went, false-true}
 use Rattle.checker.specs.declared.Answer.{Answer}
 use Rattle.checker.specs.Answer.{accepted, refuse, passes, refuses, andThen, passOf}
 use Rattle.checker.specs.Passes.{startOk, readPass, flowPass}

@@ -13,6 +13,7 @@ use Rattle.v8.proofs.Choice.{cond-both}
 use Rattle.flow.specs.Readings.{readingsOf}
 use Rattle.flow.proofs.Fetched.{read-count}
 use Rattle.flow.proofs.Examined.{first-examined}
+use Rattle.flow.specs.Laws.{Flowing}
 use Rattle.policy.specs.declared.Policy.{Policy}
 use Rattle.access.specs.Layout.{Layout, layoutOf}
 use Rattle.step.specs.declared.Registers.{Registers}
@@ -28,7 +29,6 @@ use Rattle.rows.proofs.ReadRows.{entry-read}
 use Rattle.rows.proofs.ByKind.{held-start, held-return}
 use Rattle.checker.specs.Answer.{passes, passOf}
 use Rattle.checker.specs.Passes.{flowPass}
-use Rattle.flow.specs.Laws.{Flowing}
 use Rattle.checker.proofs.Accepted.{each-passes, flow-holds}
 use Rattle.guarantee.specs.Guarantee.{hostOf, heldOf, Words, Each}
 use Rattle.guarantee.proofs.Whole.{zero-words, zero-matches}

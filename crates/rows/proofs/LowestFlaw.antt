@@ -7,11 +7,11 @@ use lib.Dec.{ltb}
 use borrow.Author.Tests.{lt-ltb, le-ltb, ltb-false}
 use Rattle.v8.specs.Search.{first}
 use Rattle.v8.proofs.Search.{first-here, first-next, first-end, first-passes, first-least}
+use Rattle.v8.proofs.Choice.{false-true}
 use Rattle.rows.specs.declared.Flaw.{Flaw}
 use Rattle.rows.specs.declared.Flaw.the-variants.{None, At}
 use Rattle.rows.specs.Geometry.{places}
 use Rattle.rows.specs.Flaw.{flawFrom, flawless}
-use Rattle.v8.proofs.Choice.{false-true}
 
 -- what says that there is none
 pub flawless-none : (f : Flaw) → flawless f ≡ true → f ≡ None

@@ -6,6 +6,7 @@ use mathlib.Core.Bool.{true, _&&_}
 use native.Mathlib.Omega.{arith}
 use lib.Dec.{eqb}
 use borrow.Author.Tests.{eqb-true, eq-eqb}
+use Rattle.v8.proofs.Choice.{and-went}
 use Rattle.sets.specs.declared.NumberSet.{NumberSet}
 use Rattle.sets.specs.Sets.{fitsSet, Step, SetRules}
 use Rattle.sets.proofs.Steps.{by-step}
@@ -13,7 +14,6 @@ use Rattle.sets.proofs.Fits.{fits-holds, holds-fits}
 use Rattle.rows.specs.Kind.{Kind, kindOf}
 use Rattle.rows.specs.Entry.{isNumber, isAddress, isRegionStart, onlyZero}
 use Rattle.rows.specs.Laws.{RulesAs, FitsSelf, FitsOn}
-use Rattle.v8.proofs.Choice.{and-went}
 use Rattle.rows.proofs.ByKind.{as-kind, each-kind, ruled-number, ruled-address}
 use Rattle.rows.proofs.Fitting.{FitsStart, same, null, begins, FitsAs, fits-as, as-fits, start-address, only-zero}
 

@@ -31,12 +31,13 @@ use Rattle.marks.specs.Effect.{ofNumbers, orMark}
 use Rattle.lister.specs.Table.{marksAt, reached, raisedAt}
 use Rattle.lister.specs.Rules.{entryMarks, sentBy, takenIn, closedAt, closed}
 use Rattle.lister.specs.Listing.{raisedByWords, raisedOnce, raisedUntilClosed, listingOf, listingAnswer, listed}
+use Rattle.trials.specs.Case as Trials·
 use Rattle.kindrows.specs.Table as Kinds·
 use Rattle.slotrows.specs.PassRows.{flowRows, sharedRows, ownRows, homeRows, idleRows}
 use Rattle.slotrows.specs.CheckRows.{checkRows}
 use Rattle.slotrows.specs.RunRows.{runRows}
 use Rattle.slotrows.specs.ListRows.{listRows}
-use Rattle.slotrows.specs.Table.{Holds, TrialsHold, TableHolds}
+use Rattle.slotrows.specs.Table.{Holds, TableHolds}
 use Rattle.slotrows.proofs.Passes.{passes-answer}
 
 flows-hold : Holds flowRows
@@ -59,11 +60,11 @@ idle-hold : Holds idleRows
 unfolding readingOf format00 format10 format11 operandOf countOf signExtend conditionOf lowest first any widthOf fieldAt holdsIn stopOf findIn slotRuns targetOf isSlot isTarget ended fitsSet within addSets fits fitsNote fieldEntry entryAt entriesWith entryOf noteOf rowOf flawFrom fitsAt misfit offsetsGive addressSum aluResult inField inRegion reachOf noteAfter accessChange branchChange returnChange narrowRow passOf flowPass cross narrowedEdge wordPass
 idle-hold = refl
 
-checks-hold : TrialsHold checkRows
+checks-hold : Trials·.Holds checkRows
 unfolding readingOf format00 format10 format11 operandOf countOf signExtend conditionOf lowest first all any widthOf leastOf mostOf fieldAt valuesOk fieldOk endBefore fieldFits fieldAtOk regionOk policyOk holdsIn stopOf findIn slotRuns targetOf isSlot isTarget ended setOk fitsSet within addSets sizeIn entryOk fits noteOk fitsNote fieldEntry entryAt entriesWith entryOf noteOf rowOf formedAt flawFrom formFault fitsAt misfit offsetsGive addressSum aluResult inField inRegion reachOf noteAfter codesNote aluChange accessChange branchChange returnChange narrowRow passOf shapeOk rowPass readPass flowPass entryPass cross narrowedEdge wordPass answerOf checkOf
 checks-hold = refl
 
-runs-hold : TrialsHold runRows
+runs-hold : Trials·.Holds runRows
 unfolding readingOf format00 format10 format11 operandOf countOf signExtend condHolds conditionOf all lowest first widthOf leastOf mostOf fieldAt valuesOk fieldOk endBefore fieldFits fieldAtOk regionOk policyOk partStart valueIn setIn valuesWith marksWith slotRuns targetOf stepOf disjointIn placedIn runFrom refusalOf runOf
 runs-hold = refl
 

@@ -15,10 +15,6 @@ use Rattle.slotrows.specs.ListRows.{listRows}
 abbrev pub Holds : List Row → Type 0
 Holds rows = map (λ (r : Row). outcome (given r)) rows ≡ map expected rows
 
--- .. of a list of whole checks and runs
-abbrev pub TrialsHold : List Trials·.Row → Type 0
-TrialsHold rows = map (λ (r : Trials·.Row). Trials·.outcome (Trials·.given r)) rows ≡ map Trials·.expected rows
-
 pub record TableHolds : Type 0 where
   pub flows : Holds flowRows
   pub shared : Holds sharedRows
@@ -27,6 +23,6 @@ pub record TableHolds : Type 0 where
   pub idle : Holds idleRows
   -- where the other passes accept, the check answers as the two passes of these rows do
   pub passes : (t : Routine) → OthersAccept t → answerOf t ≡ twoPasses t
-  pub checks : TrialsHold checkRows
-  pub runs : TrialsHold runRows
+  pub checks : Trials·.Holds checkRows
+  pub runs : Trials·.Holds runRows
   pub lists : Kinds·.Holds listRows

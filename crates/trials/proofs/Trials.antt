@@ -1,7 +1,7 @@
 -- Every row of the table holds: the definitions, computed, give the outcome that the row expects. What antt computes in one proof is limited,
 -- so each part of the table is one.
-use mathlib.Core.Path.{_≡_, refl, sym, ap₂, _∙_}
-use mathlib.Core.List.{List, _++_, map, map-append}
+use mathlib.Core.Path.{refl, sym, ap₂, _∙_}
+use mathlib.Core.List.{List, _++_, map-append}
 use mathlib.Core.Bool.{xor}
 use Rattle.v8.specs.Signed.{signExtend}
 use Rattle.v8.specs.Search.{all, any, lowest, first}
@@ -36,19 +36,11 @@ use Rattle.checker.specs.Answer.{passOf}
 use Rattle.checker.specs.Passes.{shapeOk, rowPass, readPass, flowPass, entryPass, cross, narrowedEdge, wordPass, answerOf, checkOf}
 use Rattle.bundle.specs.Layout.{fieldsBefore, fieldRead, bundleOk}
 use Rattle.bundle.specs.Bundle.{regionTo, fieldTo, withRegions, withFieldsOf, withFields, bundleAnswer}
-use Rattle.trials.specs.Case.{Row, Outcome, outcome, given, expected}
+use Rattle.trials.specs.Case.{Row, Outcome, expected, found, Holds}
 use Rattle.claims.proofs.Answered.{return-then-nop, one-nop, loop-accepted}
 use Rattle.claims.proofs.Looped.{loop-never-returns}
 use Rattle.claims.proofs.Unlinked.{start-exists}
 use Rattle.trials.specs.Table.{machineTable, rowTable, passTable, edgeTable, bundleTable, table, Claim, returnThenNop, oneNop, loopAccepted, loopNeverReturns, startExists, Says, TableHolds}
-
--- what the definitions give for a row
-abbrev found : Row → Outcome
-found r = outcome (given r)
-
--- the rows of a list hold
-abbrev Holds : List Row → Type 0
-Holds rows = map found rows ≡ map expected rows
 
 -- where those of two lists do, so do those of both together
 both : (a b : List Row) → Holds a → Holds b → Holds (a ++ b)

@@ -1,8 +1,9 @@
 -- The worked cases: what is given, what comes of it, and what the definitions give for it. A row of the shared table is a case
 -- with the outcome that it must have (document 01, "To the testers": "rows of one shared table").
 use Prim.Native.Nat.{ℕ, zero, suc, _+_, _/_, _%_, _^_}
+use mathlib.Core.Path.{_≡_}
 use mathlib.Core.Bool.{Bool, cond}
-use mathlib.Core.List.{List, [], _∷_}
+use mathlib.Core.List.{List, [], _∷_, map}
 use lib.Dec.{eqb}
 use lib.ListN.{length, take}
 use Rattle.v8.specs.declared.AluOp.{AluOp}
@@ -227,3 +228,11 @@ outcome (narrowingRow k row) = rowRemains (narrowRow (conditionOf k .narrowing) 
 outcome (check p words rows entry result) =
     let a = checkOf p words rows entry result in answers (a .number) (a .word .0) (a .register)
 outcome (bundle b) = let a = bundleAnswer b in answers (a .number) (a .word .0) (a .register)
+
+-- .. for a row
+abbrev pub found : Row → Outcome
+found r = outcome (given r)
+
+-- the rows of a list hold: each has the outcome that it expects
+abbrev pub Holds : List Row → Type 0
+Holds rows = map found rows ≡ map expected rows

@@ -1,9 +1,8 @@
 -- The one shared table of worked cases, by subject: rows that are computed, in parts small enough for one proof each, and the cases that
 -- document 01 states of every row or that say more than an outcome, which are claims.
-use mathlib.Core.Path.{_≡_}
-use mathlib.Core.List.{List, _++_, map}
+use mathlib.Core.List.{List, _++_}
 use Rattle.claims.specs.Claims.{ReturnThenNop, OneNop, LoopAccepted, LoopNeverReturns, StartExists}
-use Rattle.trials.specs.Case.{Row, outcome, given, expected}
+use Rattle.trials.specs.Case.{Row, Holds}
 use Rattle.trials.specs.Words.{wordRows, privilegedRows, writeRows, answerRows}
 use Rattle.trials.specs.Arithmetic.{additionRows, subtractionRows, logicRows, shiftRows, conditionRows}
 use Rattle.trials.specs.Flows.{flowRows}
@@ -62,5 +61,5 @@ Says startExists = StartExists
 
 -- the whole table holds: each row has the outcome that it expects, and each claim is so
 pub record TableHolds : Type 0 where
-  pub rows : map (λ (r : Row). outcome (given r)) table ≡ map expected table
+  pub rows : Holds table
   pub claims : (c : Claim) → Says c

@@ -3,6 +3,7 @@ use mathlib.Core.Path.{_≡_, refl, sym, subst, _∙_}
 use mathlib.Core.Logic.{⊎-elim}
 use lib.ListN.{length}
 use denote.Ref.{now}
+use Rattle.v8.proofs.Choice.{and-went}
 use Rattle.flow.specs.declared.Edge.{Edge}
 use Rattle.flow.specs.Edge.{edgeOf}
 use Rattle.checker.specs.declared.Answer.{Answer}
@@ -13,7 +14,6 @@ use Rattle.checker.proofs.Looked.{straight}
 use Rattle.checker.proofs.Stages.{goes, stops}
 use mathlib.Core.Bool.{Bool, true, false, cond, not}
 use borrow.Author.Tests.{not-true, not-false}
-use Rattle.v8.proofs.Choice.{and-went}
 use borrow.Author.Needs.{needs}
 use Rattle.checker.proofs.edges.edges_of.Statement.{statement}
 use Rattle.checker.proofs.edges.edges_of.Tie as tie

@@ -2,8 +2,8 @@
 use mathlib.Core.Path.{_≡_, refl, sym}
 use mathlib.Core.Bool.{Bool, true, false, not, _&&_, _||_}
 use borrow.Author.Tests.{not-true, not-false}
-use Rattle.v8.proofs.Choice.{false-true}
 use borrow.Author.Needs.{needs}
+use Rattle.v8.proofs.Choice.{false-true}
 use Rattle.flow.proofs.flows.instruction_flow.Statement.{statement}
 use Rattle.flow.proofs.flows.instruction_flow.Tie as tie
 

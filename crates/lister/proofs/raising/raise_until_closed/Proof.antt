@@ -12,9 +12,9 @@ use borrow.Author.Tests.{not-true, not-false}
 use Rattle.v8.specs.declared.Operation.the-variants.{Sethi}
 use Rattle.v8.specs.declared.Instruction.the-variants.{Plain}
 use Rattle.v8.specs.declared.Reading.the-variants.{Read}
+use Rattle.v8.proofs.Choice.{and-went}
 use Rattle.flow.specs.Readings.{readingsOf, readingAt}
 use Rattle.flow.proofs.Fetched.{read-count, array-has, past-array}
-use Rattle.v8.proofs.Choice.{and-went}
 use Rattle.marks.specs.Marks.{notReached}
 use Rattle.lister.specs.Table.{tableMarks, raisedAt}
 use Rattle.lister.specs.Work.{isPending}
