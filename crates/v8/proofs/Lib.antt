@@ -7,4 +7,5 @@ pub mod Formats
 pub mod Refused
 pub mod Numbered
 pub mod Sound
+pub mod Alike
 pub mod Worked

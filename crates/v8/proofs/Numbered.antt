@@ -10,7 +10,9 @@ use Rattle.v8.proofs.Choice.{cond-both}
 use Rattle.v8.proofs.Formats.{shiftAt, accessAt, format10-cases, format11-cases}
 use Rattle.v8.proofs.Refused.{below10}
 use Rattle.v8.specs.Numbers.{notRead, privileged}
-use Rattle.v8.specs.Field.{opOf, op2Of, op3Of}
+use Rattle.v8.specs.Field.{opOf, op2Of, ccOf, op3Of}
+use Rattle.v8.specs.declared.Edition.{Edition}
+use Rattle.v8.specs.declared.Edition.the-variants.{V8, V9}
 use Rattle.v8.specs.declared.AluOp.{AluOp}
 use Rattle.v8.specs.declared.ShiftOp.{ShiftOp}
 use Rattle.v8.specs.declared.ShiftOp.the-variants.{Sll, Srl, Sra}
@@ -21,7 +23,7 @@ use Rattle.v8.specs.declared.Access.the-variants.{Loads, Stores}
 use Rattle.v8.specs.declared.Reading.{Reading}
 use Rattle.v8.specs.declared.read.OperandReading.{OperandReading}
 use Rattle.v8.specs.declared.read.OperandReading.the-variants.{Second, Reserved}
-use Rattle.v8.specs.Read.{readingOf, format00, format10, format11, operandOf, countOf, aluWith, shiftWith, memoryWith, aluOpOf, privileged10, privileged11}
+use Rattle.v8.specs.Read.{readingOf, predictedOf, format00, format10, format11, operandOf, countOf, aluWith, shiftWith, memoryWith, aluOpOf, privileged10, privileged11}
 use Rattle.v8.specs.Laws.{isPrivileged, NumberedBy, ReadsNumbered}
 
 -- a word that is refused and not privileged
@@ -57,11 +59,16 @@ access-plain (Stores St) = refl
 access-plain (Stores Stb) = refl
 access-plain (Stores Sth) = refl
 
-format00-numbered : (w : ℕ) → NumberedBy false (format00 w)
+predicted-numbered : (e : Edition) (w : ℕ) → NumberedBy false (predictedOf e w)
+predicted-numbered V8 w = refl
+predicted-numbered V9 w = cond-both (NumberedBy false) (eqb (ccOf w) 0) (λ _. refl) (λ _. refl)
+
+format00-numbered : (e : Edition) (w : ℕ) → NumberedBy false (format00 e w)
 unfolding format00
-format00-numbered w =
+format00-numbered e w =
     cond-both (NumberedBy false) (eqb (op2Of w) 4) (λ _. refl)
-    λ _. cond-both (NumberedBy false) (eqb (op2Of w) 2) (λ _. refl) (λ _. refl)
+    λ _. cond-both (NumberedBy false) (eqb (op2Of w) 2) (λ _. refl)
+    λ _. cond-both (NumberedBy false) (eqb (op2Of w) 1) (λ _. predicted-numbered e w) (λ _. refl)
 
 format10-numbered : (w : ℕ) → NumberedBy (privileged10 (op3Of w)) (format10 w)
 format10-numbered w =
@@ -87,9 +94,9 @@ first-alone false = refl
 
 pub reads-numbered : ReadsNumbered
 unfolding readingOf
-reads-numbered w =
+reads-numbered e w =
     let P : Reading → Type 0 = NumberedBy (isPrivileged w) in
-    cond-both P (eqb (opOf w) 0) (λ t. same (isPrivileged w) false (format00 w) (rw (eqb-true (opOf w) 0 t)) (format00-numbered w))
+    cond-both P (eqb (opOf w) 0) (λ t. same (isPrivileged w) false (format00 e w) (rw (eqb-true (opOf w) 0 t)) (format00-numbered e w))
     λ _. cond-both P (eqb (opOf w) 2) (λ t. same (isPrivileged w) (privileged10 (op3Of w)) (format10 w) (rw (eqb-true (opOf w) 2 t) (first-alone (privileged10 (op3Of w)))) (format10-numbered w))
     λ f. cond-both P (eqb (opOf w) 3) (λ t. same (isPrivileged w) (privileged11 (op3Of w)) (format11 w) (rw (eqb-true (opOf w) 3 t)) (format11-numbered w))
     (λ g. plain (isPrivileged w) (rw (f, g)))

@@ -7,7 +7,13 @@ use mathlib.Core.Bool.{Bool, true, false}
 use native.Mathlib.Omega.{arith}
 use borrow.Author.Tests.{le-leb, lt-leb, ne-eqb}
 use Rattle.v8.specs.Field.{op3Of}
+use Rattle.v8.specs.declared.Instruction.{Instruction}
+use Rattle.v8.specs.declared.Reading.the-variants.{Read, Unread}
 use Rattle.v8.specs.Read.{format10, format11, between, leafReturn, privileged10, privileged11, refused}
+
+-- a word that is not read is no instruction
+pub unread : {A : Type 0} {n : ℕ} {x : Instruction} → Unread n ≡ Read x → A
+unread e = let z : _≡_ {A = ℕ} 0 1 = cc in absurd (omega arith)
 
 -- ---- format 10: below, between and above the privileged opcodes, and in their ranges
 

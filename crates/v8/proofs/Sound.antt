@@ -8,14 +8,16 @@ use lib.Dec.{ltb, eqb}
 use Rattle.v8.proofs.Choice.{cond-both}
 use Rattle.v8.proofs.Formats.{format10-cases, format11-cases}
 use Rattle.v8.specs.Signed.{signExtend}
-use Rattle.v8.specs.Field.{opOf, op2Of, op3Of, iOf, unusedOf, simm13Of}
+use Rattle.v8.specs.Field.{opOf, op2Of, ccOf, op3Of, iOf, unusedOf, simm13Of}
+use Rattle.v8.specs.declared.Edition.{Edition}
+use Rattle.v8.specs.declared.Edition.the-variants.{V8, V9}
 use Rattle.v8.specs.declared.AluOp.{AluOp}
 use Rattle.v8.specs.declared.ShiftOp.{ShiftOp}
 use Rattle.v8.specs.declared.Operand.the-variants.{Reg, Imm}
 use Rattle.v8.specs.declared.Access.{Access}
 use Rattle.v8.specs.declared.read.OperandReading.{OperandReading}
 use Rattle.v8.specs.declared.read.OperandReading.the-variants.{Second, Reserved}
-use Rattle.v8.specs.Read.{readingOf, format00, format10, format11, operandOf, countOf, aluWith, shiftWith, memoryWith, aluOpOf, privileged10, privileged11, refused}
+use Rattle.v8.specs.Read.{readingOf, predictedOf, format00, format10, format11, operandOf, countOf, aluWith, shiftWith, memoryWith, aluOpOf, privileged10, privileged11, refused}
 use Rattle.v8.specs.Laws.{OperandSmall, ReadingSound, ReadsSound}
 
 abbrev SecondSmall : OperandReading → Type 0
@@ -55,9 +57,16 @@ refused-with : (t : Bool) → ReadingSound (refused t)
 refused-with true = refl
 refused-with false = refl
 
-format00-small : (w : ℕ) → ReadingSound (format00 w)
+predicted-small : (e : Edition) (w : ℕ) → ReadingSound (predictedOf e w)
+predicted-small V8 w = refl
+predicted-small V9 w = cond-both ReadingSound (eqb (ccOf w) 0) (λ _. tt) (λ _. refl)
+
+format00-small : (e : Edition) (w : ℕ) → ReadingSound (format00 e w)
 unfolding format00
-format00-small w = cond-both ReadingSound (eqb (op2Of w) 4) (λ _. tt) λ _. cond-both ReadingSound (eqb (op2Of w) 2) (λ _. tt) (λ _. refl)
+format00-small e w =
+    cond-both ReadingSound (eqb (op2Of w) 4) (λ _. tt)
+    λ _. cond-both ReadingSound (eqb (op2Of w) 2) (λ _. tt)
+    λ _. cond-both ReadingSound (eqb (op2Of w) 1) (λ _. predicted-small e w) (λ _. refl)
 
 format10-small : (w : ℕ) → ReadingSound (format10 w)
 format10-small w =
@@ -73,7 +82,7 @@ format11-small w = format11-cases ReadingSound w (λ a _. memory-with a w (opera
 
 pub reads-sound : ReadsSound
 unfolding readingOf
-reads-sound w =
-    cond-both ReadingSound (eqb (opOf w) 0) (λ _. format00-small w)
+reads-sound e w =
+    cond-both ReadingSound (eqb (opOf w) 0) (λ _. format00-small e w)
     λ _. cond-both ReadingSound (eqb (opOf w) 2) (λ _. format10-small w)
     λ _. cond-both ReadingSound (eqb (opOf w) 3) (λ _. format11-small w) (λ _. refl)

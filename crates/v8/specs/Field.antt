@@ -1,4 +1,5 @@
--- The bit fields of a word, by V8's names (V8, appendix B and figure of the instruction formats; document 01, "Words we read").
+-- The bit fields of a word, by the manuals' names (V8, appendix B and figure of the instruction formats; V9's of the predicted branch; document
+-- 01, "Words we read").
 use Prim.Native.Nat.{ℕ, _+_, _-_, _/_, _%_, _^_}
 
 -- bits high:low of a word
@@ -24,6 +25,16 @@ op2Of w = bits 24 22 w
 -- SETHI's number, and a branch's distance
 abbrev pub low22Of : ℕ → ℕ
 low22Of w = bits 21 0 w
+
+-- of a predicted branch (V9, BPcc): which codes it tests, its hint, its distance
+abbrev pub ccOf : ℕ → ℕ
+ccOf w = bits 21 20 w
+
+abbrev pub predictOf : ℕ → ℕ
+predictOf w = bits 19 19 w
+
+abbrev pub low19Of : ℕ → ℕ
+low19Of w = bits 18 0 w
 
 abbrev pub op3Of : ℕ → ℕ
 op3Of w = bits 24 19 w

@@ -1,5 +1,5 @@
 -- What follows from the reading of words, for all that rests on it: the numbers in an instruction that is read are words of 32 bits, a
--- refusal has a number, and that number tells the privileged words from all others.
+-- refusal has a number, and that number tells the privileged words from all others, on both terminals; the newer one reads what the older reads.
 -- The proofs are in proofs/.
 use Prim.Native.Nat.{ℕ, _<_}
 use mathlib.Core.Path.{_≡_}
@@ -7,6 +7,8 @@ use mathlib.Core.Bool.{Bool, false, cond, _&&_, _||_}
 use lib.Dec.{eqb}
 use Rattle.v8.specs.Numbers.{acceptance, notRead, privileged}
 use Rattle.v8.specs.Field.{opOf, op3Of}
+use Rattle.v8.specs.declared.Edition.{Edition}
+use Rattle.v8.specs.declared.Edition.the-variants.{V8, V9}
 use Rattle.v8.specs.declared.Operand.{Operand}
 use Rattle.v8.specs.declared.Operand.the-variants.{Reg, Imm}
 use Rattle.v8.specs.declared.Displacement.{Displacement}
@@ -47,7 +49,7 @@ ReadingSound (Unread n) = eqb n acceptance ≡ false
 
 -- Every word is read so.
 abbrev pub ReadsSound : Type 0
-ReadsSound = (w : ℕ) → ReadingSound (readingOf w)
+ReadsSound = (e : Edition) (w : ℕ) → ReadingSound (readingOf e w)
 
 -- a privileged word, by its format and its opcode alone
 abbrev pub isPrivileged : ℕ → Bool
@@ -58,6 +60,10 @@ abbrev pub NumberedBy : Bool → Reading → Type 0
 NumberedBy p (Read x) = p ≡ false
 NumberedBy p (Unread n) = n ≡ cond p privileged notRead
 
--- "24 replaces 2 for these words", for exactly these.
+-- "24 replaces 2 for these words", for exactly these; request 5: "24 keeps its list on both".
 abbrev pub ReadsNumbered : Type 0
-ReadsNumbered = (w : ℕ) → NumberedBy (isPrivileged w) (readingOf w)
+ReadsNumbered = (e : Edition) (w : ℕ) → NumberedBy (isPrivileged w) (readingOf e w)
+
+-- Request 5: what the older terminal reads, the newer reads alike.
+abbrev pub ReadsAlike : Type 0
+ReadsAlike = (w : ℕ) (x : Instruction) → readingOf V8 w ≡ Read x → readingOf V9 w ≡ Read x

@@ -1,11 +1,11 @@
 -- What a word is read as (document 01, "Words we read"): an instruction of the subset, or the number of the refusal (request 1: that of
--- privileged words is their own).
+-- privileged words is their own). Request 5: the edition that the terminal follows is told, and only the predicted branch depends on it.
 use Prim.Native.Nat.{ℕ, _-_}
 use mathlib.Core.Bool.{Bool, true, false, cond, _&&_, _||_}
 use mathlib.Core.List.{List, [], _∷_}
 use lib.Dec.{leb, eqb}
 use lib.ListN.{getD}
-use Rattle.v8.specs.Field.{opOf, rdOf, annulOf, condOf, op2Of, low22Of, op3Of, rs1Of, iOf, unusedOf, rs2Of, simm13Of}
+use Rattle.v8.specs.Field.{opOf, rdOf, annulOf, condOf, op2Of, low22Of, ccOf, predictOf, low19Of, op3Of, rs1Of, iOf, unusedOf, rs2Of, simm13Of}
 use Rattle.v8.specs.Signed.{signExtend}
 use Rattle.v8.specs.Numbers.{notRead, privileged}
 use Rattle.v8.specs.declared.AluOp.{AluOp}
@@ -21,6 +21,10 @@ use Rattle.v8.specs.declared.Displacement.the-variants.{Index, Bytes}
 use Rattle.v8.specs.declared.Access.{Access}
 use Rattle.v8.specs.declared.Access.the-variants.{Loads, Stores}
 use Rattle.v8.specs.declared.Operation.the-variants.{Sethi, Alu, Shift, Memory}
+use Rattle.v8.specs.declared.Edition.{Edition}
+use Rattle.v8.specs.declared.Edition.the-variants.{V8, V9}
+use Rattle.v8.specs.declared.BranchForm.{BranchForm}
+use Rattle.v8.specs.declared.BranchForm.the-variants.{Unpredicted, Predicted}
 use Rattle.v8.specs.declared.Instruction.the-variants.{Plain, Branch, Return}
 use Rattle.v8.specs.declared.Reading.{Reading}
 use Rattle.v8.specs.declared.Reading.the-variants.{Read, Unread}
@@ -57,12 +61,24 @@ countOf w =
     (cond (eqb (iOf w) 1) (Second (Imm (rs2Of w))) (Second (Reg (rs2Of w))))
     Reserved
 
--- "00 with bits 24:22 = 100 is SETHI; with 010 it is Bicc (annul bit 29, condition 28:25, signed distance 21:0 in words)"
-unfoldable pub format00 : ℕ → Reading
-format00 w =
+-- a branch ("annul bit 29, condition 28:25") of a form, and its distance in words
+abbrev pub branchOf : ℕ → BranchForm → ℕ → Reading
+branchOf w form distance =
+    Read (Branch (record { annul = eqb (annulOf w) 1; cond = condOf w; distance = record { 0 = distance }; form = form }))
+
+-- request 5: "bits 24:22 = 001, annul and condition as before, bits 21:20 zero (the 32-bit codes), a prediction hint in bit 19, .. signed
+-- distance 18:0 in words"; "2 covers this branch with other codes, and the whole form on the older terminal"
+abbrev pub predictedOf : Edition → ℕ → Reading
+predictedOf V8 w = Unread notRead
+predictedOf V9 w = cond (eqb (ccOf w) 0) (branchOf w (Predicted (eqb (predictOf w) 1)) (signExtend 19 (low19Of w))) (Unread notRead)
+
+-- "00 with bits 24:22 = 100 is SETHI; with 010 it is Bicc (.. signed distance 21:0 in words)"
+unfoldable pub format00 : Edition → ℕ → Reading
+format00 e w =
     cond (eqb (op2Of w) 4) (Read (Plain (Sethi (rdOf w) (low22Of w))))
-    (cond (eqb (op2Of w) 2) (Read (Branch (record { annul = eqb (annulOf w) 1; cond = condOf w; distance = record { 0 = signExtend 22 (low22Of w) } })))
-    (Unread notRead))
+    (cond (eqb (op2Of w) 2) (branchOf w Unpredicted (signExtend 22 (low22Of w)))
+    (cond (eqb (op2Of w) 1) (predictedOf e w)
+    (Unread notRead)))
 
 abbrev pub aluWith : AluOp → Bool → ℕ → OperandReading → Reading
 aluWith op cc w (Second x) = Read (Plain (Alu op cc (rdOf w) (rs1Of w) x))
@@ -122,9 +138,9 @@ format11 w =
     (refused (privileged11 (op3Of w))))))))))
 
 -- "Bits 31:30 choose the format."
-unfoldable pub readingOf : ℕ → Reading
-readingOf w =
-    cond (eqb (opOf w) 0) (format00 w)
+unfoldable pub readingOf : Edition → ℕ → Reading
+readingOf e w =
+    cond (eqb (opOf w) 0) (format00 e w)
     (cond (eqb (opOf w) 2) (format10 w)
     (cond (eqb (opOf w) 3) (format11 w)
     (Unread notRead)))

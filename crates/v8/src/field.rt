@@ -1,6 +1,6 @@
-// The bit fields of a word, by V8's names (specs/Field.antt).
+// The bit fields of a word, by the manuals' names (specs/Field.antt).
 ghost use mathlib.Core.Path.{_≡_};
-ghost use Rattle.v8.specs.Field.{rdOf, annulOf, condOf, op2Of, low22Of, op3Of, rs1Of, iOf, unusedOf, rs2Of, simm13Of};
+ghost use Rattle.v8.specs.Field.{rdOf, annulOf, condOf, op2Of, low22Of, ccOf, predictOf, low19Of, op3Of, rs1Of, iOf, unusedOf, rs2Of, simm13Of};
 
 pub fn rd_of(w: u32) -> u8
     ensures { λ r. ⌜ r ≡ rdOf w ⌝ }
@@ -30,6 +30,24 @@ pub fn low22_of(w: u32) -> u32
     ensures { λ r. ⌜ r ≡ low22Of w ⌝ }
 {
     w % 0x40_0000
+}
+
+pub fn cc_of(w: u32) -> u32
+    ensures { λ r. ⌜ r ≡ ccOf w ⌝ }
+{
+    (w >> 20) % 4
+}
+
+pub fn predict_of(w: u32) -> u32
+    ensures { λ r. ⌜ r ≡ predictOf w ⌝ }
+{
+    (w >> 19) % 2
+}
+
+pub fn low19_of(w: u32) -> u32
+    ensures { λ r. ⌜ r ≡ low19Of w ⌝ }
+{
+    w % 0x8_0000
 }
 
 pub fn op3_of(w: u32) -> u32

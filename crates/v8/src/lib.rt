@@ -13,6 +13,13 @@ pub mod read;
 
 pub use read::read_word;
 
+// Which edition of the SPARC Architecture Manual a terminal's processor follows: Version 8, or (request 5)
+// Version 9, run with 32-bit address masking.
+pub enum Edition {
+    V8,
+    V9,
+}
+
 // A count of words: a word's index in the code, or a branch's signed distance (sign-extended).
 pub struct WordIndex(pub u32);
 
@@ -103,11 +110,19 @@ pub enum Operation {
     },
 }
 
-// A branch on the condition codes, by its distance in words where the condition holds.
+// How a branch is written: without prediction, or (request 5) with it, hinting whether it will be taken.
+pub enum BranchForm {
+    Unpredicted,
+    Predicted(bool),
+}
+
+// A branch on the condition codes, by its distance in words where the condition holds. Only reading and
+// writing look at its form.
 pub struct Bicc {
     pub annul: bool,
     pub cond: u8,
     pub distance: WordIndex,
+    pub form: BranchForm,
 }
 
 // The instructions of the subset, by how control goes on from them: to the next word; over the slot,

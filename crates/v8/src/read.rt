@@ -1,12 +1,14 @@
 // Words as instructions.
 ghost use mathlib.Core.Path.{_≡_};
 ghost use Prim.Native.Nat.{_<_};
-ghost use Rattle.v8.specs.Read.{readNumber, readingOf, format00, format10, format11, operandOf, countOf, displacementOf, aluWith, shiftWith, memoryWith, aluOpOf};
+ghost use Rattle.v8.specs.Read.{readNumber, readingOf, branchOf, predictedOf, format00, format10, format11, operandOf, countOf, displacementOf, aluWith, shiftWith, memoryWith, aluOpOf};
 use crate::Access;
 use crate::AluOp;
 use crate::Bicc;
+use crate::BranchForm;
 use crate::ByteOffset;
 use crate::Displacement;
+use crate::Edition;
 use crate::Instruction;
 use crate::LoadOp;
 use crate::Operand;
@@ -16,11 +18,14 @@ use crate::ShiftOp;
 use crate::StoreOp;
 use crate::WordIndex;
 use crate::field::annul_of;
+use crate::field::cc_of;
 use crate::field::cond_of;
 use crate::field::i_of;
+use crate::field::low19_of;
 use crate::field::low22_of;
 use crate::field::op2_of;
 use crate::field::op3_of;
+use crate::field::predict_of;
 use crate::field::rd_of;
 use crate::field::rs1_of;
 use crate::field::rs2_of;
@@ -65,20 +70,54 @@ fn count_of(w: u32) -> OperandReading
     OperandReading::Reserved
 }
 
-// SETHI and Bicc.
-fn read_format_00(w: u32) -> Reading
-    ensures { λ r. ⌜ r ≡ format00 w ⌝ }
+// A branch of a form, by its distance.
+fn branch_of(w: u32, form: BranchForm, distance: u32) -> Reading
+    ensures { λ r. ⌜ r ≡ branchOf w form distance ⌝ }
+{
+    Reading::Read(Instruction::Branch(Bicc {
+        annul: annul_of(w) == 1,
+        cond: cond_of(w),
+        distance: WordIndex(distance),
+        form,
+    }))
+}
+
+// The predicted branch, which only the newer terminal has; of the codes that it may test, only the
+// 32-bit ones are read.
+fn read_predicted(edition: Edition, w: u32) -> Reading
+    ensures { λ r. ⌜ r ≡ predictedOf edition w ⌝ }
+{
+    match edition {
+        Edition::V8 => Reading::Unread(NOT_READ),
+        Edition::V9 => {
+            if cc_of(w) == 0 {
+                let hint = predict_of(w) == 1;
+                return branch_of(
+                    w,
+                    BranchForm::Predicted(hint),
+                    sign_extend(19, low19_of(w)),
+                );
+            }
+            Reading::Unread(NOT_READ)
+        }
+    }
+}
+
+// SETHI and branches.
+fn read_format_00(edition: Edition, w: u32) -> Reading
+    ensures { λ r. ⌜ r ≡ format00 edition w ⌝ }
 {
     match op2_of(w) {
         4 => Reading::Read(Instruction::Plain(Operation::Sethi {
             rd: rd_of(w),
             imm22: low22_of(w),
         })),
-        2 => Reading::Read(Instruction::Branch(Bicc {
-            annul: annul_of(w) == 1,
-            cond: cond_of(w),
-            distance: WordIndex(sign_extend(22, low22_of(w))),
-        })),
+        2 => branch_of(
+            w,
+            BranchForm::Unpredicted,
+            sign_extend(22, low22_of(w)),
+        ),
+        1 => read_predicted(edition, w),
         _ => Reading::Unread(NOT_READ),
     }
 }
@@ -205,13 +244,14 @@ fn read_format_11(w: u32) -> Reading
     }
 }
 
-// Reads a word: an instruction of the subset, or the number of the refusal.
-pub fn read_word(w: u32) -> Reading
-    ensures reading { λ r. ⌜ r ≡ readingOf w ⌝ }
-    ensures number { λ r. ⌜ readNumber r ≡ readNumber (readingOf w) ⌝ }
+// Reads a word, as a terminal of the edition does: an instruction of the subset, or the number of the
+// refusal.
+pub fn read_word(edition: Edition, w: u32) -> Reading
+    ensures reading { λ r. ⌜ r ≡ readingOf edition w ⌝ }
+    ensures number { λ r. ⌜ readNumber r ≡ readNumber (readingOf edition w) ⌝ }
 {
     match w >> 30 {
-        0 => read_format_00(w),
+        0 => read_format_00(edition, w),
         2 => read_format_10(w),
         3 => read_format_11(w),
         _ => Reading::Unread(NOT_READ),
