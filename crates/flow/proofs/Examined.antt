@@ -13,8 +13,7 @@ use borrow.Author.Tests.{eqb-true, eqb-false, ne-eqb, eq-eqb}
 use Rattle.v8.specs.Search.{any}
 use Rattle.v8.specs.declared.Reading.{Reading}
 use Rattle.v8.proofs.Search.{any-none, any-more, any-at}
-use Rattle.flow.specs.Readings.{readingsOf, readingAt, transfers, landsOn, isSlot, isTarget, examined, Outside, Examines, Adds}
-use Rattle.flow.proofs.Fetched.{read-count}
+use Rattle.flow.specs.Readings.{readingAt, transfers, landsOn, isSlot, isTarget, examined, Outside, Examines, Adds}
 
 module _ (readings : List Reading) where
   -- a word that is no slot is examined
@@ -49,27 +48,27 @@ module _ (readings : List Reading) where
       back w = omega arith
 
 -- the first i words are marked
-abbrev pub Marked : List ℕ → List Bool → ℕ → Type 0
-Marked words marks i = (w : ℕ) → w < i → getD marks w false ≡ not (isSlot (readingsOf words) w)
+abbrev pub Marked : List Reading → List Bool → ℕ → Type 0
+Marked readings marks i = (w : ℕ) → w < i → getD marks w false ≡ not (isSlot readings w)
 
-pub first-marked : (words : List ℕ) (marks : List Bool) → Marked words (true ∷ marks) 1
+pub first-marked : (readings : List Reading) (marks : List Bool) → Marked readings (true ∷ marks) 1
 unfolding isSlot
-first-marked words marks w l = rw (none w l)
+first-marked readings marks w l = rw (none w l)
   where
     none : (w : ℕ) → w < 1 → w ≡ 0
     none w l = omega arith
 
-pub one-marked : (words : List ℕ) (marks : List Bool) (i : ℕ) (t : Bool) → Marked words marks i → i < length marks → 1 ≤ i
-    → t ≡ transfers (readingAt (readingsOf words) (i - 1)) → Marked words (set marks i (not t)) (i + 1)
-one-marked words marks i t f h l e w b = here (eqb w i) refl
+pub one-marked : (readings : List Reading) (marks : List Bool) (i : ℕ) (t : Bool) → Marked readings marks i → i < length marks → 1 ≤ i
+    → t ≡ transfers (readingAt readings (i - 1)) → Marked readings (set marks i (not t)) (i + 1)
+one-marked readings marks i t f h l e w b = here (eqb w i) refl
   where
     on : (i : ℕ) → 1 ≤ i → i ≡ i - 1 + 1
     on i l = omega arith
 
-    slot : isSlot (readingsOf words) i ≡ t
-    slot = ap (isSlot (readingsOf words)) (on i l) ∙ slot-next (readingsOf words) (i - 1) ∙ sym e
+    slot : isSlot readings i ≡ t
+    slot = ap (isSlot readings) (on i l) ∙ slot-next readings (i - 1) ∙ sym e
 
-    here : (u : Bool) → eqb w i ≡ u → getD (set marks i (not t)) w false ≡ not (isSlot (readingsOf words) w)
+    here : (u : Bool) → eqb w i ≡ u → getD (set marks i (not t)) w false ≡ not (isSlot readings w)
     here true q = rw (eqb-true w i q, slot) (getD-set-same marks i (not t) false h)
     here false q = getD-set-other marks i w (not t) false (eqb-false w i q) ∙ f w (omega (arith, eqb-false w i q))
 
@@ -95,19 +94,19 @@ more : (free : Bool) (f : ℕ → Bool) (i : ℕ) → (free || any f i) || f i �
 more true f i = refl
 more false f i = sym (any-more f i)
 
-module _ (words : List ℕ) where
+module _ (readings : List Reading) where
   -- which words land on word w
   abbrev lands : ℕ → ℕ → Bool
-  lands w v = landsOn v (readingAt (readingsOf words) v) w
+  lands w v = landsOn v (readingAt readings v) w
 
   -- the taken edges of the first i words are marked
   abbrev pub Targeted : List Bool → ℕ → Type 0
-  Targeted marks i = (w : ℕ) → w < length words → getD marks w false ≡ not (isSlot (readingsOf words) w) || any (lands w) i
+  Targeted marks i = (w : ℕ) → w < length readings → getD marks w false ≡ not (isSlot readings w) || any (lands w) i
 
-  pub none-targeted : (marks : List Bool) → Outside marks words → Targeted marks 0
+  pub none-targeted : (marks : List Bool) → Outside marks readings → Targeted marks 0
   none-targeted marks o w l = rw (any-none (lands w), or-false) (o w l)
 
-  pub one-targeted : (marks after : List Bool) (i : ℕ) (x : Reading) → Targeted marks i → length words ≤ length marks → x ≡ readingAt (readingsOf words) i
+  pub one-targeted : (marks after : List Bool) (i : ℕ) (x : Reading) → Targeted marks i → length readings ≤ length marks → x ≡ readingAt readings i
       → Adds marks after (landsOn i x) → Targeted after (i + 1)
   one-targeted marks after i x t long e a w l =
       a .each w (omega (arith, l, long))
@@ -116,8 +115,8 @@ module _ (words : List ℕ) where
       ∙ more free (lands w) i
     where
       free : Bool
-      free = not (isSlot (readingsOf words) w)
+      free = not (isSlot readings w)
 
-  pub all-targeted : (marks : List Bool) (i : ℕ) → Targeted marks i → i ≡ length words → Examines marks words
+  pub all-targeted : (marks : List Bool) (i : ℕ) → Targeted marks i → i ≡ length readings → Examines marks readings
   unfolding isTarget
-  all-targeted marks i t e w l = t w l ∙ rw (e, read-count words)
+  all-targeted marks i t e w l = t w l ∙ rw e

@@ -1,44 +1,66 @@
--- The word at an index, as it is read: the words are read one by one, and a word outside the code is not read. An array that has all of them
--- gives, at an index below its length, what the word there is read as.
+-- The word at an index, as it is read: the words are read one by one, and a word outside the code is not read. An array of readings gives, at an
+-- index below its length, what the word there is read as.
 use Prim.Native.Nat.{ℕ, zero, suc, _<_, _≤_}
-use mathlib.Core.Path.{_≡_, refl, sym, ap, subst, _∙_}
+use mathlib.Core.Path.{_≡_, refl, sym, ap, _∙_}
+use mathlib.Core.Bool.{Bool, true, false}
 use mathlib.Core.List.{List, [], _∷_}
-use native.Mathlib.Nat.{le-trans, le-of-suc-le-suc, not-suc-le-zero}
+use native.Mathlib.Omega.{arith}
+use native.Mathlib.Nat.{le-of-suc-le-suc, not-suc-le-zero}
+use lib.Dec.{ltb}
 use lib.ListN.{length, getD}
+use lib.Seq.{length-take-le, getD-take}
+use borrow.Author.Tests.{ltb-true, ltb-false}
 use Rattle.v8.specs.Numbers.{notRead, mostWords}
 use Rattle.v8.specs.Read.{readingOf}
+use Rattle.v8.specs.declared.Edition.{Edition}
 use Rattle.v8.specs.declared.Reading.{Reading}
 use Rattle.v8.specs.declared.Reading.the-variants.{Unread}
-use Rattle.flow.specs.Readings.{readingsOf, readingAt, Reads}
+use Rattle.flow.specs.Readings.{readingsOf, readingAt, codeOf, Formed}
 
 -- as many words are read as there are
-pub read-count : (words : List ℕ) → length (readingsOf words) ≡ length words
-read-count [] = refl
-read-count (x ∷ xs) = ap suc (read-count xs)
+pub read-count : (e : Edition) (words : List ℕ) → length (readingsOf e words) ≡ length words
+read-count e [] = refl
+read-count e (x ∷ xs) = ap suc (read-count e xs)
 
 -- a word of the code
-pub fetched : (words : List ℕ) (w : ℕ) → w < length words → readingAt (readingsOf words) w ≡ readingOf (getD words w 0)
-fetched [] w l = absurd (not-suc-le-zero l)
-fetched (x ∷ xs) zero l = refl
-fetched (x ∷ xs) (suc w) l = fetched xs w (le-of-suc-le-suc l)
+pub fetched : (e : Edition) (words : List ℕ) (w : ℕ) → w < length words → readingAt (readingsOf e words) w ≡ readingOf e (getD words w 0)
+fetched e [] w l = absurd (not-suc-le-zero l)
+fetched e (x ∷ xs) zero l = refl
+fetched e (x ∷ xs) (suc w) l = fetched e xs w (le-of-suc-le-suc l)
 
 -- one outside it
-pub outside : (words : List ℕ) (w : ℕ) → length words ≤ w → readingAt (readingsOf words) w ≡ Unread notRead
+pub outside : (readings : List Reading) (w : ℕ) → length readings ≤ w → readingAt readings w ≡ Unread notRead
 outside [] w l = refl
 outside (x ∷ xs) zero l = absurd (not-suc-le-zero l)
 outside (x ∷ xs) (suc w) l = outside xs w (le-of-suc-le-suc l)
 
 -- an element of a list, whatever stands for those outside it
-any-default : (readings : List Reading) (w : ℕ) (x y : Reading) → w < length readings → getD readings w x ≡ getD readings w y
+pub any-default : (readings : List Reading) (w : ℕ) (x y : Reading) → w < length readings → getD readings w x ≡ getD readings w y
 any-default [] w x y h = absurd (not-suc-le-zero h)
 any-default (r ∷ rs) zero x y h = refl
 any-default (r ∷ rs) (suc w) x y h = any-default rs w x y (le-of-suc-le-suc h)
 
--- what an array of readings has
-pub array-has : (words : List ℕ) (readings : List Reading) (w : ℕ) (other : Reading) → Reads readings words → w < mostWords
-    → getD readings w other ≡ readingAt (readingsOf words) w
-array-has words readings w other r h = any-default readings w other (Unread notRead) (subst (λ (n : ℕ). w < n) (sym (r .0)) h) ∙ r .1 w
+module _ (readings : List Reading) (n : ℕ) (ok : Formed readings n) where
+  -- how many words there are
+  pub code-count : length (codeOf readings n) ≡ n
+  code-count = length-take-le n readings (omega (arith, ok .long, ok .most))
 
--- what is read where an array ends
-pub past-array : (words : List ℕ) (w : ℕ) → length words ≤ mostWords → mostWords ≤ w → Unread notRead ≡ readingAt (readingsOf words) w
-past-array words w most h = sym (outside words w (le-trans most h))
+  -- where there is none
+  past-code : (w : ℕ) → n ≤ w → readingAt (codeOf readings n) w ≡ Unread notRead
+  past-code w l = outside (codeOf readings n) w (omega (arith, code-count, l))
+
+  -- the array and what is read agree at every index
+  whole : (w : ℕ) (t : Bool) → ltb w n ≡ t → readingAt readings w ≡ readingAt (codeOf readings n) w
+  whole w true t = sym (getD-take n readings w (Unread notRead) (ltb-true w n t))
+  whole w false t = ok .behind w (ltb-false w n t) ∙ sym (past-code w (ltb-false w n t))
+
+  pub at-index : (w : ℕ) → readingAt readings w ≡ readingAt (codeOf readings n) w
+  at-index w = whole w (ltb w n) refl
+
+  -- what the array has, whatever stands for what is outside it
+  pub array-has : (w : ℕ) (other : Reading) → w < mostWords → getD readings w other ≡ readingAt (codeOf readings n) w
+  array-has w other h = any-default readings w other (Unread notRead) (omega (arith, ok .long, h)) ∙ at-index w
+
+  -- what is read where it ends
+  pub past-array : (w : ℕ) → mostWords ≤ w → Unread notRead ≡ readingAt (codeOf readings n) w
+  past-array w h = sym (past-code w (omega (arith, ok .most, h)))

@@ -1,13 +1,14 @@
 -- The words of a routine as they are read, which of them are slots, which a taken edge lands on, and which are examined as ordinary words.
-use Prim.Native.Nat.{ℕ, _-_, _<_}
+use Prim.Native.Nat.{ℕ, _-_, _≤_, _<_}
 use mathlib.Core.Path.{_≡_}
 use mathlib.Core.Bool.{Bool, true, false, cond, not, _&&_, _||_}
 use mathlib.Core.List.{List, map}
 use lib.Dec.{eqb}
-use lib.ListN.{getD, length}
+use lib.ListN.{getD, length, take}
 use Rattle.v8.specs.Numbers.{notRead, mostWords}
 use Rattle.v8.specs.Search.{any}
 use Rattle.v8.specs.Read.{readingOf}
+use Rattle.v8.specs.declared.Edition.{Edition}
 use Rattle.v8.specs.declared.Reading.{Reading}
 use Rattle.v8.specs.declared.Reading.the-variants.{Read, Unread}
 use Rattle.flow.specs.declared.Destination.{Destination}
@@ -15,9 +16,9 @@ use Rattle.flow.specs.declared.Destination.the-variants.{To, Caller}
 use Rattle.flow.specs.Transfer.{isTransfer}
 use Rattle.flow.specs.Edge.{edgeOf}
 
--- the words as they are read
-abbrev pub readingsOf : List ℕ → List Reading
-readingsOf words = map readingOf words
+-- the words as a terminal of the edition reads them
+abbrev pub readingsOf : Edition → List ℕ → List Reading
+readingsOf e words = map (readingOf e) words
 
 -- what the word at an index is read as; a word outside the code is not read
 abbrev pub readingAt : List Reading → ℕ → Reading
@@ -51,17 +52,28 @@ module _ (readings : List Reading) where
   abbrev pub examined : ℕ → Bool
   examined w = not (isSlot w) || isTarget w
 
--- The code keeps these in arrays that are filled once. An array has at every index what the word there is read as ..
-abbrev pub Reads : List Reading → List ℕ → Type 0
-Reads readings words = (length readings ≡ mostWords) × ((w : ℕ) → readingAt readings w ≡ readingAt (readingsOf words) w)
+-- The code keeps these in arrays that are filled once. Those of n words are the first n readings of an array ..
+abbrev pub codeOf : List Reading → ℕ → List Reading
+codeOf readings n = take n readings
 
--- .. one has at the index of every word whether it is outside slots ..
-abbrev pub Outside : List Bool → List ℕ → Type 0
-Outside marks words = (w : ℕ) → w < length words → getD marks w false ≡ not (isSlot (readingsOf words) w)
+-- .. behind which nothing is read
+pub record Formed (readings : List Reading) (n : ℕ) : Type 0 where
+  pub long : length readings ≡ mostWords
+  pub most : n ≤ mostWords
+  pub behind : (w : ℕ) → n ≤ w → readingAt readings w ≡ Unread notRead
+
+-- an array has what n words are read as
+pub record ReadAs (readings : List Reading) (n : ℕ) (code : List Reading) : Type 0 where
+  pub formed : Formed readings n
+  pub is : codeOf readings n ≡ code
+
+-- An array has at the index of every word whether it is outside slots ..
+abbrev pub Outside : List Bool → List Reading → Type 0
+Outside marks readings = (w : ℕ) → w < length readings → getD marks w false ≡ not (isSlot readings w)
 
 -- .. and one whether it is examined
-abbrev pub Examines : List Bool → List ℕ → Type 0
-Examines marks words = (w : ℕ) → w < length words → getD marks w false ≡ examined (readingsOf words) w
+abbrev pub Examines : List Bool → List Reading → Type 0
+Examines marks readings = (w : ℕ) → w < length readings → getD marks w false ≡ examined readings w
 
 -- Marks are added to an array, wherever a test passes; those that it has stay.
 pub record Adds (before after : List Bool) (f : ℕ → Bool) : Type 0 where

@@ -4,31 +4,43 @@ ghost use mathlib.Core.Bool.{_&&_};
 ghost use Prim.Native.Nat.{_<_, _≤_};
 ghost use lib.ListN.{length};
 ghost use Rattle.v8.specs.Numbers.{mostWords};
-ghost use Rattle.flow.specs.Readings.{transfers, endsAt, landsOn, Reads, Outside, Examines, Adds};
+ghost use Rattle.flow.specs.Readings.{readingsOf, readingAt, transfers, endsAt, landsOn, codeOf, Formed, ReadAs, Outside, Examines, Adds};
 use crate::Destination;
 use crate::Edge;
 use crate::edges::edge_of;
 use crate::transfer::is_transfer;
+use v8::Edition;
 use v8::Reading;
 use v8::WordIndex;
 use v8::numbers::MOST_WORDS;
 use v8::numbers::NOT_READ;
 use v8::read_word;
 
-// Reads all words, once: what no word stands at is not read.
-pub fn read_all(words: &[u32]) -> [Reading; MOST_WORDS]
+// Reads all words, once, as a terminal of the edition does: what no word stands at is not read.
+pub fn read_all(edition: Edition, words: &[u32]) -> [Reading; MOST_WORDS]
     requires { ⌜ length (now words) ≤ mostWords ⌝ }
-    ensures { λ r. ⌜ Reads r (now (words .entry)) ⌝ }
+    ensures { λ r. ⌜ ReadAs r (length (now (words .entry))) (readingsOf edition (now (words .entry))) ⌝ }
 {
     let none = Reading::Unread(NOT_READ);
     let mut readings = [none; MOST_WORDS];
     let mut i: usize = 0;
     while i < words.len() {
-        let x = read_word(words[i]);
+        let x = read_word(edition, words[i]);
         readings[i] = x;
         i += 1;
     }
     readings
+}
+
+// What the word at an index is read as; what no word stands at is not read.
+pub fn reading_at(readings: [Reading; MOST_WORDS], at: usize) -> Reading
+    requires { ⌜ length readings ≡ mostWords ⌝ }
+    ensures { λ r. ⌜ r ≡ readingAt readings at ⌝ }
+{
+    if at < MOST_WORDS {
+        return readings[at];
+    }
+    Reading::Unread(NOT_READ)
 }
 
 // Whether a word is read as a transfer: a branch or the return.
@@ -42,15 +54,14 @@ pub fn transfers(x: Reading) -> bool
 }
 
 // Which words are no slots: each that does not follow a transfer.
-fn outside_slots(words: &[u32], readings: [Reading; MOST_WORDS]) -> [bool; MOST_WORDS]
-    requires { ⌜ (length (now words) ≤ mostWords) × Reads readings (now words) ⌝ }
-    ensures { λ r. ⌜ (length r ≡ mostWords) × Outside r (now (words .entry)) ⌝ }
+fn outside_slots(readings: [Reading; MOST_WORDS], count: usize) -> [bool; MOST_WORDS]
+    requires { ⌜ Formed readings count ⌝ }
+    ensures { λ r. ⌜ (length r ≡ mostWords) × Outside r (codeOf readings count) ⌝ }
 {
     let mut marks = [true; MOST_WORDS];
     let mut i: usize = 1;
-    while i < words.len() {
-        let x = readings[i - 1];
-        marks[i] = !transfers(x);
+    while i < count {
+        marks[i] = !transfers(reading_at(readings, i - 1));
         i += 1;
     }
     marks
@@ -89,15 +100,14 @@ fn mark_target(marks: &mut [bool; MOST_WORDS], at: WordIndex, x: Reading)
 
 // Which words are examined as ordinary ones: those that are no slots, and those that a taken edge
 // lands on.
-pub fn examine_all(words: &[u32], readings: [Reading; MOST_WORDS]) -> [bool; MOST_WORDS]
-    requires { ⌜ (length (now words) ≤ mostWords) × Reads readings (now words) ⌝ }
-    ensures { λ r. ⌜ Examines r (now (words .entry)) ⌝ }
+pub fn examine_all(readings: [Reading; MOST_WORDS], count: usize) -> [bool; MOST_WORDS]
+    requires { ⌜ Formed readings count ⌝ }
+    ensures { λ r. ⌜ Examines r (codeOf readings count) ⌝ }
 {
-    let mut marks = outside_slots(words, readings);
+    let mut marks = outside_slots(readings, count);
     let mut i: usize = 0;
-    while i < words.len() {
-        let x = readings[i];
-        mark_target(&mut marks, WordIndex(i as u32), x);
+    while i < count {
+        mark_target(&mut marks, WordIndex(i as u32), reading_at(readings, i));
         i += 1;
     }
     marks

@@ -92,11 +92,7 @@ fn read_predicted(edition: Edition, w: u32) -> Reading
         Edition::V9 => {
             if cc_of(w) == 0 {
                 let hint = predict_of(w) == 1;
-                return branch_of(
-                    w,
-                    BranchForm::Predicted(hint),
-                    sign_extend(19, low19_of(w)),
-                );
+                return branch_of(w, BranchForm::Predicted(hint), sign_extend(19, low19_of(w)));
             }
             Reading::Unread(NOT_READ)
         }
@@ -112,11 +108,7 @@ fn read_format_00(edition: Edition, w: u32) -> Reading
             rd: rd_of(w),
             imm22: low22_of(w),
         })),
-        2 => branch_of(
-            w,
-            BranchForm::Unpredicted,
-            sign_extend(22, low22_of(w)),
-        ),
+        2 => branch_of(w, BranchForm::Unpredicted, sign_extend(22, low22_of(w))),
         1 => read_predicted(edition, w),
         _ => Reading::Unread(NOT_READ),
     }

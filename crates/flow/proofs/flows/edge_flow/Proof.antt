@@ -18,7 +18,7 @@ enum-told c = search needs
 
 returns-2 : tie.Need-returns-2
 returns-2 c =
-    let s = c .before .before .before .before .before .before .before in
+    let s = c .before .before .before .before .before .before in
     rw (not-false (s .args .e .exists) (c .before .before .before .before .if1 .left), c .before .before .to .given .1) (c .inside .ensures)
 
 returns-3 : tie.Need-returns-3

@@ -1,6 +1,5 @@
 -- As many words are read as there are.
-use denote.Ref.{now}
-use Rattle.flow.proofs.Fetched.{read-count}
+use Rattle.flow.proofs.Fetched.{code-count}
 use borrow.Author.Needs.{needs}
 use Rattle.flow.proofs.flows.inside.Statement.{statement}
 use Rattle.flow.proofs.flows.inside.Tie as tie
@@ -9,7 +8,9 @@ cast-i : tie.Need-cast-i
 cast-i c = search needs
 
 returns : tie.Need-returns
-returns c = rw (read-count (now (c .before .args .words)))
+returns c =
+    let s = c .before in
+    rw (code-count (s .args .readings) (s .args .count) (s .pre))
 
 pub inside-spec : {M : Type 1} → statement M
 inside-spec = tie.close (tie.spec cast-i returns)

@@ -18,8 +18,8 @@ stands true true q = refl
 stands true false q = false-true (sym q)
 stands false u q = refl
 
-add-t7 : tie.Need-add-t7
-add-t7 c = search needs
+add-t8 : tie.Need-add-t8
+add-t8 c = search needs
 
 inside-requires : tie.Need-inside-requires
 inside-requires c κs = search needs
@@ -29,19 +29,19 @@ is-transfer-requires c κs = search needs
 
 returns : tie.Need-returns
 returns c =
-    let s = c .before .before .before .before .before in
+    let s = c .before .before .before .before in
     let i = c .before .before .inside in
     let t = c .before .is-transfer in
-    rw (← s .pre .1, ← i .ensures, ← t .ensures) (stops (t .result) (i .result && not (s .args .in-slot)) _ (c .if1 .taken))
+    rw (← s .pre .2, ← i .ensures, ← t .ensures) (stops (t .result) (i .result && not (s .args .in-slot)) _ (c .if1 .taken))
 
 returns-2 : tie.Need-returns-2
 returns-2 c =
-    let s = c .before .before .before .before .before .before in
+    let s = c .before .before .before .before .before in
     let i = c .before .before .before .inside in
     let t = c .before .before .is-transfer in
     rw (
+      ← s .pre .3,
       ← s .pre .2,
-      ← s .pre .1,
       ← i .ensures,
       ← t .ensures,
       not-true (s .args .ordinary) (c .if2 .taken),
@@ -53,12 +53,12 @@ edges-flow-requires c κs = search needs
 
 returns-3 : tie.Need-returns-3
 returns-3 c =
-    let s = c .before .before .before .before .before .before .before in
+    let s = c .before .before .before .before .before .before in
     let i = c .before .before .before .before .inside in
     let t = c .before .before .before .is-transfer in
     rw (
+      ← s .pre .3,
       ← s .pre .2,
-      ← s .pre .1,
       ← i .ensures,
       ← t .ensures,
       not-false (s .args .ordinary) (c .before .if2 .left),
@@ -69,7 +69,7 @@ pub instruction-flow-spec : {M : Type 1} → statement M
 instruction-flow-spec =
     tie.close
     (tie.spec
-    add-t7
+    add-t8
     inside-requires
     is-transfer-requires
     returns

@@ -4,34 +4,28 @@ use mathlib.Core.Path.{_≡_, refl, ap, _∙_}
 use mathlib.Core.Bool.{true}
 use native.Mathlib.Omega.{arith}
 use lib.ListN.{length, replicate, length-set}
-use borrow.Author.Needs.{needs}
 use Rattle.v8.specs.Numbers.{mostWords}
-use Rattle.v8.specs.declared.Operation.the-variants.{Sethi}
-use Rattle.v8.specs.declared.Instruction.the-variants.{Plain}
-use Rattle.v8.specs.declared.Reading.the-variants.{Read}
-use Rattle.flow.specs.Readings.{transfers}
-use Rattle.flow.proofs.Fetched.{array-has}
+use borrow.Author.Needs.{needs}
+use Rattle.flow.specs.Readings.{transfers, codeOf}
+use Rattle.flow.proofs.Fetched.{at-index, code-count}
 use Rattle.flow.proofs.Examined.{Marked, first-marked, one-marked}
 use Rattle.flow.proofs.readings.outside_slots.Statement.{statement}
 use Rattle.flow.proofs.readings.outside_slots.Tie as tie
 
 abbrev Inv-loop : tie.InvT-loop
-Inv-loop words readings marks₀ i₀ marks i = (1 ≤ i) × (length marks ≡ mostWords) × Marked words marks i
+Inv-loop readings count marks₀ i₀ marks i = (1 ≤ i) × (length marks ≡ mostWords) × Marked (codeOf readings count) marks i
 
 abbrev μ-loop : tie.MeasureT-loop
-μ-loop words readings marks₀ i₀ marks i = length words - i
+μ-loop readings count marks₀ i₀ marks i = count - i
 
 loop-holds : tie.Need-loop-holds Inv-loop μ-loop
-loop-holds c = (omega arith, refl, first-marked (c .before .args .words .now) (replicate 127 true))
+loop-holds c = (omega arith, refl, first-marked _ (replicate 127 true))
 
-sub-x : tie.Need-sub-x Inv-loop μ-loop
-sub-x c = search needs
+sub-reading-at : tie.Need-sub-reading-at Inv-loop μ-loop
+sub-reading-at c = search needs
 
-mul-x : tie.Need-mul-x Inv-loop μ-loop
-mul-x c = search needs
-
-array-copy-out-x : tie.Need-array-copy-out-x Inv-loop μ-loop
-array-copy-out-x c = search needs
+reading-at-requires : tie.Need-reading-at-requires Inv-loop μ-loop
+reading-at-requires c κs = c .before .before .pre .long
 
 transfers-requires : tie.Need-transfers-requires Inv-loop μ-loop
 transfers-requires c κs = search needs
@@ -48,14 +42,17 @@ loop-less c = search needs
 loop-again : tie.Need-loop-again Inv-loop μ-loop
 loop-again c =
     let l = c .before .before .before .loop in
-    let s = c .before .before .before .before .before in
+    let s = c .before .before .before .before in
     let more = c .before .before .loop-test .taken in
-    let most : l .i < length (l .marks) = omega (arith, l .inv .1, more, s .pre .0) in
-    let x = array-has (s .args .words .now) (s .args .t2) (l .i - 1) (Read (Plain (Sethi 0 0))) (s .pre .1) (omega (arith, more, s .pre .0)) in
-    (omega arith, length-set (l .marks) (l .i) _ ∙ l .inv .1, one-marked (s .args .words .now) (l .marks) (l .i) _ (l .inv .2) most (l .inv .0) (c .transfers .ensures ∙ ap transfers x))
+    let most : l .i < length (l .marks) = omega (arith, l .inv .1, more, s .pre .most) in
+    let x = c .before .reading-at .ensures ∙ at-index (s .args .readings) (s .args .count) (s .pre) (l .i - 1) in
+    (omega arith, length-set (l .marks) (l .i) _ ∙ l .inv .1, one-marked _ (l .marks) (l .i) _ (l .inv .2) most (l .inv .0) (c .transfers .ensures ∙ ap transfers x))
 
 returns : tie.Need-returns Inv-loop μ-loop
-returns c = (c .before .loop .inv .1, λ w b. c .before .loop .inv .2 w (omega (arith, b, c .loop-test .left)))
+returns c =
+    let s = c .before .before in
+    let l = c .before .loop in
+    (l .inv .1, λ w b. l .inv .2 w (omega (arith, b, code-count (s .args .readings) (s .args .count) (s .pre), c .loop-test .left)))
 
 pub outside-slots-spec : {M : Type 1} → statement M
 outside-slots-spec =
@@ -64,9 +61,8 @@ outside-slots-spec =
     Inv-loop
     μ-loop
     loop-holds
-    sub-x
-    mul-x
-    array-copy-out-x
+    sub-reading-at
+    reading-at-requires
     transfers-requires
     array-write-marks
     add-i

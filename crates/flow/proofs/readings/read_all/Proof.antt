@@ -1,22 +1,22 @@
 -- The array has what the first words are read as, after each turn one more.
-use Rattle.flow.proofs.Filled.{Filled, none-filled, one-filled, all-filled}
-use Rattle.v8.specs.Numbers.{mostWords}
-use lib.ListN.{length, length-set}
-use borrow.Author.Needs.{needs}
-use native.Mathlib.Omega.{arith}
-use mathlib.Core.Path.{_≡_, refl, _∙_}
 use Prim.Native.Nat.{_≤_, _<_, _-_}
+use mathlib.Core.Path.{_≡_, refl, _∙_}
+use native.Mathlib.Omega.{arith}
+use lib.ListN.{length, length-set}
+use Rattle.v8.specs.Numbers.{mostWords}
+use borrow.Author.Needs.{needs}
+use Rattle.flow.proofs.Filled.{Filled, none-filled, one-filled, all-filled}
 use Rattle.flow.proofs.readings.read_all.Statement.{statement}
 use Rattle.flow.proofs.readings.read_all.Tie as tie
 
 abbrev Inv-loop : tie.InvT-loop
-Inv-loop words readings₀ i₀ readings i = (i ≤ length words) × (length readings ≡ mostWords) × Filled words readings i
+Inv-loop edition words readings₀ i₀ readings i = (i ≤ length words) × (length readings ≡ mostWords) × Filled edition words readings i
 
 abbrev μ-loop : tie.MeasureT-loop
-μ-loop words readings₀ i₀ readings i = length words - i
+μ-loop edition words readings₀ i₀ readings i = length words - i
 
 loop-holds : tie.Need-loop-holds Inv-loop μ-loop
-loop-holds c = (omega arith, refl, none-filled (c .before .args .words .now) mostWords)
+loop-holds c = (omega arith, refl, none-filled (c .before .args .edition) (c .before .args .words .now) mostWords)
 
 mul-read-word : tie.Need-mul-read-word Inv-loop μ-loop
 mul-read-word c = search needs
@@ -41,16 +41,18 @@ loop-less c = search needs
 
 loop-again : tie.Need-loop-again Inv-loop μ-loop
 loop-again c =
-    let at-args = c .before .before .before .before .before in
+    let s = c .before .before .before .before .before in
     let l = c .before .before .before .loop in
-    let words = at-args .args .words .now in
     let more = c .before .before .loop-test .taken in
-    let most : l .i < length (l .readings) = omega (arith, l .inv .1, more, at-args .pre) in
+    let most : l .i < length (l .readings) = omega (arith, l .inv .1, more, s .pre) in
     let x = c .read-word .result in
-    (omega arith, length-set (l .readings) (l .i) x ∙ l .inv .1, one-filled words (l .readings) (l .i) x (l .inv .2) most more (c .read-word .ensures .0))
+    (omega arith, length-set (l .readings) (l .i) x ∙ l .inv .1, one-filled (s .args .edition) (s .args .words .now) (l .readings) (l .i) x (l .inv .2) most more (c .read-word .ensures .0))
 
 returns : tie.Need-returns Inv-loop μ-loop
-returns c = all-filled (c .before .before .before .args .words .now) (c .before .loop .readings) (c .before .loop .i) (c .before .loop .inv .1) (c .before .loop .inv .2) (c .loop-test .left)
+returns c =
+    let s = c .before .before .before in
+    let l = c .before .loop in
+    all-filled (s .args .edition) (s .args .words .now) (l .readings) (l .i) (l .inv .1) (s .pre) (l .inv .2) (omega (arith, l .inv .0, c .loop-test .left))
 
 pub read-all-spec : {M : Type 1} → statement M
 read-all-spec =
