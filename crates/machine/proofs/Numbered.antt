@@ -167,6 +167,6 @@ if-numbered (suc n) run g memory r h = r
 
 pub ends-numbered : EndsNumbered
 unfolding runOf
-ends-numbered p words bases returns g allowance memory =
+ends-numbered e p words bases returns g allowance memory =
     if-numbered (refusalOf p words bases returns memory) _ g memory (refusal-numbered p words bases returns memory)
-    (run-numbered (settingOf p words bases returns) allowance 0 (startState g memory))
+    (run-numbered (settingOf e p words bases returns) allowance 0 (startState g memory))

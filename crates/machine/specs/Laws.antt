@@ -5,6 +5,7 @@ use mathlib.Core.Path.{_≡_}
 use mathlib.Core.List.{List}
 use lib.ListN.{length}
 use Rattle.v8.specs.Numbers.{badPolicy, badPlacement, noWord, wrongReturn}
+use Rattle.v8.specs.declared.Edition.{Edition}
 use Rattle.policy.specs.declared.Policy.{Policy}
 use Rattle.step.specs.declared.Registers.{Registers}
 use Rattle.machine.specs.declared.End.{End}
@@ -43,5 +44,5 @@ Numbered (Refused n) = (badPolicy ≤ n) × (n ≤ badPlacement)
 -- Every run's end has.
 abbrev pub EndsNumbered : Type 0
 EndsNumbered =
-    (p : Policy) (words bases : List ℕ) (returns : ℕ) (g : Registers) (allowance : ℕ) (memory : List ℕ)
-    → Numbered (runOf p words bases returns g allowance memory .outcome .end)
+    (e : Edition) (p : Policy) (words bases : List ℕ) (returns : ℕ) (g : Registers) (allowance : ℕ) (memory : List ℕ)
+    → Numbered (runOf e p words bases returns g allowance memory .outcome .end)

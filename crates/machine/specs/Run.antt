@@ -6,6 +6,7 @@ use mathlib.Core.List.{List, [], _∷_}
 use lib.Dec.{ltb}
 use lib.ListN.{length}
 use Rattle.v8.specs.Numbers.{acceptance, badPolicy, badShape, badPlacement, mostWords}
+use Rattle.v8.specs.declared.Edition.{Edition}
 use Rattle.policy.specs.declared.Policy.{Policy}
 use Rattle.policy.specs.Policy.{policyOk}
 use Rattle.step.specs.declared.Registers.{Registers}
@@ -99,19 +100,19 @@ refusalOf p words bases returns memory =
 abbrev pub refused : ℕ → Registers → List ℕ → Run
 refused n g memory = record { outcome = record { end = Refused n; steps = 0; registers = g }; memory = memory }
 
--- what is handed in, as a setting
-abbrev pub settingOf : Policy → List ℕ → List ℕ → ℕ → Setting
-settingOf p words bases returns = record { layout = layoutOf p bases; readings = readingsOf words; returns = returns }
+-- what is handed in, as a setting: the words as the terminal that is told reads them
+abbrev pub settingOf : Edition → Policy → List ℕ → List ℕ → ℕ → Setting
+settingOf e p words bases returns = record { layout = layoutOf p bases; readings = readingsOf e words; returns = returns }
 
 -- the run, if it is not refused
 abbrev pub runIf : ℕ → Run → Registers → List ℕ → Run
 runIf zero run g memory = run
 runIf (suc n) run g memory = refused (suc n) g memory
 
--- the machine run
-unfoldable pub runOf : Policy → List ℕ → List ℕ → ℕ → Registers → ℕ → List ℕ → Run
-runOf p words bases returns g allowance memory =
+-- the machine run, on a terminal of the edition
+unfoldable pub runOf : Edition → Policy → List ℕ → List ℕ → ℕ → Registers → ℕ → List ℕ → Run
+runOf e p words bases returns g allowance memory =
     runIf (refusalOf p words bases returns memory)
-    (runFrom (settingOf p words bases returns) allowance 0 (startState g memory))
+    (runFrom (settingOf e p words bases returns) allowance 0 (startState g memory))
     g
     memory

@@ -8,6 +8,7 @@ use crate::place::placed;
 use crate::steps::run_steps;
 use policy::Policy;
 use step::Registers;
+use v8::Edition;
 use v8::numbers::ACCEPTED;
 use v8::numbers::BAD_PLACEMENT;
 use v8::numbers::BAD_POLICY;
@@ -39,9 +40,10 @@ fn refusal(policy: Policy, words: &[u32], bases: &[u32], returns: u32, memory: &
     ACCEPTED
 }
 
-// Runs a routine: refused with 20, 21 or 22, or step after step from word 0 until it has returned, has
+// Runs a routine, on a terminal of the edition: refused with 20, 21 or 22, or step after step from word 0 until it has returned, has
 // spent the allowance, or stops at a fault. Refused, it changes nothing.
 pub fn run(
+    edition: Edition,
     policy: Policy,
     words: &[u32],
     bases: &[u32],
@@ -50,8 +52,8 @@ pub fn run(
     allowance: u64,
     memory: &mut [u8],
 ) -> Outcome
-    ensures ran { λ r. ⌜ leftBy r (now (memory .exit)) ≡ runOf policy (now (words .entry)) (now (bases .entry)) returns registers allowance (now (memory .entry)) ⌝ }
-    ensures number { λ r. ⌜ endNumber (r .end) ≡ endNumber (runOf policy (now (words .entry)) (now (bases .entry)) returns registers allowance (now (memory .entry)) .outcome .end) ⌝ }
+    ensures ran { λ r. ⌜ leftBy r (now (memory .exit)) ≡ runOf edition policy (now (words .entry)) (now (bases .entry)) returns registers allowance (now (memory .entry)) ⌝ }
+    ensures number { λ r. ⌜ endNumber (r .end) ≡ endNumber (runOf edition policy (now (words .entry)) (now (bases .entry)) returns registers allowance (now (memory .entry)) .outcome .end) ⌝ }
 {
     let number = refusal(policy, words, bases, returns, memory);
     if number != ACCEPTED {
@@ -67,6 +69,7 @@ pub fn run(
     marks[0] = true;
     let codes = registers.codes;
     let r = run_steps(
+        edition,
         policy,
         words,
         bases,

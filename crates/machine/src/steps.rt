@@ -24,6 +24,7 @@ use step::Pending;
 use step::Progress;
 use step::dispatch::one_step;
 use step::moving::due;
+use v8::Edition;
 use v8::WordIndex;
 use v8::numbers::MOST_WORDS;
 use v8::numbers::NO_FIELD;
@@ -31,6 +32,7 @@ use v8::numbers::NO_WORD;
 
 // Runs from word 0 until the run has returned, has spent the allowance, or stops at a fault.
 pub fn run_steps(
+    edition: Edition,
     policy: Policy,
     words: &[u32],
     bases: &[u32],
@@ -44,11 +46,11 @@ pub fn run_steps(
     requires { ⌜ (length (now words) ≤ mostWords) × Fits policy (now bases) (length (now memory)) ⌝ }
     ensures { λ r. ⌜
         ranOf r (now (values .exit)) (now (marks .exit)) (now (memory .exit))
-        ≡ runFrom (settingOf policy (now (words .entry)) (now (bases .entry)) returns) allowance 0
+        ≡ runFrom (settingOf edition policy (now (words .entry)) (now (bases .entry)) returns) allowance 0
         (record { control = goTo 0; core = coreOf (now (values .entry)) (now (marks .entry)) codes (now (memory .entry)) })
         ⌝ }
 {
-    let readings = read_all(words);
+    let readings = read_all(edition, words);
     let mut control = Control {
         at: WordIndex(0),
         pending: Pending::Nothing,

@@ -1,12 +1,17 @@
 -- The run is the run of what is left: after some steps, the whole run is the run from the state that they left, with what is left of
 -- the allowance. That is the measure too. Each way through the loop's body ends a step as the definition says: on to the next state,
 -- returned, or stopped at a fault; an access is located and done first.
-use Prim.Native.Nat.{_-_, _≤_}
-use mathlib.Core.Path.{_≡_, refl, sym, _∙_}
+use Prim.Native.Nat.{ℕ, _-_, _≤_}
+use mathlib.Core.Path.{_≡_, refl, sym, ap, _∙_}
+use mathlib.Core.List.{List}
 use native.Mathlib.Omega.{arith}
 use lib.ListN.{length}
 use denote.Ref.{now}
 use borrow.Author.Needs.{needs}
+use Rattle.v8.specs.declared.Reading.{Reading}
+use Rattle.policy.specs.declared.Policy.{Policy}
+use Rattle.access.specs.Layout.{layoutOf}
+use Rattle.flow.specs.Readings.{codeOf}
 use Rattle.flow.proofs.Fetched.{array-has, past-array}
 use Rattle.step.specs.Setting.{Setting}
 use Rattle.step.specs.Step.{State}
@@ -17,11 +22,15 @@ use Rattle.machine.proofs.Loop.{Turned, turn-first, turn-spent, turn-ou
 use Rattle.machine.proofs.steps.run_steps.Statement.{statement}
 use Rattle.machine.proofs.steps.run_steps.Tie as tie
 
+-- the setting of the run, by the readings of the array
+abbrev settingRead : Policy → List ℕ → List ℕ → ℕ → List Reading → Setting
+settingRead policy words bases returns readings = record { layout = layoutOf policy bases; readings = codeOf readings (length words); returns = returns }
+
 abbrev Inv-loop : tie.InvT-loop
 Inv-loop words bases returns values₀ marks₀ memory₀ allowance policy readings control₀ flags₀ steps₀ values marks memory control flags steps =
     (steps ≤ allowance) × (length memory ≡ length memory₀)
-    × (runFrom (settingOf policy words bases returns) allowance 0 (record { control = control₀; core = coreOf values₀ marks₀ flags₀ memory₀ })
-    ≡ runFrom (settingOf policy words bases returns) (allowance - steps) steps (record { control = control; core = coreOf values marks flags memory }))
+    × (runFrom (settingRead policy words bases returns readings) allowance 0 (record { control = control₀; core = coreOf values₀ marks₀ flags₀ memory₀ })
+    ≡ runFrom (settingRead policy words bases returns readings) (allowance - steps) steps (record { control = control; core = coreOf values marks flags memory }))
 
 abbrev μ-loop : tie.MeasureT-loop
 μ-loop words bases returns values₀ marks₀ memory₀ allowance policy readings control₀ flags₀ steps₀ values marks memory control flags steps = allowance - steps
@@ -36,24 +45,36 @@ at-loop o = o .before .before .before .before .before .before .before .before
 abbrev at-test : Stepped → tie.In-loop Inv-loop μ-loop
 at-test o = o .before .before .before .before .before .before .before
 
-abbrev at-start : Stepped → tie.Start Inv-loop μ-loop
-at-start o = o .before .before .before .before .before .before .before .before .before .before .before .before .before
+abbrev at-read : Stepped → tie.After-read-all Inv-loop μ-loop
+at-read o = o .before .before .before .before .before .before .before .before .before
 
--- the setting of the run, the state at a turn's begin, and what the turn has shown after its step
-abbrev setting : tie.Start Inv-loop μ-loop → Setting
-setting s = settingOf (s .args .t1) (now (s .args .words)) (now (s .args .bases)) (s .args .returns)
+abbrev start : tie.After-read-all Inv-loop μ-loop → tie.Start Inv-loop μ-loop
+start r = r .before .before .before .before
+
+abbrev at-start : Stepped → tie.Start Inv-loop μ-loop
+at-start o = start (at-read o)
+
+-- the setting of the run, which is that of the words; the state at a turn's begin, and what the turn has shown after its step
+abbrev setting : tie.After-read-all Inv-loop μ-loop → Setting
+setting r = let a = start r .args in settingRead (a .t2) (now (a .words)) (now (a .bases)) (a .returns) (r .read-all .result)
+
+run-as : (r : tie.After-read-all Inv-loop μ-loop) (n k : ℕ) (st : State)
+    → runFrom (setting r) n k st ≡ runFrom (settingOf (start r .args .edition) (start r .args .t2) (now (start r .args .words)) (now (start r .args .bases)) (start r .args .returns)) n k st
+run-as r n k st =
+    ap (λ (code : List Reading). runFrom (record { layout = layoutOf (start r .args .t2) (now (start r .args .bases)); readings = code; returns = start r .args .returns }) n k st)
+    (r .read-all .ensures .is)
 
 abbrev state : tie.At-loop Inv-loop μ-loop → State
 state b = record { control = b .loop .control; core = coreOf (b .loop .values) (b .loop .marks) (b .loop .flags) (b .loop .memory) }
 
 turned : (o : Stepped)
-    → Turned (setting (at-start o)) (at-start o .args .allowance) (at-loop o .loop .steps) (state (at-loop o)) (o .one-step .result) (o .one-step .last .1 .1 .0) (o .one-step .last .1 .1 .1 .0)
+    → Turned (setting (at-read o)) (at-start o .args .allowance) (at-loop o .loop .steps) (state (at-loop o)) (o .one-step .result) (o .one-step .last .1 .1 .0) (o .one-step .last .1 .1 .1 .0)
 turned o =
-    let read = o .before .before .before .before .before .before .before .before .before .read-all in
+    let read = at-read o .read-all in
     record {
       allowed = at-test o .loop-test .taken;
       word = _;
-      fetched = array-has (now (at-start o .args .words)) (read .result) (at-loop o .loop .control .at .0) _ (read .ensures) (o .before .before .before .before .if1 .left);
+      fetched = array-has (read .result) _ (read .ensures .formed) (at-loop o .loop .control .at .0) _ (o .before .before .before .before .if1 .left);
       says = o .one-step .ensures _ _;
     }
 
@@ -72,9 +93,9 @@ same-length c = search needs
 returns : tie.Need-returns Inv-loop μ-loop
 returns c =
     let at-begin = c .before .before .before .before in
-    let start = c .before .before .before .before .before .before .before .before .before in
-    let outside = past-array (now (start .args .words)) (at-begin .loop .control .at .0) (start .pre .0) (c .if1 .taken) in
-    sym (at-begin .loop .inv .2 ∙ turn-outside (setting start) _ _ (state at-begin) (sym outside) (c .before .before .before .loop-test .taken))
+    let r = c .before .before .before .before .before in
+    let outside = past-array (r .read-all .result) _ (r .read-all .ensures .formed) (at-begin .loop .control .at .0) (c .if1 .taken) in
+    sym (at-begin .loop .inv .2 ∙ turn-outside (setting r) _ _ (state at-begin) (sym outside) (c .before .before .before .loop-test .taken)) ∙ run-as r _ _ _
 
 mul-one-step : tie.Need-mul-one-step Inv-loop μ-loop
 mul-one-step c = search needs
@@ -106,8 +127,8 @@ loop-again c =
 enum-told-2 : tie.Need-enum-told-2 Inv-loop μ-loop
 enum-told-2 c = search needs
 
-add-t40 : tie.Need-add-t40 Inv-loop μ-loop
-add-t40 c =
+add-t41 : tie.Need-add-t41 Inv-loop μ-loop
+add-t41 c =
     let o = c .before .before .before in
     omega (arith, at-test o .loop-test .taken, at-start o .fits .allowance)
 
@@ -117,7 +138,7 @@ same-length-2 c = search needs
 returns-2 : tie.Need-returns-2 Inv-loop μ-loop
 returns-2 c =
     let o = c .before .before .before in
-    sym (at-loop o .loop .inv .2 ∙ turn-returned (turned o) (c .enum-told2 .given .1))
+    sym (at-loop o .loop .inv .2 ∙ turn-returned (turned o) (c .enum-told2 .given .1)) ∙ run-as (at-read o) _ _ _
 
 enum-known-progress : tie.Need-enum-known-progress Inv-loop μ-loop
 enum-known-progress c = search needs
@@ -128,7 +149,7 @@ same-length-3 c = search needs
 returns-3 : tie.Need-returns-3 Inv-loop μ-loop
 returns-3 c =
     let o = c .before .before .before .before in
-    sym (at-loop o .loop .inv .2 ∙ turn-stopped (turned o) _ (c .before .progress .given .1))
+    sym (at-loop o .loop .inv .2 ∙ turn-stopped (turned o) _ (c .before .progress .given .1)) ∙ run-as (at-read o) _ _ _
 
 enum-known-progress-2 : tie.Need-enum-known-progress-2 Inv-loop μ-loop
 enum-known-progress-2 c = search needs
@@ -149,7 +170,7 @@ access-at-requires : tie.Need-access-at-requires Inv-loop μ-loop
 access-at-requires c κs =
     let o = c .before .before .before .before .before .before .before .before .before .before .before .before .before .before .before .before .before .before .before .before .before in
     let at = sym (c .before .before .before .before .before .before .before .before .locate-access .ensures) ∙ c .before .before .before .before .before .before .located .given .1 in
-    covered-at (setting (at-start o) .layout) _ _ _ _ _ _ (at-start o .pre .1 .covers) (at-loop o .loop .inv .1) at
+    covered-at (setting (at-read o) .layout) _ _ _ _ _ _ (at-start o .pre .1 .covers) (at-loop o .loop .inv .1) at
 
 enum-told-3 : tie.Need-enum-told-3 Inv-loop μ-loop
 enum-told-3 c = search needs
@@ -162,7 +183,7 @@ returns-4 c =
     let o = c .before .before .before .before .before .before .before .before .before .before .before .before .before .before .before in
     let asked = c .before .before .before .before .before .before .before .before .before .before .before .before .progress2 .given .1 in
     let nowhere = sym (c .before .before .locate-access .ensures) ∙ c .enum-told3 .given .1 in
-    sym (at-loop o .loop .inv .2 ∙ turn-nowhere (turned o) _ _ _ asked nowhere)
+    sym (at-loop o .loop .inv .2 ∙ turn-nowhere (turned o) _ _ _ asked nowhere) ∙ run-as (at-read o) _ _ _
 
 due-requires : tie.Need-due-requires Inv-loop μ-loop
 due-requires c κs = c .before .before .before .before .before .before .before .before .before .before .before .before .before .before .before .before .before .before .before .before .before .before .before .before .before .before .before .before .if1 .left
@@ -193,8 +214,8 @@ loop-again-2 c =
 enum-told-4 : tie.Need-enum-told-4 Inv-loop μ-loop
 enum-told-4 c = search needs
 
-add-t59 : tie.Need-add-t59 Inv-loop μ-loop
-add-t59 c =
+add-t60 : tie.Need-add-t60 Inv-loop μ-loop
+add-t60 c =
     let o = c .before .before .before .before .before .before .before .before .before .before .before .before .before .before .before .before .before .before .before .before .before .before .before .before .before .before .before in
     omega (arith, at-test o .loop-test .taken, at-start o .fits .allowance)
 
@@ -208,13 +229,13 @@ returns-5 c =
     let at = sym (c .before .before .before .before .before .before .before .before .before .before .before .before .before .before .locate-access .ensures) ∙ c .before .before .before .before .before .before .before .before .before .before .before .before .located .given .1 in
     let done = c .before .before .before .before .before .access-at in
     let to = sym (c .before .before .due .ensures) ∙ c .enum-told4 .given .1 in
-    sym (at-loop o .loop .inv .2 ∙ turn-moved (turned o) _ _ _ asked _ _ _ _ at (done .ensures (o .one-step .result .codes)) to)
+    sym (at-loop o .loop .inv .2 ∙ turn-moved (turned o) _ _ _ asked _ _ _ _ at (done .ensures (o .one-step .result .codes)) to) ∙ run-as (at-read o) _ _ _
 
 same-length-6 : tie.Need-same-length-6 Inv-loop μ-loop
 same-length-6 c = search needs
 
 returns-6 : tie.Need-returns-6 Inv-loop μ-loop
-returns-6 c = sym (c .before .loop .inv .2 ∙ turn-spent _ _ _ _ (c .loop-test .left))
+returns-6 c = sym (c .before .loop .inv .2 ∙ turn-spent _ _ _ _ (c .loop-test .left)) ∙ run-as (c .before .before) _ _ _
 
 pub run-steps-spec : {M : Type 1} → statement M
 run-steps-spec =
@@ -235,7 +256,7 @@ run-steps-spec =
     loop-less
     loop-again
     enum-told-2
-    add-t40
+    add-t41
     same-length-2
     returns-2
     enum-known-progress
@@ -255,7 +276,7 @@ run-steps-spec =
     loop-less-2
     loop-again-2
     enum-told-4
-    add-t59
+    add-t60
     same-length-5
     returns-5
     same-length-6
