@@ -111,4 +111,4 @@ module _ (t : Routine) where
 
 pub accepts : Accepts
 unfolding checkOf
-accepts p words rows entry result e = checked (routineOf p words rows entry result) (ap passes e)
+accepts e p words rows entry result a = checked (routineOf e p words rows entry result) (ap passes a)

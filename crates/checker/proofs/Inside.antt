@@ -10,10 +10,9 @@ use Rattle.v8.specs.declared.Reading.the-variants.{Read, Unread}
 use Rattle.flow.specs.declared.Destination.{Destination}
 use Rattle.flow.specs.declared.Destination.the-variants.{To, Caller}
 use Rattle.flow.specs.Edge.{edgeOf}
-use Rattle.flow.specs.Readings.{readingsOf, readingAt, examined}
+use Rattle.flow.specs.Readings.{readingAt, examined}
 use Rattle.flow.specs.Flow.{flowOf}
 use Rattle.flow.specs.Laws.{InCode}
-use Rattle.flow.proofs.Fetched.{read-count}
 use Rattle.flow.proofs.Onward.{instruction-flows}
 use Rattle.rows.specs.Geometry.{rowBytes}
 use Rattle.checker.specs.Answer.{passes}
@@ -21,15 +20,15 @@ use Rattle.checker.specs.Passes.{flowPass}
 use Rattle.checker.specs.Lent.{EndIn, ReadingIn}
 use Rattle.checker.proofs.Accepted.{flow-holds}
 
-module _ (words : List ℕ) (n : ℕ) (rows : rowBytes * length words ≡ n) where
-  end-in : (d : Destination) → InCode (readingsOf words) d → EndIn d n
-  end-in (To w) l = omega (arith, read-count words, rows, l)
+module _ (code : List Reading) (n : ℕ) (rows : rowBytes * length code ≡ n) where
+  end-in : (d : Destination) → InCode code d → EndIn d n
+  end-in (To w) l = omega (arith, rows, l)
   end-in Caller l = tt
 
-  reading-in : (w : ℕ) (x : Reading) → flowOf (readingsOf words) w x ≡ true → examined (readingsOf words) w ≡ true → ReadingIn w x n
-  reading-in w (Read x) f e = λ taken t. end-in (edgeOf w x taken .to) (instruction-flows (readingsOf words) w x f .ends e taken t)
+  reading-in : (w : ℕ) (x : Reading) → flowOf code w x ≡ true → examined code w ≡ true → ReadingIn w x n
+  reading-in w (Read x) f e = λ taken t. end-in (edgeOf w x taken .to) (instruction-flows code w x f .ends e taken t)
   reading-in w (Unread number) f e = tt
 
-  pub word-in : (w : ℕ) (x : Reading) → x ≡ readingAt (readingsOf words) w → passes (flowPass (readingsOf words) w) ≡ true
-      → examined (readingsOf words) w ≡ true → ReadingIn w x n
-  word-in w x q f e = reading-in w x (subst (λ (y : Reading). flowOf (readingsOf words) w y ≡ true) (sym q) (flow-holds (readingsOf words) w f)) e
+  pub word-in : (w : ℕ) (x : Reading) → x ≡ readingAt code w → passes (flowPass code w) ≡ true
+      → examined code w ≡ true → ReadingIn w x n
+  word-in w x q f e = reading-in w x (subst (λ (y : Reading). flowOf code w y ≡ true) (sym q) (flow-holds code w f)) e

@@ -7,14 +7,10 @@ use native.Mathlib.Omega.{arith}
 use lib.Dec.{ltb}
 use lib.ListN.{length, getD}
 use borrow.Author.Tests.{lt-ltb, le-ltb, eq-eqb, ne-eqb}
-use Rattle.v8.specs.Numbers.{badRow, badFlow, mostWords}
-use Rattle.v8.specs.declared.Operation.the-variants.{Sethi}
-use Rattle.v8.specs.declared.Instruction.the-variants.{Plain}
+use Rattle.v8.specs.Numbers.{badRow, badFlow}
 use Rattle.v8.specs.declared.Reading.{Reading}
-use Rattle.v8.specs.declared.Reading.the-variants.{Read}
-use Rattle.flow.specs.Readings.{readingsOf, readingAt, transfers, isSlot, Reads, Examines}
+use Rattle.flow.specs.Readings.{readingAt, transfers, isSlot, Examines}
 use Rattle.flow.specs.Flow.{flowOf}
-use Rattle.flow.proofs.Fetched.{array-has}
 use Rattle.flow.proofs.Examined.{slot-next}
 use Rattle.v8.specs.Search.{first}
 use Rattle.v8.proofs.Search.{first-here, first-next, first-end}
@@ -67,34 +63,27 @@ module _ (p : Policy) (rows : List ℕ) (w : ℕ) where
   unfolding rowPass
   row-formed e = rw e
 
--- What a loop finds at a word, with what the array has there, is what the pass answers.
-module _ (words : List ℕ) (readings : List Reading) (i : ℕ) (reads : Reads readings words) (l : i < length words) (most : length words ≤ mostWords) where
-  -- a reading as the array has it
-  abbrev pub taken-out : Reading
-  taken-out = getD readings i (Read (Plain (Sethi 0 0)))
-
-  here : taken-out ≡ readingAt (readingsOf words) i
-  here = array-has words readings i (Read (Plain (Sethi 0 0))) reads (omega arith)
-
-  pub read-here : (a : Answer) → a ≡ ifRead i taken-out → a ≡ readPass (readingsOf words) i
+-- What a loop finds at a word, by what it is read as, is what the pass answers.
+module _ (code : List Reading) (i : ℕ) (x : Reading) (here : x ≡ readingAt code i) where
+  pub read-here : (a : Answer) → a ≡ ifRead i x → a ≡ readPass code i
   unfolding readPass
   read-here a e = e ∙ ap (ifRead i) here
 
-  pub flow-here : (t : Bool) (a : Answer) → t ≡ flowOf (readingsOf words) i taken-out → a ≡ need t badFlow i 0 → a ≡ flowPass (readingsOf words) i
+  pub flow-here : (t : Bool) (a : Answer) → t ≡ flowOf code i x → a ≡ need t badFlow i 0 → a ≡ flowPass code i
   unfolding flowPass
-  flow-here t a f e = e ∙ ap (λ (b : Bool). need b badFlow i 0) (f ∙ ap (flowOf (readingsOf words) i) here)
+  flow-here t a f e = e ∙ ap (λ (b : Bool). need b badFlow i 0) (f ∙ ap (flowOf code i) here)
 
   -- the next word is a slot exactly if this one is read as a transfer
-  pub slot-here : (t : Bool) → t ≡ transfers taken-out → t ≡ isSlot (readingsOf words) (i + 1)
-  slot-here t e = e ∙ ap transfers here ∙ sym (slot-next (readingsOf words) i)
+  pub slot-here : (t : Bool) → t ≡ transfers x → t ≡ isSlot code (i + 1)
+  slot-here t e = e ∙ ap transfers here ∙ sym (slot-next code i)
 
-  pub word-here : (p : Policy) (rows result : List ℕ) (marks : List Bool) (slot : Reading) (a : Answer) → Examines marks words
-      → slot ≡ readingAt (readingsOf words) (i + 1) → a ≡ cond (getD marks i false) (look p rows result i taken-out slot) accepted
-      → a ≡ wordPass p (readingsOf words) rows result i
+  pub word-here : (p : Policy) (rows result : List ℕ) (marks : List Bool) (slot : Reading) (a : Answer) → i < length code → Examines marks code
+      → slot ≡ readingAt code (i + 1) → a ≡ cond (getD marks i false) (look p rows result i x slot) accepted
+      → a ≡ wordPass p code rows result i
   unfolding wordPass
-  word-here p rows result marks slot a x q e = e ∙ rw (x i l, here, q)
+  word-here p rows result marks slot a l m q e = e ∙ rw (m i l, here, q)
 
   -- an examined word's edges end at rows that there are
-  pub rows-here : (n : ℕ) → rowBytes * length words ≡ n → (marks : List Bool) → Examines marks words
-      → passes (passOf (flowPass (readingsOf words)) (length words)) ≡ true → getD marks i false ≡ true → ReadingIn i taken-out n
-  rows-here n long marks x f t = word-in words n long i taken-out here (each-passes (flowPass (readingsOf words)) (length words) f i l) (sym (x i l) ∙ t)
+  pub rows-here : (n : ℕ) → i < length code → rowBytes * length code ≡ n → (marks : List Bool) → Examines marks code
+      → passes (passOf (flowPass code) (length code)) ≡ true → getD marks i false ≡ true → ReadingIn i x n
+  rows-here n l long marks m f t = word-in code n long i x here (each-passes (flowPass code) (length code) f i l) (sym (m i l) ∙ t)

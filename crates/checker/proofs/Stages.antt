@@ -34,7 +34,7 @@ pub record Shaped (g : Given) : Type 0 where
 module _ (g : Given) where
   -- the check, and what is left of it from a pass on
   abbrev pub answer : Answer
-  answer = checkOf (g .policy) (g .words) (g .rows) (g .entry) (g .result)
+  answer = checkOf (g .edition) (g .policy) (g .words) (g .rows) (g .entry) (g .result)
 
   abbrev pub fromWords : Answer
   fromWords = passOf (wordPass (g .policy) (whole g .readings) (g .rows) (g .result)) (count (whole g))
@@ -60,7 +60,7 @@ module _ (g : Given) where
 
   -- the shape that the code tests is that of the definition, there being as many words as are read
   as-read : {t : Bool} → shapes (length (g .words)) ≡ t → shapes (count (whole g)) ≡ t
-  as-read s = ap shapes (read-count (g .words)) ∙ s
+  as-read s = ap shapes (read-count (g .edition) (g .words)) ∙ s
 
   pub bad-shape : policyOk (g .policy) ≡ true → shapes (length (g .words)) ≡ false → answer ≡ refuse badShape 0 0
   unfolding checkOf answerOf

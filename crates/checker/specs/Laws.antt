@@ -5,6 +5,7 @@ use mathlib.Core.Path.{_≡_}
 use mathlib.Core.Bool.{Bool, true, false}
 use mathlib.Core.List.{List}
 use Rattle.v8.specs.Numbers.{mostWords}
+use Rattle.v8.specs.declared.Edition.{Edition}
 use Rattle.v8.specs.declared.Instruction.{Instruction}
 use Rattle.v8.specs.declared.Reading.{Reading}
 use Rattle.v8.specs.declared.Reading.the-variants.{Read}
@@ -52,7 +53,7 @@ pub record Checked (t : Routine) : Type 0 where
 
 -- An accepted check has passed every pass.
 abbrev pub Accepts : Type 0
-Accepts = (p : Policy) (words rows entry result : List ℕ) → checkOf p words rows entry result ≡ accepted → Checked (routineOf p words rows entry result)
+Accepts = (e : Edition) (p : Policy) (words rows entry result : List ℕ) → checkOf e p words rows entry result ≡ accepted → Checked (routineOf e p words rows entry result)
 
 -- a row after a change
 abbrev pub After : Row → Change → Row → Type 0

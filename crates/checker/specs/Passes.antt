@@ -5,6 +5,7 @@ use mathlib.Core.List.{List}
 use lib.Dec.{leb, eqb}
 use lib.ListN.{length}
 use Rattle.v8.specs.Numbers.{badPolicy, badShape, badRow, badFlow, entryMisfit, edgeMisfit, resultMisfit, mostWords}
+use Rattle.v8.specs.declared.Edition.{Edition}
 use Rattle.v8.specs.declared.Reading.{Reading}
 use Rattle.v8.specs.declared.Reading.the-variants.{Read, Unread}
 use Rattle.flow.specs.declared.Destination.{Destination}
@@ -141,6 +142,6 @@ answerOf t =
     (andThen (entryPass (t .rows) (t .entry))
     (passOf (wordPass (t .policy) (t .readings) (t .rows) (t .result)) (count t)))))))
 
--- the check
-unfoldable pub checkOf : Policy → List ℕ → List ℕ → List ℕ → List ℕ → Answer
-checkOf p words rows entry result = answerOf (routineOf p words rows entry result)
+-- the check, for a terminal of the edition
+unfoldable pub checkOf : Edition → Policy → List ℕ → List ℕ → List ℕ → List ℕ → Answer
+checkOf e p words rows entry result = answerOf (routineOf e p words rows entry result)

@@ -2,6 +2,7 @@
 use Prim.Native.Nat.{ℕ, _*_}
 use mathlib.Core.List.{List}
 use lib.ListN.{length}
+use Rattle.v8.specs.declared.Edition.{Edition}
 use Rattle.v8.specs.declared.Reading.{Reading}
 use Rattle.policy.specs.declared.Policy.{Policy}
 use Rattle.flow.specs.Readings.{readingsOf}
@@ -18,8 +19,9 @@ pub record Routine : Type 0 where
   pub entry : List ℕ
   pub result : List ℕ
 
-abbrev pub routineOf : Policy → List ℕ → List ℕ → List ℕ → List ℕ → Routine
-routineOf p words rows entry result = record { policy = p; readings = readingsOf words; rows = rows; entry = entry; result = result }
+-- .. by the terminal that is told
+abbrev pub routineOf : Edition → Policy → List ℕ → List ℕ → List ℕ → List ℕ → Routine
+routineOf e p words rows entry result = record { policy = p; readings = readingsOf e words; rows = rows; entry = entry; result = result }
 
 -- how many words there are
 abbrev pub count : Routine → ℕ

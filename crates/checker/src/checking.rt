@@ -17,6 +17,7 @@ use rows::flawless;
 use rows::form_fault;
 use rows::geometry::ENTRY_BYTES;
 use rows::geometry::ROW_BYTES;
+use v8::Edition;
 use v8::WordIndex;
 use v8::numbers::ACCEPTED;
 use v8::numbers::BAD_POLICY;
@@ -58,10 +59,17 @@ fn shape_ok(policy: Policy, words: &[u32], rows: &[u8], entry: &[u8], result: &[
     entry_formed(policy.regions.count, &policy.regions.sizes, result, 0)
 }
 
-// Checks a routine: the first condition that is broken, with the word and the register named, or 0 0 0
-// where none is.
-pub fn check(policy: Policy, words: &[u32], rows: &[u8], entry: &[u8], result: &[u8]) -> Answer
-    ensures { λ r. ⌜ r ≡ checkOf policy (now (words .entry)) (now (rows .entry)) (now (entry .entry)) (now (result .entry)) ⌝ }
+// Checks a routine, for a terminal of the edition: the first condition that is broken, with the word and
+// the register named, or 0 0 0 where none is.
+pub fn check(
+    edition: Edition,
+    policy: Policy,
+    words: &[u32],
+    rows: &[u8],
+    entry: &[u8],
+    result: &[u8],
+) -> Answer
+    ensures { λ r. ⌜ r ≡ checkOf edition policy (now (words .entry)) (now (rows .entry)) (now (entry .entry)) (now (result .entry)) ⌝ }
 {
     if !policy.well_formed() {
         return refuse(BAD_POLICY, WordIndex(0), 0);
@@ -75,13 +83,13 @@ pub fn check(policy: Policy, words: &[u32], rows: &[u8], entry: &[u8], result: &
     if formed.number != ACCEPTED {
         return formed;
     }
-    let readings = read_all(words);
-    let read = read_pass(words, readings);
+    let readings = read_all(edition, words);
+    let read = read_pass(readings, words.len());
     if read.number != ACCEPTED {
         return read;
     }
-    let marks = examine_all(words, readings);
-    let flows = flow_pass(words, readings, &marks);
+    let marks = examine_all(readings, words.len());
+    let flows = flow_pass(readings, words.len(), &marks);
     if flows.number != ACCEPTED {
         return flows;
     }
@@ -89,5 +97,5 @@ pub fn check(policy: Policy, words: &[u32], rows: &[u8], entry: &[u8], result: &
     if entered.number != ACCEPTED {
         return entered;
     }
-    word_pass(policy, words, readings, &marks, rows, result)
+    word_pass(policy, readings, words.len(), &marks, rows, result)
 }

@@ -5,7 +5,7 @@ ghost use Prim.Native.Nat.{_+_, _*_, _<_, _≤_};
 ghost use lib.ListN.{length};
 ghost use Rattle.v8.specs.Numbers.{mostWords};
 ghost use Rattle.v8.specs.declared.Reading.the-variants.{Read};
-ghost use Rattle.flow.specs.Readings.{readingsOf, Reads, Examines};
+ghost use Rattle.flow.specs.Readings.{codeOf, Formed, Examines};
 ghost use Rattle.rows.specs.Geometry.{rowBytes, entryBytes, RowIn};
 ghost use Rattle.checker.specs.Answer.{accepted, passes, passOf};
 ghost use Rattle.checker.specs.Passes.{flowPass, look, wordPass};
@@ -15,6 +15,7 @@ use crate::answers::accept;
 use crate::answers::refuse;
 use crate::arrival::row_at;
 use crate::edges::edges_of;
+use flow::readings::reading_at;
 use policy::Policy;
 use rows::row_with;
 use rules::Change;
@@ -24,7 +25,6 @@ use v8::Reading;
 use v8::WordIndex;
 use v8::numbers::ACCEPTED;
 use v8::numbers::MOST_WORDS;
-use v8::numbers::NOT_READ;
 
 // An instruction in its row: its own conditions, then its edges. Its slot is read as x.
 fn look_at(
@@ -81,29 +81,25 @@ fn word_in(
 // The words' pass, where the flow is right.
 pub fn word_pass(
     policy: Policy,
-    words: &[u32],
     readings: [Reading; MOST_WORDS],
+    count: usize,
     marks: &[bool; MOST_WORDS],
     rows: &[u8],
     result: &[u8],
 ) -> Answer
     requires { ⌜
-        (length (now words) ≤ mostWords)
-        × Reads readings (now words)
-        × Examines (now marks) (now words)
-        × (rowBytes * length (now words) ≡ length (now rows))
+        Formed readings count
+        × Examines (now marks) (codeOf readings count)
+        × (rowBytes * count ≡ length (now rows))
         × (entryBytes ≤ length (now result))
-        × (passes (passOf (flowPass (readingsOf (now words))) (length (now words))) ≡ true)
+        × (passes (passOf (flowPass (codeOf readings count)) count) ≡ true)
         ⌝ }
-    ensures { λ r. ⌜ r ≡ passOf (wordPass policy (readingsOf (now (words .entry))) (now (rows .entry)) (now (result .entry))) (length (now (words .entry))) ⌝ }
+    ensures { λ r. ⌜ r ≡ passOf (wordPass policy (codeOf readings count) (now (rows .entry)) (now (result .entry))) count ⌝ }
 {
     let mut i: usize = 0;
-    while i < words.len() {
-        let x = readings[i];
-        let mut slot = Reading::Unread(NOT_READ);
-        if i + 1 < MOST_WORDS {
-            slot = readings[i + 1];
-        }
+    while i < count {
+        let x = reading_at(readings, i);
+        let slot = reading_at(readings, i + 1);
         let found = word_in(policy, rows, result, WordIndex(i as u32), marks[i], x, slot);
         if found.number != ACCEPTED {
             return found;

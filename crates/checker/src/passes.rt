@@ -1,10 +1,10 @@
-// The passes over the words, each to the first word that breaks its condition (specs/Passes.antt). The
-// words are handed over with what they are read as, and with which of them are examined.
+// The passes over the words, each to the first word that breaks its condition (specs/Passes.antt). Handed
+// over is what the words are read as, and which of them are examined.
 ghost use mathlib.Core.Path.{_≡_};
 ghost use Prim.Native.Nat.{_*_, _≤_};
 ghost use lib.ListN.{length};
 ghost use Rattle.v8.specs.Numbers.{mostWords};
-ghost use Rattle.flow.specs.Readings.{readingsOf, Reads, Examines};
+ghost use Rattle.flow.specs.Readings.{codeOf, Formed, Examines};
 ghost use Rattle.rows.specs.Geometry.{rowBytes, RowIn};
 ghost use Rattle.checker.specs.Answer.{passOf};
 ghost use Rattle.checker.specs.Passes.{rowPass, ifRead, readPass, flowPass, entryPass};
@@ -14,6 +14,7 @@ use crate::answers::need;
 use crate::answers::refuse;
 use crate::answers::unless_fault;
 use flow::flows::flows;
+use flow::readings::reading_at;
 use flow::readings::transfers;
 use policy::Policy;
 use rows::formed_at;
@@ -69,14 +70,13 @@ fn if_read(at: WordIndex, x: Reading) -> Answer
 }
 
 // Pass 2: the words are read.
-pub fn read_pass(words: &[u32], readings: [Reading; MOST_WORDS]) -> Answer
-    requires { ⌜ (length (now words) ≤ mostWords) × Reads readings (now words) ⌝ }
-    ensures { λ r. ⌜ r ≡ passOf (readPass (readingsOf (now (words .entry)))) (length (now (words .entry))) ⌝ }
+pub fn read_pass(readings: [Reading; MOST_WORDS], count: usize) -> Answer
+    requires { ⌜ Formed readings count ⌝ }
+    ensures { λ r. ⌜ r ≡ passOf (readPass (codeOf readings count)) count ⌝ }
 {
     let mut i: usize = 0;
-    while i < words.len() {
-        let x = readings[i];
-        let found = if_read(WordIndex(i as u32), x);
+    while i < count {
+        let found = if_read(WordIndex(i as u32), reading_at(readings, i));
         if found.number != ACCEPTED {
             return found;
         }
@@ -87,19 +87,23 @@ pub fn read_pass(words: &[u32], readings: [Reading; MOST_WORDS]) -> Answer
 
 // Pass 3: the words' flow.
 pub fn flow_pass(
-    words: &[u32],
     readings: [Reading; MOST_WORDS],
+    count: usize,
     marks: &[bool; MOST_WORDS],
 ) -> Answer
-    requires { ⌜ (length (now words) ≤ mostWords) × Reads readings (now words) × Examines (now marks) (now words) ⌝ }
-    ensures { λ r. ⌜ r ≡ passOf (flowPass (readingsOf (now (words .entry)))) (length (now (words .entry))) ⌝ }
+    requires { ⌜ Formed readings count × Examines (now marks) (codeOf readings count) ⌝ }
+    ensures { λ r. ⌜ r ≡ passOf (flowPass (codeOf readings count)) count ⌝ }
 {
     let mut in_slot = false;
     let mut i: usize = 0;
-    while i < words.len() {
-        let x = readings[i];
+    while i < count {
+        let x = reading_at(readings, i);
         let at = WordIndex(i as u32);
-        let found = need(flows(words, at, in_slot, marks[i], x), BAD_FLOW, at);
+        let found = need(
+            flows(readings, count, at, in_slot, marks[i], x),
+            BAD_FLOW,
+            at,
+        );
         if found.number != ACCEPTED {
             return found;
         }

@@ -1,14 +1,18 @@
 -- `check` meets its contract. After each pass stands what is left of the check.
 use mathlib.Core.Path.{_≡_, sym, ap, _∙_}
 use mathlib.Core.Bool.{true}
+use mathlib.Core.List.{List}
 use native.Mathlib.Omega.{arith}
 use lib.ListN.{length}
 use denote.Ref.{now}
 use borrow.Author.Needs.{needs}
 use borrow.Author.Tests.{not-true, not-false, eq-eqb}
+use Rattle.v8.specs.declared.Reading.{Reading}
 use Rattle.policy.specs.Policy.{policyOk}
+use Rattle.flow.specs.Readings.{codeOf}
 use Rattle.checker.specs.Answer.{passes}
-use Rattle.checker.proofs.Parts.{Given, over}
+use Rattle.checker.specs.Passes.{readPass, flowPass, wordPass}
+use Rattle.checker.proofs.Parts.{Given, whole, over, over-read}
 use Rattle.checker.proofs.Stages.{goes, stops, Shaped, shapes, shaped, answer, bad-policy, bad-shape, from-rows, fromRows, fromReads, fromFlow, fromEntry, fromWords}
 use Rattle.checker.proofs.checking.check.Statement.{statement}
 use Rattle.checker.proofs.checking.check.Tie as tie
@@ -16,6 +20,7 @@ use Rattle.checker.proofs.checking.check.Tie as tie
 abbrev given : tie.Start → Given
 given s =
     record {
+      edition = s .args .edition;
       policy = s .args .policy;
       words = now (s .args .words);
       rows = now (s .args .rows);
@@ -60,8 +65,12 @@ formed4 c = c .before .before .before .before
 abbrev given4 : tie.Else4 → Given
 given4 c = given3 (formed4 c)
 
+-- what the words are read as
+read-as : (c : tie.Else4) → codeOf (c .before .before .before .read-all .result) (length (given4 c .words)) ≡ whole (given4 c) .readings
+read-as c = c .before .before .before .read-all .ensures .is
+
 left4 : (c : tie.Else4) → answer (given4 c) ≡ fromFlow (given4 c)
-left4 c = left3 (formed4 c) ∙ goes _ _ _ (c .before .before .read-pass .ensures ∙ over (given4 c) _) (c .if4 .left)
+left4 c = left3 (formed4 c) ∙ goes _ _ _ (c .before .before .read-pass .ensures ∙ over-read (given4 c) readPass _ (read-as c)) (c .if4 .left)
 
 -- after 3
 abbrev read5 : tie.Else5 → tie.Else4
@@ -71,7 +80,7 @@ abbrev given5 : tie.Else5 → Given
 given5 c = given4 (read5 c)
 
 left5 : (c : tie.Else5) → answer (given5 c) ≡ fromEntry (given5 c)
-left5 c = left4 (read5 c) ∙ goes _ _ _ (c .before .before .flow-pass .ensures ∙ over (given5 c) _) (c .if5 .left)
+left5 c = left4 (read5 c) ∙ goes _ _ _ (c .before .before .flow-pass .ensures ∙ over-read (given5 c) flowPass _ (read-as (read5 c))) (c .if5 .left)
 
 -- after 15
 abbrev flows6 : tie.Else6 → tie.Else5
@@ -121,26 +130,26 @@ read-all-requires : tie.Need-read-all-requires
 read-all-requires c κs = lengths (shape3 c) .most
 
 read-pass-requires : tie.Need-read-pass-requires
-read-pass-requires c κs = (lengths (shape3 (c .before)) .most, c .read-all .ensures)
+read-pass-requires c κs = c .read-all .ensures .formed
 
 returns-4 : tie.Need-returns-4
 returns-4 c =
     let d = c .before .before in
-    sym (left3 (d .before .before) ∙ stops _ _ _ (d .read-pass .ensures ∙ over (given3 (d .before .before)) _) (c .if4 .taken))
+    sym (left3 (d .before .before) ∙ stops _ _ _ (d .read-pass .ensures ∙ over-read (given3 (d .before .before)) readPass _ (d .before .read-all .ensures .is)) (c .if4 .taken))
 
 examine-all-requires : tie.Need-examine-all-requires
-examine-all-requires c κs = (lengths (shape3 (formed4 c)) .most, c .before .before .before .read-all .ensures)
+examine-all-requires c κs = c .before .before .before .read-all .ensures .formed
 
 flow-pass-requires : tie.Need-flow-pass-requires
 flow-pass-requires c κs =
     let r = c .before .before in
-    (lengths (shape3 (formed4 r)) .most, r .before .before .before .read-all .ensures, c .before .examine-all .ensures)
+    (r .before .before .before .read-all .ensures .formed, c .before .examine-all .ensures)
 
 returns-5 : tie.Need-returns-5
 returns-5 c =
     let d = c .before .before in
     let r = d .before .before .before in
-    sym (left4 r ∙ stops _ _ _ (d .flow-pass .ensures ∙ over (given4 r) _) (c .if5 .taken))
+    sym (left4 r ∙ stops _ _ _ (d .flow-pass .ensures ∙ over-read (given4 r) flowPass _ (read-as r)) (c .if5 .taken))
 
 entry-pass-requires : tie.Need-entry-pass-requires
 entry-pass-requires c κs =
@@ -158,10 +167,14 @@ word-pass-requires c κs =
     let r = read5 f in
     let l = lengths (shape3 (formed4 r)) in
     let flows = ap passes (sym (f .before .before .flow-pass .ensures)) ∙ eq-eqb _ 0 (f .if5 .left) in
-    (l .most, r .before .before .before .read-all .ensures, f .before .before .before .before .examine-all .ensures, sym (l .rows), omega (arith, l .result), flows)
+    (r .before .before .before .read-all .ensures .formed, f .before .before .before .before .examine-all .ensures, sym (l .rows), omega (arith, l .result), flows)
 
 returns-7 : tie.Need-returns-7
-returns-7 c = c .word-pass .ensures ∙ over (given6 (c .before .before)) _ ∙ sym (left6 (c .before .before))
+returns-7 c =
+    let g = given6 (c .before .before) in
+    c .word-pass .ensures
+    ∙ over-read g (λ (code : List Reading). wordPass (g .policy) code (g .rows) (g .result)) _ (read-as (read5 (flows6 (c .before .before))))
+    ∙ sym (left6 (c .before .before))
 
 pub check-spec : {M : Type 1} → statement M
 check-spec =

@@ -1,47 +1,44 @@
 -- The loop's invariant: the pass from the present word on gives the answer of the whole pass, and whether the word is a slot is known.
-use Rattle.checker.proofs.Passing.{passFrom, pass-start, pass-here, pass-next, pass-end, flow-here, slot-here}
+use borrow.Author.Needs.{needs}
 use Prim.Native.Nat.{_≤_, _-_}
 use mathlib.Core.Path.{_≡_, sym, _∙_}
 use native.Mathlib.Omega.{arith}
-use lib.ListN.{length}
-use denote.Ref.{now}
-use borrow.Author.Needs.{needs}
-use Rattle.flow.specs.Readings.{readingsOf, isSlot}
+use Rattle.flow.specs.Readings.{isSlot, codeOf}
+use Rattle.flow.proofs.Fetched.{at-index, code-count}
 use Rattle.flow.proofs.Examined.{first-free}
 use Rattle.checker.specs.Answer.{passOf}
 use Rattle.checker.specs.Passes.{flowPass}
+use Rattle.checker.proofs.Passing.{passFrom, pass-start, pass-here, pass-next, pass-end, flow-here, slot-here}
 use Rattle.checker.proofs.passes.flow_pass.Statement.{statement}
 use Rattle.checker.proofs.passes.flow_pass.Tie as tie
 
 abbrev Inv-loop : tie.InvT-loop
-Inv-loop words marks readings in-slot₀ i₀ in-slot i =
-    (i ≤ length words)
-    × (in-slot ≡ isSlot (readingsOf words) i)
-    × (passOf (flowPass (readingsOf words)) (length words) ≡ passFrom (flowPass (readingsOf words)) i (length words))
+Inv-loop readings count marks in-slot₀ i₀ in-slot i =
+    (i ≤ count)
+    × (in-slot ≡ isSlot (codeOf readings count) i)
+    × (passOf (flowPass (codeOf readings count)) count ≡ passFrom (flowPass (codeOf readings count)) i count)
 
 abbrev μ-loop : tie.MeasureT-loop
-μ-loop words marks readings in-slot₀ i₀ in-slot i = length words - i
+μ-loop readings count marks in-slot₀ i₀ in-slot i = count - i
 
 loop-holds : tie.Need-loop-holds Inv-loop μ-loop
 loop-holds c = (omega arith, sym (first-free _), pass-start _ _)
 
-mul-x : tie.Need-mul-x Inv-loop μ-loop
-mul-x c = search needs
+reading-at-requires : tie.Need-reading-at-requires Inv-loop μ-loop
+reading-at-requires c κs = c .before .before .pre .0 .long
 
-array-copy-out-x : tie.Need-array-copy-out-x Inv-loop μ-loop
-array-copy-out-x c = search needs
-
-cast-t15 : tie.Need-cast-t15 Inv-loop μ-loop
-cast-t15 c = search needs
+cast-t10 : tie.Need-cast-t10 Inv-loop μ-loop
+cast-t10 c = record { fits = omega (arith, c .before .loop-test .taken, c .before .before .before .pre .0 .most) }
 
 element-copy-out-flows : tie.Need-element-copy-out-flows Inv-loop μ-loop
 element-copy-out-flows c = search needs
 
 flows-requires : tie.Need-flows-requires Inv-loop μ-loop
 flows-requires c κs =
-    let s = c .before .before .before .before .before in
+    let s = c .before .before .before .before in
     let more = c .before .before .loop-test .taken in
-    (omega (arith, more, s .pre .0), c .before .before .before .loop .inv .1, s .pre .2 _ more)
+    let count = code-count (s .args .readings) (s .args .count) (s .pre .0) in
+    (s .pre .0, omega (arith, more, s .pre .0 .most), c .before .before .before .loop .inv .1, s .pre .1 _ (omega (arith, more, count)))
 
 need-requires : tie.Need-need-requires Inv-loop μ-loop
 need-requires c κs = search needs
@@ -49,9 +46,9 @@ need-requires c κs = search needs
 returns : tie.Need-returns Inv-loop μ-loop
 returns c =
     let t = c .before .before .before .before .before .before in
-    let s = t .before .before .before in
-    let here = flow-here (now (s .args .words)) (s .args .t2) (t .before .loop .i) (s .pre .1) (t .loop-test .taken) (s .pre .0) _ _ (c .before .before .before .flows .ensures)
-    (c .before .before .need .ensures) in
+    let s = t .before .before in
+    let x = c .before .before .before .before .before .reading-at .ensures ∙ at-index (s .args .readings) (s .args .count) (s .pre .0) (t .before .loop .i) in
+    let here = flow-here _ (t .before .loop .i) _ x _ _ (c .before .before .before .flows .ensures) (c .before .before .need .ensures) in
     sym (t .before .loop .inv .2 ∙ pass-here _ _ _ _ here (t .loop-test .taken) (c .if1 .taken))
 
 transfers-requires : tie.Need-transfers-requires Inv-loop μ-loop
@@ -66,11 +63,11 @@ loop-less c = search needs
 loop-again : tie.Need-loop-again Inv-loop μ-loop
 loop-again c =
     let t = c .before .before .before .before .before .before .before in
-    let s = t .before .before .before in
-    let here = flow-here (now (s .args .words)) (s .args .t2) (t .before .loop .i) (s .pre .1) (t .loop-test .taken) (s .pre .0) _ _ (c .before .before .before .before .flows .ensures)
-    (c .before .before .before .need .ensures) in (
+    let s = t .before .before in
+    let x = c .before .before .before .before .before .before .reading-at .ensures ∙ at-index (s .args .readings) (s .args .count) (s .pre .0) (t .before .loop .i) in
+    let here = flow-here _ (t .before .loop .i) _ x _ _ (c .before .before .before .before .flows .ensures) (c .before .before .before .need .ensures) in (
       omega (arith, t .loop-test .taken),
-      slot-here (now (s .args .words)) (s .args .t2) (t .before .loop .i) (s .pre .1) (t .loop-test .taken) (s .pre .0) _ (c .transfers .ensures),
+      slot-here _ (t .before .loop .i) _ x _ (c .transfers .ensures),
       t .before .loop .inv .2 ∙ pass-next _ _ _ _ here (t .loop-test .taken) (c .before .if1 .left),
     )
 
@@ -87,9 +84,8 @@ flow-pass-spec =
     Inv-loop
     μ-loop
     loop-holds
-    mul-x
-    array-copy-out-x
-    cast-t15
+    reading-at-requires
+    cast-t10
     element-copy-out-flows
     flows-requires
     need-requires
