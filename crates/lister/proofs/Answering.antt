@@ -12,6 +12,7 @@ use Rattle.v8.proofs.Search.{first-passes}
 use Rattle.v8.proofs.Choice.{and-went, false-true}
 use Rattle.flow.specs.Readings.{readingsOf}
 use Rattle.flow.proofs.Fetched.{read-count}
+use Rattle.v8.specs.declared.Edition.{Edition}
 use Rattle.policy.specs.declared.Policy.{Policy}
 use Rattle.policy.specs.Policy.{policyOk}
 use Rattle.checker.specs.declared.Answer.{Answer}
@@ -33,9 +34,9 @@ pass-accepts f n a e z = at (ltb (first (refuses f) 0 n) n) refl e
     at true t r = clash (f (first (refuses f) 0 n)) (first-passes (refuses f) 0 n (ltb-true (first (refuses f) 0 n) n t)) r
     at false t r = r
 
-module _ (p : Policy) (words entry table : List ℕ) where
+module _ (e : Edition) (p : Policy) (words entry table : List ℕ) where
   abbrev pub answer : Answer
-  answer = listingAnswer p (readingsOf words) entry (length table)
+  answer = listingAnswer p (readingsOf e words) entry (length table)
 
   abbrev pub fits : ℕ → Bool
   fits n = listable (p .regions .count) (p .regions .sizes) n entry (length table)
@@ -46,37 +47,37 @@ module _ (p : Policy) (words entry table : List ℕ) where
     pub marks : length table ≡ tableMarks
 
   pub lengths : fits (length words) ≡ true → Lengths
-  lengths e =
-      let both = and-went (startOk (p .regions .count) (p .regions .sizes) (length words) entry) (eqb (length table) tableMarks) e in
+  lengths f =
+      let both = and-went (startOk (p .regions .count) (p .regions .sizes) (length words) entry) (eqb (length table) tableMarks) f in
       record { start = started (p .regions .count) (p .regions .sizes) (length words) entry (both .0); marks = eqb-true (length table) tableMarks (both .1) }
 
-  as-read : {t : Bool} → fits (length words) ≡ t → fits (length (readingsOf words)) ≡ t
-  as-read e = ap fits (read-count words) ∙ e
+  as-read : {t : Bool} → fits (length words) ≡ t → fits (length (readingsOf e words)) ≡ t
+  as-read f = ap fits (read-count e words) ∙ f
 
   pub bad-policy : policyOk p ≡ false → answer ≡ refuse badPolicy 0 0
   unfolding listingAnswer
-  bad-policy e = rw e
+  bad-policy q = rw q
 
   pub bad-shape : policyOk p ≡ true → fits (length words) ≡ false → answer ≡ refuse badShape 0 0
   unfolding listingAnswer
-  bad-shape e f = rw (e, as-read f)
+  bad-shape q f = rw (q, as-read f)
 
   -- what is left of it from the reading and from the flow of the words on
   abbrev pub fromFlow : Answer
-  fromFlow = passOf (flowPass (readingsOf words)) (length (readingsOf words))
+  fromFlow = passOf (flowPass (readingsOf e words)) (length (readingsOf e words))
 
   abbrev pub fromReads : Answer
-  fromReads = andThen (passOf (readPass (readingsOf words)) (length (readingsOf words))) fromFlow
+  fromReads = andThen (passOf (readPass (readingsOf e words)) (length (readingsOf e words))) fromFlow
 
   pub from-reads : policyOk p ≡ true → fits (length words) ≡ true → answer ≡ fromReads
   unfolding listingAnswer
-  from-reads e f = rw (e, as-read f)
+  from-reads q f = rw (q, as-read f)
 
   -- a refusal leaves the table; acceptance leaves the listing
-  pub refused : (a : Answer) → answer ≡ a → (a .number ≡ 0 → ⊥) → record { answer = a; table = table } ≡ listed p words entry table
+  pub refused : (a : Answer) → answer ≡ a → (a .number ≡ 0 → ⊥) → record { answer = a; table = table } ≡ listed e p words entry table
   unfolding listed
-  refused a e n = rw (e, ne-eqb (a .number) 0 n)
+  refused a q n = rw (q, ne-eqb (a .number) 0 n)
 
-  pub lists : answer ≡ accepted → record { answer = accepted; table = wholeTable (listingOf (readingsOf words) entry) } ≡ listed p words entry table
+  pub lists : answer ≡ accepted → record { answer = accepted; table = wholeTable (listingOf (readingsOf e words) entry) } ≡ listed e p words entry table
   unfolding listed
-  lists e = rw e
+  lists q = rw q

@@ -6,6 +6,7 @@ use mathlib.Core.List.{List, [], _∷_, _++_}
 use lib.Dec.{eqb}
 use lib.ListN.{length, replicate}
 use Rattle.v8.specs.Numbers.{badShape}
+use Rattle.v8.specs.declared.Edition.{Edition}
 use Rattle.v8.specs.declared.Reading.{Reading}
 use Rattle.flow.specs.Readings.{readingsOf}
 use Rattle.policy.specs.declared.Policy.{Policy}
@@ -72,6 +73,7 @@ pub record Listed : Type 0 where
 abbrev pub listedWith : Answer → List ℕ → List ℕ → Listed
 listedWith answer listing table = record { answer = answer; table = cond (passes answer) (wholeTable listing) table }
 
-unfoldable pub listed : Policy → List ℕ → List ℕ → List ℕ → Listed
-listed p words entry table =
-    listedWith (listingAnswer p (readingsOf words) entry (length table)) (listingOf (readingsOf words) entry) table
+-- .. for a terminal of the edition
+unfoldable pub listed : Edition → Policy → List ℕ → List ℕ → List ℕ → Listed
+listed e p words entry table =
+    listedWith (listingAnswer p (readingsOf e words) entry (length table)) (listingOf (readingsOf e words) entry) table

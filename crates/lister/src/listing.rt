@@ -14,6 +14,7 @@ use checker::start_ok;
 use flow::readings::examine_all;
 use flow::readings::read_all;
 use policy::Policy;
+use v8::Edition;
 use v8::WordIndex;
 use v8::numbers::ACCEPTED;
 use v8::numbers::BAD_POLICY;
@@ -39,12 +40,18 @@ fn copy_out(marks: &[u8; TABLE_MARKS], table: &mut [u8])
     }
 }
 
-// Lists the kinds of a routine: for each word the marks of its 32 registers, in a lent table. A refusal
-// is the check's, and leaves the table as it was.
-pub fn list_kinds(policy: Policy, words: &[u32], entry: &[u8], table: &mut [u8]) -> Answer
+// Lists the kinds of a routine, for a terminal of the edition: for each word the marks of its 32
+// registers, in a lent table. A refusal is the check's, and leaves the table as it was.
+pub fn list_kinds(
+    edition: Edition,
+    policy: Policy,
+    words: &[u32],
+    entry: &[u8],
+    table: &mut [u8],
+) -> Answer
     ensures { λ r. ⌜
         record { answer = r; table = now (table .exit) }
-        ≡ listed policy (now (words .entry)) (now (entry .entry)) (now (table .entry))
+        ≡ listed edition policy (now (words .entry)) (now (entry .entry)) (now (table .entry))
         ⌝ }
 {
     if !policy.well_formed() {
@@ -60,18 +67,19 @@ pub fn list_kinds(policy: Policy, words: &[u32], entry: &[u8], table: &mut [u8])
     ) {
         return refuse(BAD_SHAPE, WordIndex(0), 0);
     }
-    let readings = read_all(words);
-    let read = read_pass(words, readings);
+    let count = words.len();
+    let readings = read_all(edition, words);
+    let read = read_pass(readings, count);
     if read.number != ACCEPTED {
         return read;
     }
-    let examined = examine_all(words, readings);
-    let flows = flow_pass(words, readings, &examined);
+    let examined = examine_all(readings, count);
+    let flows = flow_pass(readings, count, &examined);
     if flows.number != ACCEPTED {
         return flows;
     }
     let mut marks = [0u8; TABLE_MARKS];
-    raise_until_closed(words, readings, &examined, entry, &mut marks);
+    raise_until_closed(readings, count, &examined, entry, &mut marks);
     copy_out(&marks, table);
     accept()
 }

@@ -3,8 +3,7 @@
 ghost use mathlib.Core.Path.{_≡_};
 ghost use Prim.Native.Nat.{_≤_};
 ghost use lib.ListN.{length, replicate};
-ghost use Rattle.v8.specs.Numbers.{mostWords};
-ghost use Rattle.flow.specs.Readings.{readingsOf, Reads, Examines};
+ghost use Rattle.flow.specs.Readings.{codeOf, Formed, Examines};
 ghost use Rattle.rows.specs.Geometry.{RowIn};
 ghost use Rattle.marks.specs.Marks.{notReached};
 ghost use Rattle.lister.specs.Table.{tableMarks};
@@ -14,33 +13,31 @@ use crate::sending::lower;
 use crate::sending::pass_on;
 use crate::table::entry_marks;
 use crate::table::raise_at;
+use flow::readings::reading_at;
 use v8::Reading;
 use v8::WordIndex;
 use v8::numbers::MOST_WORDS;
-use v8::numbers::NOT_READ;
 
 // Raises a table with no marks by the entry row's kinds at word 0 and by all that the words send, until
 // it is closed.
 pub fn raise_until_closed(
-    words: &[u32],
     readings: [Reading; MOST_WORDS],
+    count: usize,
     examined: &[bool; MOST_WORDS],
     entry: &[u8],
     table: &mut [u8; TABLE_MARKS],
 )
     requires { ⌜
-        (1 ≤ length (now words))
-        × (length (now words) ≤ mostWords)
-        × Reads readings (now words)
-        × Examines (now examined) (now words)
+        (1 ≤ count)
+        × Formed readings count
+        × Examines (now examined) (codeOf readings count)
         × RowIn 0 (length (now entry))
         × (now table ≡ replicate tableMarks notReached)
         ⌝ }
-    ensures { λ _. ⌜ now (table .exit) ≡ wholeTable (listingOf (readingsOf (now (words .entry))) (now (entry .entry))) ⌝ }
+    ensures { λ _. ⌜ now (table .exit) ≡ wholeTable (listingOf (codeOf readings count) (now (entry .entry))) ⌝ }
 {
     let marks = entry_marks(entry);
     raise_at(table, 0, &marks);
-    let count = words.len();
     let mut pending = [true; MOST_WORDS];
     let mut w: usize = 0;
     while w < count {
@@ -50,11 +47,8 @@ pub fn raise_until_closed(
             continue;
         }
         pending[w] = false;
-        let x = readings[w];
-        let mut slot = Reading::Unread(NOT_READ);
-        if next < MOST_WORDS {
-            slot = readings[next];
-        }
+        let x = reading_at(readings, w);
+        let slot = reading_at(readings, next);
         let raised = pass_on(table, &mut pending, count, WordIndex(w as u32), x, slot);
         w = lower(raised, next);
     }
