@@ -3,6 +3,7 @@ use Prim.Native.Nat.{ℕ}
 use mathlib.Core.Path.{_≡_, sym, ap, _∙_, subst}
 use mathlib.Core.List.{List}
 use borrow.Author.Tests.{eq-eqb, ne-eqb}
+use Rattle.v8.specs.declared.Edition.{Edition}
 use Rattle.policy.specs.declared.Policy.{Policy}
 use Rattle.step.specs.declared.Registers.{Registers}
 use Rattle.machine.specs.Run.{Run, settingOf, startState, runOf, traceFrom, refused}
@@ -30,19 +31,19 @@ unfolding checkedWith
 accepted-left a b run ran g memory e q z = rw (← e, ← q, eq-eqb (a .number) 0 z)
 
 -- whatever gives the checked run holds to demand 3
-pub holds-to : (p : Policy) (words rows entry result bases : List ℕ) (returns : ℕ) (g : Registers) (allowance : ℕ) (memory : List ℕ) (c : Checked)
-    → c ≡ checkedRunOf p words rows entry result bases returns g allowance memory → HoldsTo p words entry result bases returns g allowance memory c
+pub holds-to : (e : Edition) (p : Policy) (words rows entry result bases : List ℕ) (returns : ℕ) (g : Registers) (allowance : ℕ) (memory : List ℕ) (c : Checked)
+    → c ≡ checkedRunOf e p words rows entry result bases returns g allowance memory → HoldsTo e p words entry result bases returns g allowance memory c
 unfolding checkedWith
-holds-to p words rows entry result bases returns g allowance memory c q a start =
-    let e : checkOf p words rows entry result ≡ accepted = sym (ap (λ (x : Checked). x .answer) q) ∙ a in
-    let r : c .run ≡ runOf p words bases returns g allowance memory =
-    ap (λ (x : Checked). x .run) q ∙ accepted-run (checkOf p words rows entry result) (runOf p words bases returns g allowance memory) g memory e in
-    subst (λ (x : Run). Guaranteed p (entryOf result 0) (settingOf p words bases returns) (hostOf bases returns) (startState g memory) allowance x
-    (traceFrom (settingOf p words bases returns) allowance (startState g memory)))
-    (sym r) (running-guarantee p words rows entry result e bases returns g memory start allowance)
+holds-to e p words rows entry result bases returns g allowance memory c q a start =
+    let accepts : checkOf e p words rows entry result ≡ accepted = sym (ap (λ (x : Checked). x .answer) q) ∙ a in
+    let r : c .run ≡ runOf e p words bases returns g allowance memory =
+    ap (λ (x : Checked). x .run) q ∙ accepted-run (checkOf e p words rows entry result) (runOf e p words bases returns g allowance memory) g memory accepts in
+    subst (λ (x : Run). Guaranteed p (entryOf result 0) (settingOf e p words bases returns) (hostOf bases returns) (startState g memory) allowance x
+    (traceFrom (settingOf e p words bases returns) allowance (startState g memory)))
+    (sym r) (running-guarantee e p words rows entry result accepts bases returns g memory start allowance)
 
-pub given-checked : (p : Policy) (words rows entry result bases : List ℕ) (returns : ℕ) (g : Registers) (allowance : ℕ) (memory : List ℕ) (c : Checked)
-    → c ≡ checkedRunOf p words rows entry result bases returns g allowance memory
-    → (c ≡ checkedRunOf p words rows entry result bases returns g allowance memory) × HoldsTo p words entry result bases returns g allowance memory c
-given-checked p words rows entry result bases returns g allowance memory c q =
-    (q, holds-to p words rows entry result bases returns g allowance memory c q)
+pub given-checked : (e : Edition) (p : Policy) (words rows entry result bases : List ℕ) (returns : ℕ) (g : Registers) (allowance : ℕ) (memory : List ℕ) (c : Checked)
+    → c ≡ checkedRunOf e p words rows entry result bases returns g allowance memory
+    → (c ≡ checkedRunOf e p words rows entry result bases returns g allowance memory) × HoldsTo e p words entry result bases returns g allowance memory c
+given-checked e p words rows entry result bases returns g allowance memory c q =
+    (q, holds-to e p words rows entry result bases returns g allowance memory c q)

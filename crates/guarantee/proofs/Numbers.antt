@@ -3,6 +3,7 @@
 use Prim.Native.Nat.{ℕ, zero, suc}
 use mathlib.Core.Path.{refl}
 use mathlib.Core.List.{List, [], _∷_}
+use Rattle.v8.specs.declared.Edition.{Edition}
 use Rattle.v8.specs.declared.Displacement.{Displacement}
 use Rattle.v8.specs.declared.Displacement.the-variants.{Index, Bytes}
 use Rattle.v8.specs.Laws.{OperandSmall, DisplacementSmall, ReadingSound}
@@ -14,7 +15,7 @@ pub addend-small : (d : Displacement) → DisplacementSmall d → OperandSmall (
 addend-small (Index r) l = l
 addend-small (Bytes n) l = l
 
-pub readings-sound : (words : List ℕ) (w : ℕ) → ReadingSound (readingAt (readingsOf words) w)
-readings-sound [] w = refl
-readings-sound (x ∷ xs) zero = reads-sound x
-readings-sound (x ∷ xs) (suc w) = readings-sound xs w
+pub readings-sound : (e : Edition) (words : List ℕ) (w : ℕ) → ReadingSound (readingAt (readingsOf e words) w)
+readings-sound e [] w = refl
+readings-sound e (x ∷ xs) zero = reads-sound e x
+readings-sound e (x ∷ xs) (suc w) = readings-sound e xs w

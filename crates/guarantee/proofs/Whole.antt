@@ -11,6 +11,7 @@ use lib.Seq.{getD-set-same, getD-set-other}
 use borrow.Author.Tests.{le-ltb, eqb-true, eqb-false}
 use Rattle.v8.specs.Numbers.{mostWords}
 use Rattle.v8.proofs.Choice.{and-went}
+use Rattle.v8.specs.declared.Edition.{Edition}
 use Rattle.policy.specs.declared.Policy.{Policy}
 use Rattle.policy.specs.Laws.{WellFormed}
 use Rattle.policy.proofs.WellFormed.{obeys}
@@ -79,12 +80,12 @@ module _ (g : Registers) where
         note = record { coded = m .note .coded; compared = λ c. m .note .compared c ∙ rw (zero-value (row .note .register)) };
       }
 
-module _ (p : Policy) (words rows entry result : List ℕ) (e : checkOf p words rows entry result ≡ accepted) where
+module _ (e : Edition) (p : Policy) (words rows entry result : List ℕ) (a : checkOf e p words rows entry result ≡ accepted) where
   abbrev t : Routine
-  t = routineOf p words rows entry result
+  t = routineOf e p words rows entry result
 
-  checked : Checked (routineOf p words rows entry result)
-  checked = accepts p words rows entry result e
+  checked : Checked (routineOf e p words rows entry result)
+  checked = accepts e p words rows entry result a
 
   wf : WellFormed p
   wf = obeys p (checked .policy)
@@ -105,8 +106,8 @@ module _ (p : Policy) (words rows entry result : List ℕ) (e : checkOf p words 
     not-refused =
         rw (
           checked .policy,
-          le-ltb (length words) 1 (subst (λ (n : ℕ). 1 ≤ n) (read-count words) (checked .some)),
-          le-ltb mostWords (length words) (subst (λ (n : ℕ). n ≤ mostWords) (read-count words) (checked .most)),
+          le-ltb (length words) 1 (subst (λ (n : ℕ). 1 ≤ n) (read-count e words) (checked .some)),
+          le-ltb mostWords (length words) (subst (λ (n : ℕ). n ≤ mostWords) (read-count e words) (checked .most)),
           start .placed,
         )
 
@@ -126,7 +127,7 @@ module _ (p : Policy) (words rows entry result : List ℕ) (e : checkOf p words 
     row-rules = row-obeys (p .regions .count) (p .regions .sizes) rows (rowBytes * 0) (checked .rows-formed 0 (checked .some))
 
     -- the invariant holds at the start
-    pub invariant-start : Invariant (routineOf p words rows entry result) (hostOf bases returns) (startState g memory)
+    pub invariant-start : Invariant (routineOf e p words rows entry result) (hostOf bases returns) (startState g memory)
     invariant-start =
         record {
           core = core-ok;
@@ -144,18 +145,18 @@ module _ (p : Policy) (words rows entry result : List ℕ) (e : checkOf p words 
               };
         }
 
-    runs : (allowance : ℕ) → runOf p words bases returns g allowance memory ≡ runFrom (settingOf p words bases returns) allowance 0 (startState g memory)
+    runs : (allowance : ℕ) → runOf e p words bases returns g allowance memory ≡ runFrom (settingOf e p words bases returns) allowance 0 (startState g memory)
     unfolding runOf
     runs allowance = rw not-refused
 
-    whole : (allowance : ℕ) → Guaranteed p (entryOf result 0) (settingOf p words bases returns) (hostOf bases returns) (startState g memory) allowance
-        (runFrom (settingOf p words bases returns) allowance 0 (startState g memory)) (traceFrom (settingOf p words bases returns) allowance (startState g memory))
+    whole : (allowance : ℕ) → Guaranteed p (entryOf result 0) (settingOf e p words bases returns) (hostOf bases returns) (startState g memory) allowance
+        (runFrom (settingOf e p words bases returns) allowance 0 (startState g memory)) (traceFrom (settingOf e p words bases returns) allowance (startState g memory))
     whole allowance =
-        guaranteed (routineOf p words rows entry result) bases returns wf is-laid (return-aligned (p .regions .count) (p .regions .sizes) bases returns memory (start .placed)) checked
-        (readings-sound words) result-rules allowance (startState g memory) invariant-start
+        guaranteed (routineOf e p words rows entry result) bases returns wf is-laid (return-aligned (p .regions .count) (p .regions .sizes) bases returns memory (start .placed)) checked
+        (readings-sound e words) result-rules allowance (startState g memory) invariant-start
 
 pub running-guarantee : RunningGuarantee
-running-guarantee p words rows entry result e bases returns g memory start allowance =
-    subst (λ (r : Run). Guaranteed p (entryOf result 0) (settingOf p words bases returns) (hostOf bases returns) (startState g memory) allowance r
-    (traceFrom (settingOf p words bases returns) allowance (startState g memory)))
-    (sym (runs p words rows entry result e bases returns g memory start allowance)) (whole p words rows entry result e bases returns g memory start allowance)
+running-guarantee e p words rows entry result a bases returns g memory start allowance =
+    subst (λ (r : Run). Guaranteed p (entryOf result 0) (settingOf e p words bases returns) (hostOf bases returns) (startState g memory) allowance r
+    (traceFrom (settingOf e p words bases returns) allowance (startState g memory)))
+    (sym (runs e p words rows entry result a bases returns g memory start allowance)) (whole e p words rows entry result a bases returns g memory start allowance)

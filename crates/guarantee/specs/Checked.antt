@@ -3,6 +3,7 @@ use Prim.Native.Nat.{ℕ}
 use mathlib.Core.Path.{_≡_}
 use mathlib.Core.Bool.{cond}
 use mathlib.Core.List.{List}
+use Rattle.v8.specs.declared.Edition.{Edition}
 use Rattle.policy.specs.declared.Policy.{Policy}
 use Rattle.step.specs.declared.Registers.{Registers}
 use Rattle.machine.specs.Run.{Run, settingOf, startState, runOf, traceFrom, refused}
@@ -23,17 +24,18 @@ pub record Checked : Type 0 where
 unfoldable pub checkedWith : Answer → Run → Registers → List ℕ → Checked
 checkedWith answer run g memory = record { answer = answer; run = cond (passes answer) run (refused (answer .number) g memory) }
 
-abbrev pub checkedRunOf : Policy → List ℕ → List ℕ → List ℕ → List ℕ → List ℕ → ℕ → Registers → ℕ → List ℕ → Checked
-checkedRunOf p words rows entry result bases returns g allowance memory =
-    checkedWith (checkOf p words rows entry result) (runOf p words bases returns g allowance memory) g memory
+-- one edition for both
+abbrev pub checkedRunOf : Edition → Policy → List ℕ → List ℕ → List ℕ → List ℕ → List ℕ → ℕ → Registers → ℕ → List ℕ → Checked
+checkedRunOf e p words rows entry result bases returns g allowance memory =
+    checkedWith (checkOf e p words rows entry result) (runOf e p words bases returns g allowance memory) g memory
 
 -- what the code answers, with the lent memory
 abbrev pub checkedLeft : CheckedRun → List ℕ → Checked
 checkedLeft r memory = record { answer = r .answer; run = leftBy (r .outcome) memory }
 
 -- demand 3 of a checked run: where it accepts, for every matching start
-abbrev pub HoldsTo : Policy → List ℕ → List ℕ → List ℕ → List ℕ → ℕ → Registers → ℕ → List ℕ → Checked → Type 0
-HoldsTo p words entry result bases returns g allowance memory c =
+abbrev pub HoldsTo : Edition → Policy → List ℕ → List ℕ → List ℕ → List ℕ → ℕ → Registers → ℕ → List ℕ → Checked → Type 0
+HoldsTo e p words entry result bases returns g allowance memory c =
     c .answer ≡ accepted → Start p entry bases returns g memory
-    → Guaranteed p (entryOf result 0) (settingOf p words bases returns) (hostOf bases returns) (startState g memory) allowance (c .run)
-    (traceFrom (settingOf p words bases returns) allowance (startState g memory))
+    → Guaranteed p (entryOf result 0) (settingOf e p words bases returns) (hostOf bases returns) (startState g memory) allowance (c .run)
+    (traceFrom (settingOf e p words bases returns) allowance (startState g memory))

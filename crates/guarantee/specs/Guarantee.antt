@@ -6,6 +6,7 @@ use mathlib.Core.Path.{_≡_}
 use mathlib.Core.Bool.{true}
 use mathlib.Core.List.{List, [], _∷_}
 use lib.ListN.{length, getD}
+use Rattle.v8.specs.declared.Edition.{Edition}
 use Rattle.policy.specs.declared.Policy.{Policy}
 use Rattle.memory.specs.Memory.{Bytes}
 use Rattle.step.specs.declared.Registers.{Registers}
@@ -96,12 +97,12 @@ pub record Guaranteed (p : Policy) (result : Entry) (s : Setting) (h : Host) (st
   -- "every byte of the lent memory outside writable fields is as it was at the start"
   pub framed : Framed p (start .core .memory) (run .memory)
 
--- the running guarantee
+-- the running guarantee; request 5: "the guarantee being for a run on the one the check was told", which check and run share as e
 abbrev pub RunningGuarantee : Type 0
 RunningGuarantee =
-    (p : Policy) (words rows entry result : List ℕ) → checkOf p words rows entry result ≡ accepted
+    (e : Edition) (p : Policy) (words rows entry result : List ℕ) → checkOf e p words rows entry result ≡ accepted
     → (bases : List ℕ) (returns : ℕ) (g : Registers) (memory : List ℕ) → Start p entry bases returns g memory
     → (allowance : ℕ)
-    → Guaranteed p (entryOf result 0) (settingOf p words bases returns) (hostOf bases returns) (startState g memory) allowance
-    (runOf p words bases returns g allowance memory)
-    (traceFrom (settingOf p words bases returns) allowance (startState g memory))
+    → Guaranteed p (entryOf result 0) (settingOf e p words bases returns) (hostOf bases returns) (startState g memory) allowance
+    (runOf e p words bases returns g allowance memory)
+    (traceFrom (settingOf e p words bases returns) allowance (startState g memory))

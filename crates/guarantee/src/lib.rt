@@ -9,6 +9,7 @@ use machine::Outcome;
 use machine::run;
 use policy::Policy;
 use step::Registers;
+use v8::Edition;
 use v8::numbers::ACCEPTED;
 
 // What the check answers, and what the run gives; where the check refuses, nothing is run.
@@ -17,8 +18,9 @@ pub struct CheckedRun {
     pub outcome: Outcome,
 }
 
-// Checks a routine and, where the check accepts, runs it. Refused, it changes nothing.
+// Checks a routine and, where the check accepts, runs it, both for a terminal of the edition. Refused, it changes nothing.
 pub fn checked_run(
+    edition: Edition,
     policy: Policy,
     words: &[u32],
     rows: &[u8],
@@ -32,15 +34,15 @@ pub fn checked_run(
 ) -> CheckedRun
     ensures ran { λ r. ⌜
         checkedLeft r (now (memory .exit))
-        ≡ checkedRunOf policy (now (words .entry)) (now (rows .entry)) (now (entry .entry)) (now (result .entry))
+        ≡ checkedRunOf edition policy (now (words .entry)) (now (rows .entry)) (now (entry .entry)) (now (result .entry))
         (now (bases .entry)) returns registers allowance (now (memory .entry))
         ⌝ }
     ensures guaranteed { λ r. ⌜
-        HoldsTo policy (now (words .entry)) (now (entry .entry)) (now (result .entry)) (now (bases .entry)) returns registers allowance
+        HoldsTo edition policy (now (words .entry)) (now (entry .entry)) (now (result .entry)) (now (bases .entry)) returns registers allowance
         (now (memory .entry)) (checkedLeft r (now (memory .exit)))
         ⌝ }
 {
-    let answer = check(policy, words, rows, entry, result);
+    let answer = check(edition, policy, words, rows, entry, result);
     if answer.number != ACCEPTED {
         let number = answer.number;
         return CheckedRun {
@@ -52,6 +54,15 @@ pub fn checked_run(
             },
         };
     }
-    let outcome = run(policy, words, bases, returns, registers, allowance, memory);
+    let outcome = run(
+        edition,
+        policy,
+        words,
+        bases,
+        returns,
+        registers,
+        allowance,
+        memory,
+    );
     CheckedRun { answer, outcome }
 }
