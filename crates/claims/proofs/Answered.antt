@@ -10,6 +10,7 @@ use lib.ListN.{length}
 use Rattle.v8.specs.Search.{any, first, lowest}
 use Rattle.v8.specs.Numbers.{badRow, badFlow, entryMisfit}
 use Rattle.v8.specs.Read.{readingOf}
+use Rattle.v8.specs.declared.Edition.{Edition}
 use Rattle.v8.specs.declared.Reading.{Reading}
 use Rattle.v8.proofs.Worked.{nop-read, return-read, always-read}
 use Rattle.alu.specs.Result.{sethiOf}
@@ -49,10 +50,10 @@ row-passes : (p : Policy) (rows : List ℕ) (w : ℕ) → formFault (p .regions 
 unfolding rowPass
 row-passes p rows w e = ap passes (unless-none badRow w (formFault (p .regions .count) (p .regions .sizes) rows (rowBytes * w)) e)
 
-module _ (p : Policy) (rows entry result : List ℕ) (f : WellFormedEntry p entry result) where
+module _ (v : Edition) (p : Policy) (rows entry result : List ℕ) (f : WellFormedEntry p entry result) where
   module _ (long : length rows ≡ rowBytes) (formed : formFault (p .regions .count) (p .regions .sizes) rows 0 ≡ None) where
     abbrev alone : Routine
-    alone = routineOf p (nop ∷ []) rows entry result
+    alone = routineOf v p (nop ∷ []) rows entry result
 
     alone-shape : shapeOk p 1 rows entry result ≡ true
     unfolding shapeOk
@@ -63,21 +64,21 @@ module _ (p : Policy) (rows entry result : List ℕ) (f : WellFormedEntry p entr
 
     alone-reads : passOf (readPass (alone .readings)) 1 ≡ accepted
     unfolding passOf first lowest readPass
-    alone-reads = rw nop-read
+    alone-reads = rw (nop-read v)
 
     alone-flow : passOf (flowPass (alone .readings)) 1 ≡ refuse 3 0 0
     unfolding passOf first lowest flowPass isSlot
-    alone-flow = rw nop-read
+    alone-flow = rw (nop-read v)
 
-    alone-answer : checkOf p (nop ∷ []) rows entry result ≡ refuse 3 0 0
+    alone-answer : checkOf v p (nop ∷ []) rows entry result ≡ refuse 3 0 0
     unfolding checkOf
     alone-answer = flow-answers alone (f .policy) alone-shape alone-rows alone-reads (refuse 3 0 0) alone-flow refl
 
 pub one-nop : OneNop
-one-nop p rows entry result f long formed = alone-answer p rows entry result f long formed
+one-nop v p rows entry result f long formed = alone-answer v p rows entry result f long formed
 
 -- a transfer, then a nop in its slot, both rows equal to the entry row
-module _ (p : Policy) (rows entry result : List ℕ) (f : WellFormedEntry p entry result) (e : AllRowsEqual rows entry 2) where
+module _ (v : Edition) (p : Policy) (rows entry result : List ℕ) (f : WellFormedEntry p entry result) (e : AllRowsEqual rows entry 2) where
   agree : (w : ℕ) → w < 2 → Agree rows entry (rowBytes * w) 0 rowBytes
   agree w l j b = e .same w j l b ∙ ap (byteAt entry) (none j)
     where
@@ -97,7 +98,7 @@ module _ (p : Policy) (rows entry result : List ℕ) (f : WellFormedEntry p entr
 
   module _ (word : ℕ) where
     abbrev pair : Routine
-    pair = routineOf p (word ∷ nop ∷ []) rows entry result
+    pair = routineOf v p (word ∷ nop ∷ []) rows entry result
 
     pair-shape : shapeOk p 2 rows entry result ≡ true
     unfolding shapeOk
@@ -111,21 +112,21 @@ module _ (p : Policy) (rows entry result : List ℕ) (f : WellFormedEntry p entr
     pair-entry = unless-none entryMisfit 0 (misfit (rowOf entry 0) (rowOf rows (rowBytes * 0))) entry-fits
 
     -- a transfer that passes each pass makes a routine that does: its slot is read, is no transfer, and no taken edge lands on it
-    module _ (reads : passes (readPass (pair .readings) 0) ≡ true) (slot : transfers (readingOf word) ≡ true) (off : isTarget (pair .readings) 1 ≡ false)
+    module _ (reads : passes (readPass (pair .readings) 0) ≡ true) (slot : transfers (readingOf v word) ≡ true) (off : isTarget (pair .readings) 1 ≡ false)
         (flows : passes (flowPass (pair .readings) 0) ≡ true) (accepts : passes (wordPass p (pair .readings) rows result 0) ≡ true) where
       slot-reads : passes (readPass (pair .readings) 1) ≡ true
       unfolding readPass
-      slot-reads = rw nop-read
+      slot-reads = rw (nop-read v)
 
       slot-flows : passes (flowPass (pair .readings) 1) ≡ true
       unfolding flowPass isSlot
-      slot-flows = subst (λ (x : Reading). passes (need (flowOf (pair .readings) 1 x) badFlow 1 0) ≡ true) (sym nop-read) (rw (off, slot))
+      slot-flows = subst (λ (x : Reading). passes (need (flowOf (pair .readings) 1 x) badFlow 1 0) ≡ true) (sym (nop-read v)) (rw (off, slot))
 
       slot-accepts : passes (wordPass p (pair .readings) rows result 1) ≡ true
       unfolding wordPass isSlot
       slot-accepts = rw (off, slot)
 
-      pair-answer : checkOf p (word ∷ nop ∷ []) rows entry result ≡ accepted
+      pair-answer : checkOf v p (word ∷ nop ∷ []) rows entry result ≡ accepted
       unfolding checkOf
       pair-answer =
           all-accept pair (f .policy) pair-shape pair-rows
@@ -137,22 +138,22 @@ module _ (p : Policy) (rows entry result : List ℕ) (f : WellFormedEntry p entr
   -- the return
   module _ (links : isReturn (entryAt (rowOf entry 0) 15) ≡ true) (fitting : fits (entryAt (rowOf entry 0) 8) (entryOf result 0) ≡ true) where
     abbrev home : Routine
-    home = routineOf p (returnWord ∷ nop ∷ []) rows entry result
+    home = routineOf v p (returnWord ∷ nop ∷ []) rows entry result
 
     return-reads : passes (readPass (home .readings) 0) ≡ true
     unfolding readPass
-    return-reads = rw return-read
+    return-reads = rw (return-read v)
 
     return-flows : passes (flowPass (home .readings) 0) ≡ true
     unfolding flowPass isSlot
-    return-flows = rw return-read
+    return-flows = rw (return-read v)
 
     return-accepts : passes (wordPass p (home .readings) rows result 0) ≡ true
     unfolding wordPass isSlot narrowedEdge narrowRow cross returnChange
     return-accepts =
         rw (
-          return-read,
-          nop-read,
+          (return-read v),
+          (nop-read v),
           row-is 0 (omega arith),
           other-kind (entryAt (rowOf entry 0) 15 .kind) 4 0 links (λ x. omega arith),
           links,
@@ -162,29 +163,29 @@ module _ (p : Policy) (rows entry result : List ℕ) (f : WellFormedEntry p entr
 
     return-off : isTarget (home .readings) 1 ≡ false
     unfolding isTarget any
-    return-off = rw (return-read, nop-read)
+    return-off = rw ((return-read v), (nop-read v))
 
-    return-answer : checkOf p (returnWord ∷ nop ∷ []) rows entry result ≡ accepted
-    return-answer = pair-answer returnWord return-reads (rw return-read) return-off return-flows return-accepts
+    return-answer : checkOf v p (returnWord ∷ nop ∷ []) rows entry result ≡ accepted
+    return-answer = pair-answer returnWord return-reads (rw (return-read v)) return-off return-flows return-accepts
 
   -- the branch
   abbrev loop : Routine
-  loop = routineOf p (alwaysHere ∷ nop ∷ []) rows entry result
+  loop = routineOf v p (alwaysHere ∷ nop ∷ []) rows entry result
 
   loop-reads : passes (readPass (loop .readings) 0) ≡ true
   unfolding readPass
-  loop-reads = rw always-read
+  loop-reads = rw (always-read v)
 
   loop-flows : passes (flowPass (loop .readings) 0) ≡ true
   unfolding flowPass isSlot targetOf
-  loop-flows = rw always-read
+  loop-flows = rw (always-read v)
 
   loop-accepts : passes (wordPass p (loop .readings) rows result 0) ≡ true
   unfolding wordPass isSlot narrowedEdge narrowRow cross branchChange conditionOf slotRuns targetOf
   loop-accepts =
       rw (
-        always-read,
-        nop-read,
+        (always-read v),
+        (nop-read v),
         row-is 0 (omega arith),
         and-false,
         nop-keeps (p .regions .count) (p .regions .sizes) entry 0 (f .entry-formed) (constant (sethiOf 0)),
@@ -193,13 +194,13 @@ module _ (p : Policy) (rows entry result : List ℕ) (f : WellFormedEntry p entr
 
   loop-off : isTarget (loop .readings) 1 ≡ false
   unfolding isTarget any targetOf
-  loop-off = rw (always-read, nop-read)
+  loop-off = rw ((always-read v), (nop-read v))
 
-  loop-answer : checkOf p (alwaysHere ∷ nop ∷ []) rows entry result ≡ accepted
-  loop-answer = pair-answer alwaysHere loop-reads (rw always-read) loop-off loop-flows loop-accepts
+  loop-answer : checkOf v p (alwaysHere ∷ nop ∷ []) rows entry result ≡ accepted
+  loop-answer = pair-answer alwaysHere loop-reads (rw (always-read v)) loop-off loop-flows loop-accepts
 
 pub return-then-nop : ReturnThenNop
-return-then-nop p rows entry result f e links fitting = return-answer p rows entry result f e links fitting
+return-then-nop v p rows entry result f e links fitting = return-answer v p rows entry result f e links fitting
 
 pub loop-accepted : LoopAccepted
-loop-accepted p rows entry result f e = loop-answer p rows entry result f e
+loop-accepted v p rows entry result f e = loop-answer v p rows entry result f e

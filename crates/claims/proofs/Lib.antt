@@ -5,3 +5,4 @@ pub mod Answered
 pub mod Looped
 pub mod Matching
 pub mod Unlinked
+pub mod Alike

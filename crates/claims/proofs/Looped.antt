@@ -8,6 +8,7 @@ use native.Mathlib.Omega.{arith}
 use Rattle.v8.specs.Signed.{signExtend}
 use Rattle.v8.specs.Read.{readingOf, format00}
 use Rattle.alu.specs.Condition.{condHolds}
+use Rattle.v8.specs.declared.Edition.{Edition}
 use Rattle.policy.specs.declared.Policy.{Policy}
 use Rattle.step.specs.declared.Registers.{Registers}
 use Rattle.step.specs.Registers.{valuesWith, marksWith}
@@ -29,9 +30,9 @@ branching c = record { control = goTo 0; core = c }
 abbrev slotted : Core → State
 slotted c = record { control = atSlot 0 (toWord 0); core = c }
 
-module _ (p : Policy) (bases : List ℕ) (returns : ℕ) where
+module _ (e : Edition) (p : Policy) (bases : List ℕ) (returns : ℕ) where
   abbrev setting : Setting
-  setting = settingOf p (alwaysHere ∷ nop ∷ []) bases returns
+  setting = settingOf e p (alwaysHere ∷ nop ∷ []) bases returns
 
   branch-step : (c : Core) → stepOf setting (branching c) ≡ next (slotted c)
   unfolding stepOf readingOf format00 signExtend condHolds slotRuns targetOf
@@ -62,13 +63,13 @@ module _ (p : Policy) (bases : List ℕ) (returns : ℕ) where
     unfolding refusalOf
     not-refused = rw (f .policy, start .placed)
 
-    run-is : (allowance : ℕ) → runOf p (alwaysHere ∷ nop ∷ []) bases returns g allowance memory ≡ ended Spent (0 + allowance) (startState g memory .core)
+    run-is : (allowance : ℕ) → runOf e p (alwaysHere ∷ nop ∷ []) bases returns g allowance memory ≡ ended Spent (0 + allowance) (startState g memory .core)
     unfolding runOf
     run-is allowance = rw not-refused (spins allowance 0 (startState g memory .core) .0)
 
 pub loop-never-returns : LoopNeverReturns
-loop-never-returns p entry result f bases returns g memory start allowance =
-    let run = run-is p bases returns entry result f g memory start allowance in
+loop-never-returns e p entry result f bases returns g memory start allowance =
+    let run = run-is e p bases returns entry result f g memory start allowance in
     (ap (λ (r : Run). r .outcome .end) run, ap (λ (r : Run). r .outcome .steps) run ∙ none allowance)
   where
     none : (n : ℕ) → 0 + n ≡ n

@@ -2,6 +2,7 @@
 use mathlib.Core.Path.{_≡_, refl, sym}
 use mathlib.Core.Bool.{xor}
 use native.Mathlib.Omega.{arith}
+use Rattle.v8.specs.declared.Edition.{Edition}
 use Rattle.v8.specs.Signed.{signExtend}
 use Rattle.v8.specs.Search.{all, any, lowest, first}
 use Rattle.v8.specs.Read.{readingOf, format00, format10, format11, operandOf, countOf}
@@ -42,9 +43,9 @@ use Rattle.claims.proofs.Matching.{below, registers-match, fields-hold}
 abbrev host : Host
 host = hostOf bases returns
 
-checks : checkOf policy words rows entry digits ≡ accepted
+checks : (e : Edition) → checkOf e policy words rows entry digits ≡ accepted
 unfolding readingOf format00 format10 format11 operandOf countOf signExtend conditionOf lowest first all widthOf leastOf mostOf fieldAt valuesOk fieldOk endBefore fieldFits fieldAtOk regionOk policyOk holdsIn stopOf findIn slotRuns targetOf ended setOk fitsSet within addSets isMember only without sizeIn entryOk fits noteOk fitsNote fieldEntry entryAt entriesWith entryOf noteOf formedAt flawFrom formFault fitsAt misfit rowOf offsetsGive addressSum addressDifference aluResult inField inRegion reachOf noteAfter codesNote aluChange accessChange branchChange returnChange narrowEntry narrowRow passOf any isSlot isTarget shapeOk rowPass readPass flowPass entryPass cross narrowedEdge wordPass answerOf checkOf
-checks = refl
+checks e = refl
 
 row-matches : RowMatches host (rowOf entry 0) (heldOf registers)
 unfolding all rowOf entryOf noteOf entryAt valueIn setIn isMember
@@ -69,6 +70,6 @@ start-matches =
       fields = fields-match;
     }
 
-pub start-exists : StartExists
+pub start-exists : (e : Edition) → StartExists e
 unfolding readingOf format00 format10 format11 operandOf countOf signExtend codesOf condHolds conditionOf xor all widthOf leastOf mostOf fieldAt valuesOk fieldOk endBefore fieldFits fieldAtOk regionOk policyOk partStart lowest first holdsIn stopOf findIn valueIn setIn valuesWith marksWith insideRegion regionIn locate aimIn slotRuns targetOf stepOf disjointIn placedIn runFrom refusalOf runOf
-start-exists = record { checked = checks; matches = start-matches; returned = refl; counted = refl; gives = refl; leaves = refl }
+start-exists e = record { checked = checks e; matches = start-matches; returned = refl; counted = refl; gives = refl; leaves = refl }

@@ -1,11 +1,14 @@
--- What document 01's trial words say of every row ("Trial words"): stated for every policy, entry row and result entry, not for single ones.
+-- What document 01's trial words say of every row ("Trial words"): stated for every terminal, policy, entry row and result entry, not for single ones.
 -- Their proofs are `return-then-nop`, `one-nop` and `loop-accepted` in proofs/Answered.antt, and `loop-never-returns` in proofs/Looped.antt.
--- And, of one routine, that the running guarantee is about something: `start-exists` in proofs/Unlinked.antt.
+-- And, of one routine, that the running guarantee is about something: `start-exists` in proofs/Unlinked.antt; and, of every routine that the check
+-- accepts for the older terminal, that it does so for the newer one: `accepted-too` in proofs/Alike.antt.
 use Prim.Native.Nat.{ℕ, _+_, _*_, _<_}
 use mathlib.Core.Path.{_≡_}
 use mathlib.Core.Bool.{true}
 use mathlib.Core.List.{List, [], _∷_}
 use lib.ListN.{length}
+use Rattle.v8.specs.declared.Edition.{Edition}
+use Rattle.v8.specs.declared.Edition.the-variants.{V8, V9}
 use Rattle.policy.specs.declared.Policy.{Policy}
 use Rattle.policy.specs.Policy.{policyOk}
 use Rattle.memory.specs.Memory.{byteAt}
@@ -48,41 +51,45 @@ pub record AllRowsEqual (rows entry : List ℕ) (n : ℕ) : Type 0 where
 -- "Return then nop, all rows equal to a well-formed entry row with r15 kind 4 and r8 fitting: 0 0 0."
 abbrev pub ReturnThenNop : Type 0
 ReturnThenNop =
-    (p : Policy) (rows entry result : List ℕ) → WellFormedEntry p entry result → AllRowsEqual rows entry 2
+    (e : Edition) (p : Policy) (rows entry result : List ℕ) → WellFormedEntry p entry result → AllRowsEqual rows entry 2
     → isReturn (entryAt (rowOf entry 0) 15) ≡ true → fits (entryAt (rowOf entry 0) 8) (entryOf result 0) ≡ true
-    → checkOf p (returnWord ∷ nop ∷ []) rows entry result ≡ accepted
+    → checkOf e p (returnWord ∷ nop ∷ []) rows entry result ≡ accepted
 
 -- "One nop alone: 3 0 0." Whatever its row, if it is well formed: number 3, word 0, register 0.
 abbrev pub OneNop : Type 0
 OneNop =
-    (p : Policy) (rows entry result : List ℕ) → WellFormedEntry p entry result
+    (e : Edition) (p : Policy) (rows entry result : List ℕ) → WellFormedEntry p entry result
     → length rows ≡ rowBytes → formFault (p .regions .count) (p .regions .sizes) rows 0 ≡ None
-    → checkOf p (nop ∷ []) rows entry result ≡ refuse 3 0 0
+    → checkOf e p (nop ∷ []) rows entry result ≡ refuse 3 0 0
 
 -- "10800000 (always, distance 0) then nop, both rows equal to the entry row: accepted, never returns." It is accepted ..
 abbrev pub LoopAccepted : Type 0
 LoopAccepted =
-    (p : Policy) (rows entry result : List ℕ) → WellFormedEntry p entry result → AllRowsEqual rows entry 2
-    → checkOf p (alwaysHere ∷ nop ∷ []) rows entry result ≡ accepted
+    (e : Edition) (p : Policy) (rows entry result : List ℕ) → WellFormedEntry p entry result → AllRowsEqual rows entry 2
+    → checkOf e p (alwaysHere ∷ nop ∷ []) rows entry result ≡ accepted
 
 -- .. and never returns: from every matching start every allowance is spent, to the last step. (A run reads no rows.)
 abbrev pub LoopNeverReturns : Type 0
 LoopNeverReturns =
-    (p : Policy) (entry result : List ℕ) → WellFormedEntry p entry result
+    (e : Edition) (p : Policy) (entry result : List ℕ) → WellFormedEntry p entry result
     → (bases : List ℕ) (returns : ℕ) (g : Registers) (memory : List ℕ) → Start p entry bases returns g memory
     → (allowance : ℕ)
-    → (runOf p (alwaysHere ∷ nop ∷ []) bases returns g allowance memory .outcome .end ≡ Spent)
-    × (runOf p (alwaysHere ∷ nop ∷ []) bases returns g allowance memory .outcome .steps ≡ allowance)
+    → (runOf e p (alwaysHere ∷ nop ∷ []) bases returns g allowance memory .outcome .end ≡ Spent)
+    × (runOf e p (alwaysHere ∷ nop ∷ []) bases returns g allowance memory .outcome .steps ≡ allowance)
 
 -- "every matching start": there is one. The check accepts the routine of Unlink.antt, the start there matches its entry row, and from it the run
 -- returns "where that was the last step allowed": the branch was taken once, through the link that it then made null, and once not.
-abbrev pub unlinking : Run
-unlinking = runOf Unlink.policy Unlink.words Unlink.bases Unlink.returns Unlink.registers 9 Unlink.memory
+abbrev pub unlinking : Edition → Run
+unlinking e = runOf e Unlink.policy Unlink.words Unlink.bases Unlink.returns Unlink.registers 9 Unlink.memory
 
-pub record StartExists : Type 0 where
-  pub checked : checkOf Unlink.policy Unlink.words Unlink.rows Unlink.entry Unlink.digits ≡ accepted
+pub record StartExists (e : Edition) : Type 0 where
+  pub checked : checkOf e Unlink.policy Unlink.words Unlink.rows Unlink.entry Unlink.digits ≡ accepted
   pub matches : Start Unlink.policy Unlink.entry Unlink.bases Unlink.returns Unlink.registers Unlink.memory
-  pub returned : unlinking .outcome .end ≡ Returned
-  pub counted : unlinking .outcome .steps ≡ 9
-  pub gives : valueOf (unlinking .outcome .registers) resultRegister ≡ 7
-  pub leaves : unlinking .memory ≡ Unlink.cleared
+  pub returned : unlinking e .outcome .end ≡ Returned
+  pub counted : unlinking e .outcome .steps ≡ 9
+  pub gives : valueOf (unlinking e .outcome .registers) resultRegister ≡ 7
+  pub leaves : unlinking e .memory ≡ Unlink.cleared
+
+-- Request 5: a routine that the check accepts for the older terminal it accepts for the newer one. (The other way it need not.)
+abbrev pub AcceptedToo : Type 0
+AcceptedToo = (p : Policy) (words rows entry result : List ℕ) → checkOf V8 p words rows entry result ≡ accepted → checkOf V9 p words rows entry result ≡ accepted

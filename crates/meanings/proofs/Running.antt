@@ -14,6 +14,7 @@ use Rattle.flow.specs.Readings.{readingsOf}
 use Rattle.flow.proofs.Fetched.{read-count}
 use Rattle.flow.proofs.Examined.{first-examined}
 use Rattle.flow.specs.Laws.{Flowing}
+use Rattle.v8.specs.declared.Edition.{Edition}
 use Rattle.policy.specs.declared.Policy.{Policy}
 use Rattle.access.specs.Layout.{Layout, layoutOf}
 use Rattle.step.specs.declared.Registers.{Registers}
@@ -136,22 +137,22 @@ module _ (h : Host) (entry : List ℕ) where
     walked (suc n) k st i = walked-step st n k (walked n (k + 1)) (stepOf s st) (step-keeps h l returns readings entry ok st i)
 
 -- a run of no words has no trace
-no-trace : (p : Policy) (bases : List ℕ) (returns : ℕ) (g : Registers) (memory : List ℕ) (n : ℕ)
-    → traceFrom (settingOf p [] bases returns) n (startState g memory) ≡ []
+no-trace : (e : Edition) (p : Policy) (bases : List ℕ) (returns : ℕ) (g : Registers) (memory : List ℕ) (n : ℕ)
+    → traceFrom (settingOf e p [] bases returns) n (startState g memory) ≡ []
 unfolding traceFrom stepOf
-no-trace p bases returns g memory zero = refl
-no-trace p bases returns g memory (suc n) = refl
+no-trace e p bases returns g memory zero = refl
+no-trace e p bases returns g memory (suc n) = refl
 
 pub runs-as-listed : RunsAsListed
-runs-as-listed p [] entry bases returns g memory b allowance =
-    subst (Each (AsListed (hostOf bases returns) entry (listingOf (readingsOf []) entry))) (sym (no-trace p bases returns g memory allowance)) tt
-runs-as-listed p (x ∷ xs) entry bases returns g memory b allowance =
-    traced (hostOf bases returns) entry (layoutOf p bases) returns (readingsOf (x ∷ xs)) (flowing (readingsOf (x ∷ xs)) (b .flows)) allowance (startState g memory)
-    (start-listed (hostOf bases returns) entry (layoutOf p bases) returns (readingsOf (x ∷ xs)) (flowing (readingsOf (x ∷ xs)) (b .flows)) g memory (b .registers) (b .row) (omega arith))
+runs-as-listed e p [] entry bases returns g memory b allowance =
+    subst (Each (AsListed (hostOf bases returns) entry (listingOf (readingsOf e []) entry))) (sym (no-trace e p bases returns g memory allowance)) tt
+runs-as-listed e p (x ∷ xs) entry bases returns g memory b allowance =
+    traced (hostOf bases returns) entry (layoutOf p bases) returns (readingsOf e (x ∷ xs)) (flowing (readingsOf e (x ∷ xs)) (b .flows)) allowance (startState g memory)
+    (start-listed (hostOf bases returns) entry (layoutOf p bases) returns (readingsOf e (x ∷ xs)) (flowing (readingsOf e (x ∷ xs)) (b .flows)) g memory (b .registers) (b .row) (omega arith))
 
 pub stands-as-listed : StandsAsListed
-stands-as-listed p words entry bases returns g memory b some n k st e =
-    subst (WalkListed (hostOf bases returns) entry (layoutOf p bases) returns (readingsOf words) (flowing (readingsOf words) (b .flows))) e
-    (walked (hostOf bases returns) entry (layoutOf p bases) returns (readingsOf words) (flowing (readingsOf words) (b .flows)) n 0 (startState g memory)
-    (start-listed (hostOf bases returns) entry (layoutOf p bases) returns (readingsOf words) (flowing (readingsOf words) (b .flows)) g memory (b .registers) (b .row)
-    (omega (arith, some, read-count words))))
+stands-as-listed e p words entry bases returns g memory b some n k st q =
+    subst (WalkListed (hostOf bases returns) entry (layoutOf p bases) returns (readingsOf e words) (flowing (readingsOf e words) (b .flows))) q
+    (walked (hostOf bases returns) entry (layoutOf p bases) returns (readingsOf e words) (flowing (readingsOf e words) (b .flows)) n 0 (startState g memory)
+    (start-listed (hostOf bases returns) entry (layoutOf p bases) returns (readingsOf e words) (flowing (readingsOf e words) (b .flows)) g memory (b .registers) (b .row)
+    (omega (arith, some, read-count e words))))

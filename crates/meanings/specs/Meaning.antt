@@ -7,6 +7,7 @@ use mathlib.Core.Bool.{Bool, true}
 use mathlib.Core.List.{List}
 use lib.ListN.{length}
 use Rattle.flow.specs.Readings.{readingsOf}
+use Rattle.v8.specs.declared.Edition.{Edition}
 use Rattle.policy.specs.declared.Policy.{Policy}
 use Rattle.step.specs.declared.Registers.{Registers}
 use Rattle.step.specs.Registers.{valueOf, isSet}
@@ -49,22 +50,22 @@ abbrev pub AsListed : Host → List ℕ → List ℕ → State → Type 0
 AsListed h entry listing st = ListingHolds h entry listing (st .control .at .0) (st .core .registers)
 
 -- words that the flow pass accepts, 32 registers, and a start that matches the entry row; the routine may be refused
-pub record Begins (words entry bases : List ℕ) (returns : ℕ) (g : Registers) : Type 0 where
-  pub flows : passes (passOf (flowPass (readingsOf words)) (length (readingsOf words))) ≡ true
+pub record Begins (e : Edition) (words entry bases : List ℕ) (returns : ℕ) (g : Registers) : Type 0 where
+  pub flows : passes (passOf (flowPass (readingsOf e words)) (length (readingsOf e words))) ≡ true
   pub registers : Words g
   pub row : RowMatches (hostOf bases returns) (rowOf entry 0) (heldOf g)
 
 -- Each state of a run's trace is as listed.
 abbrev pub RunsAsListed : Type 0
 RunsAsListed =
-    (p : Policy) (words entry bases : List ℕ) (returns : ℕ) (g : Registers) (memory : List ℕ) → Begins words entry bases returns g
+    (e : Edition) (p : Policy) (words entry bases : List ℕ) (returns : ℕ) (g : Registers) (memory : List ℕ) → Begins e words entry bases returns g
     → (allowance : ℕ)
-    → Each (AsListed (hostOf bases returns) entry (listingOf (readingsOf words) entry))
-    (traceFrom (settingOf p words bases returns) allowance (startState g memory))
+    → Each (AsListed (hostOf bases returns) entry (listingOf (readingsOf e words) entry))
+    (traceFrom (settingOf e p words bases returns) allowance (startState g memory))
 
 -- So is the state that n steps lead to, if there is a word: where the next step would fault, too, which is no state of the trace.
 abbrev pub StandsAsListed : Type 0
 StandsAsListed =
-    (p : Policy) (words entry bases : List ℕ) (returns : ℕ) (g : Registers) (memory : List ℕ) → Begins words entry bases returns g → 1 ≤ length words
-    → (n k : ℕ) (st : State) → walkFrom (settingOf p words bases returns) n 0 (startState g memory) ≡ going k st
-    → AsListed (hostOf bases returns) entry (listingOf (readingsOf words) entry) st
+    (e : Edition) (p : Policy) (words entry bases : List ℕ) (returns : ℕ) (g : Registers) (memory : List ℕ) → Begins e words entry bases returns g → 1 ≤ length words
+    → (n k : ℕ) (st : State) → walkFrom (settingOf e p words bases returns) n 0 (startState g memory) ≡ going k st
+    → AsListed (hostOf bases returns) entry (listingOf (readingsOf e words) entry) st
