@@ -8,6 +8,7 @@ use lib.Dec.{eqb}
 use lib.ListN.{length, take}
 use Rattle.v8.proofs.Choice.{cond-both}
 use Rattle.v8.specs.Numbers.{badBundle}
+use Rattle.v8.specs.declared.Edition.{Edition}
 use Rattle.policy.specs.declared.Policy.{Policy}
 use Rattle.checker.specs.declared.Answer.{Answer}
 use Rattle.checker.specs.Answer.{refuse}
@@ -23,19 +24,19 @@ use Rattle.bundle.proofs.Words.{words-held, held-length}
 between : (a n : ℕ) → a + n - a ≡ n
 between a n = omega arith
 
-module _ (b : List ℕ) where
+module _ (e : Edition) (b : List ℕ) where
   -- the check of what an opened bundle lends
   abbrev pub checkedIn : Opened → Answer
   checkedIn o =
-      checkOf (o .policy) (take (o .count) (o .words)) (part b (o .rows) (o .end - o .rows)) (part b (o .entry) (o .result - o .entry))
+      checkOf e (o .policy) (take (o .count) (o .words)) (part b (o .rows) (o .end - o .rows)) (part b (o .entry) (o .result - o .entry))
       (part b (o .result) (o .code - o .result))
 
-  same-check : (p : Policy) → checkedIn (openedWith b p) ≡ checkedWith b p
+  same-check : (p : Policy) → checkedIn (openedWith b p) ≡ checkedWith e b p
   same-check p = rw (words-held b (wordCount b) (wordsPlace b)) (simp between)
 
   -- the answer by what is opened
   abbrev Answered : Opened → Type 0
-  Answered o = cond (eqb (o .number) 0) (checkedIn o) (refuse (o .number) 0 0) ≡ bundleAnswer b
+  Answered o = cond (eqb (o .number) 0) (checkedIn o) (refuse (o .number) 0 0) ≡ bundleAnswer e b
 
   answered : Answered (openedOf b)
   unfolding openedOf bundleAnswer
@@ -44,12 +45,13 @@ module _ (b : List ℕ) where
       (λ ok. cond-both Answered (eqb (builtOf b .number) 0) (λ z. same-check (builtOf b .policy) ∙ sym (simp (ok, z))) (λ z. simp (ok, z)))
       (λ bad. simp bad)
 
-  pub checked-is : (o : Opened) (a : Answer) → o ≡ openedOf b → o .number ≡ 0 → a ≡ checkedIn o → a ≡ bundleAnswer b
-  checked-is o a e z f = let g : Answered o = rw e answered in f ∙ sym (simp z) ∙ g
+  pub checked-is : (o : Opened) (a : Answer) → o ≡ openedOf b → o .number ≡ 0 → a ≡ checkedIn o → a ≡ bundleAnswer e b
+  checked-is o a q z f = let g : Answered o = rw q answered in f ∙ sym (simp z) ∙ g
 
-  pub refused-is : (o : Opened) → o ≡ openedOf b → eqb (o .number) 0 ≡ false → refuse (o .number) 0 0 ≡ bundleAnswer b
-  refused-is o e z = let g : Answered o = rw e answered in sym (simp z) ∙ g
+  pub refused-is : (o : Opened) → o ≡ openedOf b → eqb (o .number) 0 ≡ false → refuse (o .number) 0 0 ≡ bundleAnswer e b
+  refused-is o q z = let g : Answered o = rw q answered in sym (simp z) ∙ g
 
+module _ (b : List ℕ) where
   -- the places lie in the bytes
   abbrev pub InBytes : Opened → Type 0
   InBytes o = Inside o (length b)

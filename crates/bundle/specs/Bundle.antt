@@ -5,6 +5,7 @@ use mathlib.Core.List.{List, [], _∷_}
 use lib.Dec.{eqb}
 use lib.ListN.{take, drop}
 use Rattle.v8.specs.Numbers.{acceptance, badBundle}
+use Rattle.v8.specs.declared.Edition.{Edition}
 use Rattle.memory.specs.Memory.{wordAt}
 use Rattle.policy.specs.declared.Policy.{Policy}
 use Rattle.policy.specs.declared.Field.{Field}
@@ -52,10 +53,12 @@ module _ (b : List ℕ) where
   abbrev pub builtOf : Built
   builtOf = withFields (regionCount b)
 
+-- request 5: "each edition has its bundle program"; the edition is no part of a bundle
+module _ (e : Edition) (b : List ℕ) where
   -- the check of what stands in the bundle
   abbrev pub checkedWith : Policy → Answer
   checkedWith p =
-      checkOf p (wordsFrom b (wordsPlace b) (wordCount b)) (part b (rowsPlace b) (rowBytes * wordCount b)) (part b (entryPlace b) rowBytes)
+      checkOf e p (wordsFrom b (wordsPlace b) (wordCount b)) (part b (rowsPlace b) (rowBytes * wordCount b)) (part b (entryPlace b) rowBytes)
       (part b (resultPlace b) entryBytes)
 
   abbrev pub afterBuilt : Built → Answer
@@ -63,4 +66,4 @@ module _ (b : List ℕ) where
 
   -- the answer
   unfoldable pub bundleAnswer : Answer
-  bundleAnswer = cond (bundleOk b) (afterBuilt builtOf) (refuse badBundle 0 0)
+  bundleAnswer = cond (bundleOk b) (afterBuilt (builtOf b)) (refuse badBundle 0 0)

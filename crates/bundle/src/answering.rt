@@ -5,6 +5,7 @@ ghost use Rattle.bundle.specs.Bundle.{bundleAnswer};
 use crate::opening::open;
 use checker::Answer;
 use checker::check;
+use v8::Edition;
 use v8::WordIndex;
 use v8::numbers::ACCEPTED;
 
@@ -20,9 +21,9 @@ fn refused(number: u8) -> Answer
     }
 }
 
-// The answer to a bundle. Any bytes have one.
-pub fn answer(bytes: &[u8]) -> Answer
-    ensures { λ r. ⌜ r ≡ bundleAnswer (now (bytes .entry)) ⌝ }
+// The answer to a bundle, for a terminal of the edition. Any bytes have one.
+pub fn answer(edition: Edition, bytes: &[u8]) -> Answer
+    ensures { λ r. ⌜ r ≡ bundleAnswer edition (now (bytes .entry)) ⌝ }
 {
     let opened = open(bytes);
     if opened.number != ACCEPTED {
@@ -36,6 +37,7 @@ pub fn answer(bytes: &[u8]) -> Answer
     let rows = opened.rows;
     let end = opened.end;
     check(
+        edition,
         opened.policy,
         &words[..count],
         &bytes[rows..end],

@@ -5,6 +5,7 @@ use bundle::answer;
 use checker::Answer;
 use output::Line;
 use output::line_of;
+use v8::Edition;
 
 // The line of an answer: number, word and register.
 pub fn answer_line(a: Answer) -> Line
@@ -13,9 +14,9 @@ pub fn answer_line(a: Answer) -> Line
     line_of(a.number as u64, a.word.0 as u64, a.register as u64)
 }
 
-// The line that answers a bundle. Any bytes have one.
-pub fn reply(bytes: &[u8]) -> Line
-    ensures { λ r. ⌜ LineFor (bundleAnswer (now (bytes .entry))) r ⌝ }
+// The line that answers a bundle, for a terminal of the edition. Any bytes have one.
+pub fn reply(edition: Edition, bytes: &[u8]) -> Line
+    ensures { λ r. ⌜ LineFor (bundleAnswer edition (now (bytes .entry))) r ⌝ }
 {
-    answer_line(answer(bytes))
+    answer_line(answer(edition, bytes))
 }

@@ -15,7 +15,7 @@ refused-requires : tie.Need-refused-requires
 refused-requires c κs = search needs
 
 returns : tie.Need-returns
-returns c = c .refused .ensures ∙ refused-is _ _ (c .before .before .before .«open» .ensures .0) (ne-eqb _ _ (c .before .if1 .taken))
+returns c = c .refused .ensures ∙ refused-is _ _ _ (c .before .before .before .«open» .ensures .0) (ne-eqb _ _ (c .before .if1 .taken))
 
 array-share-prefix-words : tie.Need-array-share-prefix-words
 array-share-prefix-words c = let places = c .before .before .before .«open» .ensures .1 in omega (arith, places .0, places .1)
@@ -57,7 +57,7 @@ check-requires c κs = search needs
 
 returns-2 : tie.Need-returns-2
 returns-2 c = let tested = c .before .before .before .before .before .before in
-    checked-is _ _ _ (tested .before .before .«open» .ensures .0) (tested .if1 .left) (c .check .ensures)
+    checked-is _ _ _ _ (tested .before .before .«open» .ensures .0) (tested .if1 .left) (c .check .ensures)
 
 pub answer-spec : {M : Type 1} → statement M
 answer-spec =
