@@ -1,13 +1,19 @@
 -- The ranges of a written word's parts: each part fits its field, and each opcode is below 64, so that the sum of the
 -- parts is a word.
-use Prim.Native.Nat.{ℕ, _+_, _%_, _^_, _<_}
-use mathlib.Core.Bool.{Bool, true, false}
+use Prim.Native.Nat.{ℕ, _+_, _*_, _%_, _^_, _<_}
+use mathlib.Core.Bool.{Bool, true, false, cond}
+use mathlib.Core.Path.{_≡_}
 use native.Mathlib.Omega.{arith}
 use lib.Dec.{ltb, eqb}
 use borrow.Author.Tests.{ltb-true}
 use Rattle.v8.proofs.Choice.{cond-both}
 use Rattle.v8.specs.Signed.{signExtend}
-use Rattle.writer.specs.Write.{Fits, iBit, signedBits, fiveBits, operandBits, countBits, displacementBits, aluCode, aluCodeCc, shiftCode, loadCode, storeCode, accessCode}
+use Rattle.writer.specs.Write.{Fits, iBit, signedBits, fiveBits, operandBits, countBits, displacementBits, branchBits, aluCode, aluCodeCc, shiftCode, loadCode, storeCode, accessCode}
+use Rattle.v8.specs.declared.Edition.{Edition}
+use Rattle.v8.specs.declared.Edition.the-variants.{V8, V9}
+use Rattle.v8.specs.declared.BranchForm.{BranchForm}
+use Rattle.v8.specs.declared.BranchForm.the-variants.{Unpredicted, Predicted}
+use Rattle.v8.specs.declared.Bicc.{Bicc}
 use Rattle.v8.specs.declared.AluOp.{AluOp}
 use Rattle.v8.specs.declared.AluOp.the-variants.{Add, And, Or, Xor, Sub, Andn, Orn, Xnor}
 use Rattle.v8.specs.declared.ShiftOp.{ShiftOp}
@@ -22,8 +28,10 @@ use Rattle.v8.specs.declared.Operand.{Operand}
 use Rattle.v8.specs.declared.Operand.the-variants.{Reg, Imm}
 use Rattle.v8.specs.declared.Displacement.{Displacement}
 use Rattle.v8.specs.declared.Displacement.the-variants.{Index, Bytes}
+use Rattle.writer.specs.declared.Part.{Part}
+use Rattle.writer.specs.declared.Part.the-variants.{Bits}
 
-pub signed-fits : (n i k v : ℕ) → i + v % 2 ^ n < 2 ^ k → Fits k (signedBits n i v)
+signed-fits : (n i k v : ℕ) → i + v % 2 ^ n < 2 ^ k → Fits k (signedBits n i v)
 unfolding signedBits
 signed-fits n i k v h = cond-both (Fits k) (eqb v (signExtend n (v % 2 ^ n))) (λ t. h) (λ t. tt)
 
@@ -42,6 +50,15 @@ count-fits (Imm v) = five-fits iBit 14 v (λ h. omega arith)
 pub displacement-fits : (d : Displacement) → Fits 14 (displacementBits d)
 displacement-fits (Index r) = operand-fits (Reg r)
 displacement-fits (Bytes d) = operand-fits (Imm (d .0))
+
+pub branch-fits : (e : Edition) (form : BranchForm) (v : ℕ) → Fits 25 (branchBits e form v)
+branch-fits e Unpredicted v = signed-fits 22 (2 * 2 ^ 22) 25 v (omega arith)
+branch-fits V8 (Predicted hint) v = tt
+branch-fits V9 (Predicted true) v = signed-fits 19 (1 * 2 ^ 22 + 2 ^ 19) 25 v (omega arith)
+branch-fits V9 (Predicted false) v = signed-fits 19 (1 * 2 ^ 22 + 0) 25 v (omega arith)
+
+pub branch-below : (e : Edition) (x : Bicc) (b : ℕ) {low : Part} → low ≡ branchBits e (x .form) (x .distance .0) → low ≡ Bits b → b < 2 ^ 25
+branch-below e x b h k = rw (← h, k) at (branch-fits e (x .form) (x .distance .0))
 
 pub alu-small : (op : AluOp) → aluCode op < 8
 alu-small Add = omega arith

@@ -13,11 +13,15 @@ use lib.Pow.{low, high-ones}
 use Rattle.v8.proofs.Choice.{cond-went, cond-both}
 use Rattle.v8.proofs.Formats.{shiftAt, accessAt, format10-cases, format11-cases}
 use Rattle.v8.proofs.Table.{at}
+use Rattle.v8.proofs.Refused.{unread}
 use Rattle.v8.specs.Signed.{signExtend}
-use Rattle.v8.specs.Field.{opOf, rdOf, annulOf, condOf, op2Of, low22Of, op3Of, rs1Of, iOf, unusedOf, rs2Of, simm13Of}
-use Rattle.v8.specs.Read.{readingOf, format00, format10, format11, operandOf, countOf, displacementOf, aluOps, aluOpOf, aluWith, shiftWith, memoryWith, leafReturn}
-use Rattle.writer.specs.Write.{writingOf, iBit, signedBits, fiveBits, operandBits, countBits, displacementBits, aluCode, aluCodeCc, shiftCode, accessCode, packOf, packed, sethiWord}
+use Rattle.v8.specs.Field.{opOf, rdOf, annulOf, condOf, op2Of, low22Of, ccOf, predictOf, low19Of, op3Of, rs1Of, iOf, unusedOf, rs2Of, simm13Of}
+use Rattle.v8.specs.Read.{readingOf, branchOf, predictedOf, format00, format10, format11, operandOf, countOf, displacementOf, aluOps, aluOpOf, aluWith, shiftWith, memoryWith, leafReturn}
+use Rattle.writer.specs.Write.{writingOf, iBit, signedBits, fiveBits, operandBits, countBits, displacementBits, aluCode, aluCodeCc, shiftCode, accessCode, packOf, packed, sethiWord, branchBits}
 use Rattle.writer.specs.Laws.{ReadIsWritten}
+use Rattle.v8.specs.declared.Edition.{Edition}
+use Rattle.v8.specs.declared.Edition.the-variants.{V8, V9}
+use Rattle.v8.specs.declared.BranchForm.{BranchForm}
 use Rattle.v8.specs.declared.AluOp.{AluOp}
 use Rattle.v8.specs.declared.AluOp.the-variants.{Add}
 use Rattle.v8.specs.declared.ShiftOp.{ShiftOp}
@@ -32,7 +36,7 @@ use Rattle.v8.specs.declared.Operation.the-variants.{Sethi}
 use Rattle.v8.specs.declared.Instruction.{Instruction}
 use Rattle.v8.specs.declared.Instruction.the-variants.{Plain, Branch, Return}
 use Rattle.v8.specs.declared.Reading.{Reading}
-use Rattle.v8.specs.declared.Reading.the-variants.{Read, Unread}
+use Rattle.v8.specs.declared.Reading.the-variants.{Read}
 use Rattle.writer.specs.declared.Writing.the-variants.{Written}
 use Rattle.v8.specs.declared.read.OperandReading.{OperandReading}
 use Rattle.v8.specs.declared.read.OperandReading.the-variants.{Second, Reserved}
@@ -41,9 +45,6 @@ use Rattle.writer.specs.declared.Part.the-variants.{Bits}
 
 read : {x y : Instruction} → Read x ≡ Read y → x ≡ y
 read e = cc
-
-unread : {A : Type 0} {n : ℕ} {x : Instruction} → Unread n ≡ Read x → A
-unread e = let z : _≡_ {A = ℕ} 0 1 = cc in absurd (omega arith)
 
 second : {x y : Operand} → Second x ≡ Second y → x ≡ y
 second e = cc
@@ -132,24 +133,24 @@ packed-kept w op op3 low p q r =
     rw (← p, ← q, r)
     (simp (lt-ltb (rdOf w) 32 (omega arith), lt-ltb (rs1Of w) 32 (omega arith)) (ap Written (unpacked w)))
 
-alu-kept : (w : ℕ) (op : AluOp) (cc : Bool) (x : Instruction) (o : OperandReading) → opOf w ≡ 2 → op3Of w ≡ aluCodeCc op cc → operandOf w ≡ o → aluWith op cc w o ≡ Read x → writingOf x ≡ Written w
+alu-kept : (v : Edition) (w : ℕ) (op : AluOp) (cc : Bool) (x : Instruction) (o : OperandReading) → opOf w ≡ 2 → op3Of w ≡ aluCodeCc op cc → operandOf w ≡ o → aluWith op cc w o ≡ Read x → writingOf v x ≡ Written w
 unfolding writingOf
-alu-kept w op cc x (Second o) p q r e = rw (← read e) (packed-kept w 2 _ _ p q (operand-kept w o r))
-alu-kept w op cc x Reserved p q r e = unread e
+alu-kept v w op cc x (Second o) p q r e = rw (← read e) (packed-kept w 2 _ _ p q (operand-kept w o r))
+alu-kept v w op cc x Reserved p q r e = unread e
 
-shift-kept : (w : ℕ) (op : ShiftOp) (x : Instruction) (o : OperandReading) → opOf w ≡ 2 → op3Of w ≡ shiftCode op → countOf w ≡ o → shiftWith op w o ≡ Read x → writingOf x ≡ Written w
+shift-kept : (v : Edition) (w : ℕ) (op : ShiftOp) (x : Instruction) (o : OperandReading) → opOf w ≡ 2 → op3Of w ≡ shiftCode op → countOf w ≡ o → shiftWith op w o ≡ Read x → writingOf v x ≡ Written w
 unfolding writingOf
-shift-kept w op x (Second o) p q r e = rw (← read e) (packed-kept w 2 _ _ p q (count-kept w o r))
-shift-kept w op x Reserved p q r e = unread e
+shift-kept v w op x (Second o) p q r e = rw (← read e) (packed-kept w 2 _ _ p q (count-kept w o r))
+shift-kept v w op x Reserved p q r e = unread e
 
-memory-kept : (w : ℕ) (a : Access) (x : Instruction) (o : OperandReading) → opOf w ≡ 3 → op3Of w ≡ accessCode a → operandOf w ≡ o → memoryWith a w o ≡ Read x → writingOf x ≡ Written w
+memory-kept : (v : Edition) (w : ℕ) (a : Access) (x : Instruction) (o : OperandReading) → opOf w ≡ 3 → op3Of w ≡ accessCode a → operandOf w ≡ o → memoryWith a w o ≡ Read x → writingOf v x ≡ Written w
 unfolding writingOf
-memory-kept w a x (Second o) p q r e = rw (← read e) (packed-kept w 3 _ _ p q (displacement-kept o ∙ operand-kept w o r))
-memory-kept w a x Reserved p q r e = unread e
+memory-kept v w a x (Second o) p q r e = rw (← read e) (packed-kept w 3 _ _ p q (displacement-kept o ∙ operand-kept w o r))
+memory-kept v w a x Reserved p q r e = unread e
 
-return-kept : (w : ℕ) (x : Instruction) → w ≡ leafReturn → Read Return ≡ Read x → writingOf x ≡ Written w
+return-kept : (v : Edition) (w : ℕ) (x : Instruction) → w ≡ leafReturn → Read Return ≡ Read x → writingOf v x ≡ Written w
 unfolding writingOf
-return-kept w x h e = rw (← read e) (ap Written (sym h))
+return-kept v w x h e = rw (← read e) (ap Written (sym h))
 
 -- ---- each is written with the opcode that it is read with
 
@@ -172,75 +173,102 @@ access-code (Stores Stb) = refl
 access-code (Stores Sth) = refl
 
 -- what is read is written back
-abbrev Kept : Instruction → ℕ → Reading → Type 0
-Kept x w r = r ≡ Read x → writingOf x ≡ Written w
+abbrev Kept : Edition → Instruction → ℕ → Reading → Type 0
+Kept v x w r = r ≡ Read x → writingOf v x ≡ Written w
 
-format10-kept : (w : ℕ) (x : Instruction) → opOf w ≡ 2 → Kept x w (format10 w)
-format10-kept w x p =
-    format10-cases (Kept x w) w
-    (λ k l e. alu-kept w (aluOpOf k) false x (operandOf w) p (e ∙ sym (alu-code k l)) refl)
-    (λ k l e. alu-kept w (aluOpOf k) true x (operandOf w) p (e ∙ ap (λ (n : ℕ). n + 0x10) (sym (alu-code k l))) refl)
-    (λ op e. shift-kept w op x (countOf w) p (e ∙ shift-code op) refl)
-    (return-kept w x)
+format10-kept : (v : Edition) (w : ℕ) (x : Instruction) → opOf w ≡ 2 → Kept v x w (format10 w)
+format10-kept v w x p =
+    format10-cases (Kept v x w) w
+    (λ k l e. alu-kept v w (aluOpOf k) false x (operandOf w) p (e ∙ sym (alu-code k l)) refl)
+    (λ k l e. alu-kept v w (aluOpOf k) true x (operandOf w) p (e ∙ ap (λ (n : ℕ). n + 0x10) (sym (alu-code k l))) refl)
+    (λ op e. shift-kept v w op x (countOf w) p (e ∙ shift-code op) refl)
+    (return-kept v w x)
     unread
 
-format11-kept : (w : ℕ) (x : Instruction) → opOf w ≡ 3 → Kept x w (format11 w)
-format11-kept w x p = format11-cases (Kept x w) w (λ a e. memory-kept w a x (operandOf w) p (e ∙ access-code a) refl) unread
+format11-kept : (v : Edition) (w : ℕ) (x : Instruction) → opOf w ≡ 3 → Kept v x w (format11 w)
+format11-kept v w x p = format11-cases (Kept v x w) w (λ a e. memory-kept v w a x (operandOf w) p (e ∙ access-code a) refl) unread
 
 -- ---- format 00
 
-sethi-kept : (w : ℕ) → opOf w ≡ 0 → op2Of w ≡ 4 → writingOf (Plain (Sethi (rdOf w) (low22Of w))) ≡ Written w
+sethi-kept : (v : Edition) (w : ℕ) → opOf w ≡ 0 → op2Of w ≡ 4 → writingOf v (Plain (Sethi (rdOf w) (low22Of w))) ≡ Written w
 unfolding writingOf sethiWord
-sethi-kept w h k =
+sethi-kept v w h k =
     simp (lt-ltb (rdOf w) 32 (omega arith), lt-ltb (low22Of w) (2 ^ 22) (omega arith)) (ap Written (sum w h k))
   where
     sum : (w : ℕ) → opOf w ≡ 0 → op2Of w ≡ 4 → rdOf w * 2 ^ 25 + 4 * 2 ^ 22 + low22Of w ≡ w
     sum w h k = omega arith
 
--- a branch's word, from its annul bit n and its other fields
-bicc-fields : (w n : ℕ) → opOf w ≡ 0 → op2Of w ≡ 2 → annulOf w ≡ n → n * 2 ^ 29 + condOf w * 2 ^ 25 + 2 * 2 ^ 22 + (0 + low22Of w) ≡ w
-bicc-fields w n h k a = sum w n (top w n h a) k
+-- a bit that is not set
+clear : (n : ℕ) → (n % 2 ≡ 1 → ⊥) → n % 2 ≡ 0
+clear n h = omega arith
+
+-- a branch's word, from its annul bit n and what stands below
+branch-fields : (w n : ℕ) → opOf w ≡ 0 → annulOf w ≡ n → n * 2 ^ 29 + condOf w * 2 ^ 25 + w % 2 ^ 25 ≡ w
+branch-fields w n h a = sum w n (top w n h a)
   where
     top : (w n : ℕ) → opOf w ≡ 0 → annulOf w ≡ n → w / 2 ^ 29 ≡ n
     top w n h a = let d : w / 536870912 / 2 ≡ w / 1073741824 = omega arith in omega arith
 
-    sum : (w n : ℕ) → w / 2 ^ 29 ≡ n → op2Of w ≡ 2 → n * 2 ^ 29 + condOf w * 2 ^ 25 + 2 * 2 ^ 22 + (0 + low22Of w) ≡ w
-    sum w n a k = let d : w / 33554432 / 16 ≡ w / 536870912 = omega arith in omega arith
+    sum : (w n : ℕ) → w / 2 ^ 29 ≡ n → n * 2 ^ 29 + condOf w * 2 ^ 25 + w % 2 ^ 25 ≡ w
+    sum w n a = let d : w / 33554432 / 16 ≡ w / 536870912 = omega arith in omega arith
 
-bicc-sum : (w : ℕ) (t : Bool) → eqb (annulOf w) 1 ≡ t → opOf w ≡ 0 → op2Of w ≡ 2 → cond t (2 ^ 29) 0 + condOf w * 2 ^ 25 + 2 * 2 ^ 22 + (0 + low22Of w) ≡ w
-bicc-sum w true e h k = bicc-fields w 1 h k (eqb-true (annulOf w) 1 e)
-bicc-sum w false e h k = bicc-fields w 0 h k (clear w (eqb-false (annulOf w) 1 e))
-  where
-    clear : (w : ℕ) → (annulOf w ≡ 1 → ⊥) → annulOf w ≡ 0
-    clear w n = omega arith
+branch-sum : (w : ℕ) (t : Bool) → eqb (annulOf w) 1 ≡ t → opOf w ≡ 0 → cond t (2 ^ 29) 0 + condOf w * 2 ^ 25 + w % 2 ^ 25 ≡ w
+branch-sum w true e h = branch-fields w 1 h (eqb-true (annulOf w) 1 e)
+branch-sum w false e h = branch-fields w 0 h (clear (w / 2 ^ 29) (eqb-false (annulOf w) 1 e))
 
-bicc-kept : (w : ℕ) → opOf w ≡ 0 → op2Of w ≡ 2 → writingOf (Branch (record { annul = eqb (annulOf w) 1; cond = condOf w; distance = record { 0 = signExtend 22 (low22Of w) } })) ≡ Written w
+branch-kept : (v : Edition) (w : ℕ) (x : Instruction) (form : BranchForm) (d : ℕ) → opOf w ≡ 0 → branchBits v form d ≡ Bits (w % 2 ^ 25) → Kept v x w (branchOf w form d)
 unfolding writingOf
-bicc-kept w h k =
-    rw (signed-kept 22 0 (low22Of w) (extended 22 (low22Of w) (omega arith) (omega arith)))
-    (simp (lt-ltb (condOf w) 16 (omega arith)) (ap Written (bicc-sum w _ refl h k)))
+branch-kept v w x form d h b e = rw (← read e, b) (simp (lt-ltb (condOf w) 16 (omega arith)) (ap Written (branch-sum w _ refl h)))
 
-format00-kept : (w : ℕ) (x : Instruction) → opOf w ≡ 0 → format00 w ≡ Read x → writingOf x ≡ Written w
+-- the distance of either form, a field f of n bits below `head`
+distance-kept : (w n head f : ℕ) → n ≤ 32 → f < 2 ^ n → head + f ≡ w % 2 ^ 25 → signedBits n head (signExtend n f) ≡ Bits (w % 2 ^ 25)
+distance-kept w n head f h k s = signed-kept n head f (extended n f h k) ∙ ap Bits s
+
+predicted-fields : (w n : ℕ) → predictOf w ≡ n → op2Of w ≡ 1 → ccOf w ≡ 0 → 1 * 2 ^ 22 + n * 2 ^ 19 + low19Of w ≡ w % 2 ^ 25
+predicted-fields w n p h k =
+    let d1 : w / 524288 / 2 ≡ w / 1048576 = omega arith in
+    let d2 : w / 1048576 / 4 ≡ w / 4194304 = omega arith in
+    let d3 : w / 4194304 / 8 ≡ w / 33554432 = omega arith in
+    omega arith
+
+predicted-sum : (w : ℕ) (t : Bool) → eqb (predictOf w) 1 ≡ t → op2Of w ≡ 1 → ccOf w ≡ 0 → 1 * 2 ^ 22 + cond t (2 ^ 19) 0 + low19Of w ≡ w % 2 ^ 25
+predicted-sum w true e h k = predicted-fields w 1 (eqb-true (predictOf w) 1 e) h k
+predicted-sum w false e h k = predicted-fields w 0 (clear (w / 2 ^ 19) (eqb-false (predictOf w) 1 e)) h k
+
+predicted-kept : (v : Edition) (w : ℕ) (x : Instruction) → opOf w ≡ 0 → op2Of w ≡ 1 → Kept v x w (predictedOf v w)
+predicted-kept V8 w x h k e = unread e
+predicted-kept V9 w x h k e =
+    cond-went (eqb (ccOf w) 0) _ _ _ e
+    (λ t. branch-kept V9 w x _ _ h (distance-kept w 19 _ (low19Of w) (omega arith) (omega arith) (predicted-sum w _ refl k (eqb-true _ _ t))))
+    (λ t q. unread q)
+
+format00-kept : (v : Edition) (w : ℕ) (x : Instruction) → opOf w ≡ 0 → Kept v x w (format00 v w)
 unfolding format00
-format00-kept w x h e =
+format00-kept v w x h e =
     cond-went (eqb (op2Of w) 4) _ _ _ e
-    (λ t q. rw (← read q) (sethi-kept w h (eqb-true _ _ t)))
+    (λ t q. rw (← read q) (sethi-kept v w h (eqb-true _ _ t)))
     (λ t q.
     cond-went (eqb (op2Of w) 2) _ _ _ q
-    (λ t q. rw (← read q) (bicc-kept w h (eqb-true _ _ t)))
-    (λ t q. unread q))
+    (λ t. branch-kept v w x _ _ h (distance-kept w 22 _ (low22Of w) (omega arith) (omega arith) (unpredicted-sum w (eqb-true _ _ t))))
+    (λ t q.
+    cond-went (eqb (op2Of w) 1) _ _ _ q
+    (λ t. predicted-kept v w x h (eqb-true _ _ t))
+    (λ t q. unread q)))
+  where
+    unpredicted-sum : (w : ℕ) → op2Of w ≡ 2 → 2 * 2 ^ 22 + low22Of w ≡ w % 2 ^ 25
+    unpredicted-sum w k = omega arith
 
 -- ---- all
 
 pub read-is-written : ReadIsWritten
 unfolding readingOf
-read-is-written w x e =
+read-is-written v w x e =
     cond-went (eqb (opOf w) 0) _ _ _ e
-    (λ t q. format00-kept w x (eqb-true _ _ t) q)
+    (λ t q. format00-kept v w x (eqb-true _ _ t) q)
     (λ t q.
     cond-went (eqb (opOf w) 2) _ _ _ q
-    (λ t q. format10-kept w x (eqb-true _ _ t) q)
+    (λ t q. format10-kept v w x (eqb-true _ _ t) q)
     (λ t q.
     cond-went (eqb (opOf w) 3) _ _ _ q
-    (λ t q. format11-kept w x (eqb-true _ _ t) q)
+    (λ t q. format11-kept v w x (eqb-true _ _ t) q)
     (λ t q. unread q)))

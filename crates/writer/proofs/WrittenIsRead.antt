@@ -10,11 +10,15 @@ use lib.Dec.{ltb, eqb}
 use borrow.Author.Tests.{ltb-true, eqb-true}
 use Rattle.v8.proofs.Choice.{cond-went}
 use Rattle.v8.specs.Signed.{signExtend}
-use Rattle.v8.specs.Field.{opOf, rdOf, annulOf, condOf, op2Of, low22Of, op3Of, rs1Of, iOf, unusedOf, rs2Of, simm13Of}
-use Rattle.v8.specs.Read.{readingOf, format00, format10, format11, operandOf, countOf, displacementOf, aluWith, shiftWith, memoryWith}
-use Rattle.writer.specs.Write.{writingOf, Fits, iBit, signedBits, fiveBits, operandBits, countBits, displacementBits, aluCodeCc, shiftCode, accessCode, packOf, packed, sethiWord, biccWord, operationWord}
+use Rattle.v8.specs.Field.{opOf, rdOf, annulOf, condOf, op2Of, low22Of, ccOf, predictOf, low19Of, op3Of, rs1Of, iOf, unusedOf, rs2Of, simm13Of}
+use Rattle.v8.specs.Read.{readingOf, branchOf, format00, format10, format11, operandOf, countOf, displacementOf, aluWith, shiftWith, memoryWith}
+use Rattle.writer.specs.Write.{writingOf, Fits, iBit, signedBits, fiveBits, operandBits, countBits, displacementBits, aluCodeCc, shiftCode, accessCode, packOf, packed, sethiWord, branchBits, branchWord, operationWord}
 use Rattle.writer.specs.Laws.{WrittenIsRead}
-use Rattle.writer.proofs.Ranges.{operand-fits, count-fits, displacement-fits, alu-cc-small, shift-small, access-small}
+use Rattle.writer.proofs.Ranges.{operand-fits, count-fits, displacement-fits, branch-fits, alu-cc-small, shift-small, access-small}
+use Rattle.v8.specs.declared.Edition.{Edition}
+use Rattle.v8.specs.declared.Edition.the-variants.{V8, V9}
+use Rattle.v8.specs.declared.BranchForm.{BranchForm}
+use Rattle.v8.specs.declared.BranchForm.the-variants.{Unpredicted, Predicted}
 use Rattle.v8.specs.declared.AluOp.{AluOp}
 use Rattle.v8.specs.declared.AluOp.the-variants.{Add, And, Or, Xor, Sub, Andn, Orn, Xnor}
 use Rattle.v8.specs.declared.ShiftOp.{ShiftOp}
@@ -169,116 +173,150 @@ as-back (Bytes d) = refl
 
 -- ---- the opcode chooses the case
 
-alu-case : (op : AluOp) (cc : Bool) (w : ℕ) → opOf w ≡ 2 → op3Of w ≡ aluCodeCc op cc → readingOf w ≡ aluWith op cc w (operandOf w)
-unfolding readingOf format10
-alu-case Add false w h k = simp (h, k)
-alu-case Add true w h k = simp (h, k)
-alu-case And false w h k = simp (h, k)
-alu-case And true w h k = simp (h, k)
-alu-case Or false w h k = simp (h, k)
-alu-case Or true w h k = simp (h, k)
-alu-case Xor false w h k = simp (h, k)
-alu-case Xor true w h k = simp (h, k)
-alu-case Sub false w h k = simp (h, k)
-alu-case Sub true w h k = simp (h, k)
-alu-case Andn false w h k = simp (h, k)
-alu-case Andn true w h k = simp (h, k)
-alu-case Orn false w h k = simp (h, k)
-alu-case Orn true w h k = simp (h, k)
-alu-case Xnor false w h k = simp (h, k)
-alu-case Xnor true w h k = simp (h, k)
+in-10 : (e : Edition) (w : ℕ) → opOf w ≡ 2 → readingOf e w ≡ format10 w
+unfolding readingOf
+in-10 e w h = simp h
 
-shift-case : (op : ShiftOp) (w : ℕ) → opOf w ≡ 2 → op3Of w ≡ shiftCode op → readingOf w ≡ shiftWith op w (countOf w)
-unfolding readingOf format10
-shift-case Sll w h k = simp (h, k)
-shift-case Srl w h k = simp (h, k)
-shift-case Sra w h k = simp (h, k)
+in-11 : (e : Edition) (w : ℕ) → opOf w ≡ 3 → readingOf e w ≡ format11 w
+unfolding readingOf
+in-11 e w h = simp h
 
-memory-case : (a : Access) (w : ℕ) → opOf w ≡ 3 → op3Of w ≡ accessCode a → readingOf w ≡ memoryWith a w (operandOf w)
-unfolding readingOf format11
-memory-case (Loads Ld) w h k = simp (h, k)
-memory-case (Loads Ldub) w h k = simp (h, k)
-memory-case (Loads Lduh) w h k = simp (h, k)
-memory-case (Loads Ldsb) w h k = simp (h, k)
-memory-case (Loads Ldsh) w h k = simp (h, k)
-memory-case (Stores St) w h k = simp (h, k)
-memory-case (Stores Stb) w h k = simp (h, k)
-memory-case (Stores Sth) w h k = simp (h, k)
+alu-case : (op : AluOp) (cc : Bool) (w : ℕ) → op3Of w ≡ aluCodeCc op cc → format10 w ≡ aluWith op cc w (operandOf w)
+unfolding format10
+alu-case Add false w k = simp k
+alu-case Add true w k = simp k
+alu-case And false w k = simp k
+alu-case And true w k = simp k
+alu-case Or false w k = simp k
+alu-case Or true w k = simp k
+alu-case Xor false w k = simp k
+alu-case Xor true w k = simp k
+alu-case Sub false w k = simp k
+alu-case Sub true w k = simp k
+alu-case Andn false w k = simp k
+alu-case Andn true w k = simp k
+alu-case Orn false w k = simp k
+alu-case Orn true w k = simp k
+alu-case Xnor false w k = simp k
+alu-case Xnor true w k = simp k
+
+shift-case : (op : ShiftOp) (w : ℕ) → op3Of w ≡ shiftCode op → format10 w ≡ shiftWith op w (countOf w)
+unfolding format10
+shift-case Sll w k = simp k
+shift-case Srl w k = simp k
+shift-case Sra w k = simp k
+
+memory-case : (a : Access) (w : ℕ) → op3Of w ≡ accessCode a → format11 w ≡ memoryWith a w (operandOf w)
+unfolding format11
+memory-case (Loads Ld) w k = simp k
+memory-case (Loads Ldub) w k = simp k
+memory-case (Loads Lduh) w k = simp k
+memory-case (Loads Ldsb) w k = simp k
+memory-case (Loads Ldsh) w k = simp k
+memory-case (Stores St) w k = simp k
+memory-case (Stores Stb) w k = simp k
+memory-case (Stores Sth) w k = simp k
 
 -- ---- format 00
 
-sethi-fields : (rd imm22 w : ℕ) → rd < 32 → imm22 < 2 ^ 22 → rd * 2 ^ 25 + 4 * 2 ^ 22 + imm22 ≡ w → readingOf w ≡ Read (Plain (Sethi rd imm22))
+sethi-fields : (e : Edition) (rd imm22 w : ℕ) → rd < 32 → imm22 < 2 ^ 22 → rd * 2 ^ 25 + 4 * 2 ^ 22 + imm22 ≡ w → readingOf e w ≡ Read (Plain (Sethi rd imm22))
 unfolding readingOf format00
-sethi-fields rd imm22 w p q r =
+sethi-fields e rd imm22 w p q r =
     let op : opOf w ≡ 0 = omega arith in
     let op2 : op2Of w ≡ 4 = omega arith in
     let d : rdOf w ≡ rd = omega arith in
     let v : low22Of w ≡ imm22 = omega arith in
     simp (op, op2, d, v)
 
-sethi-back : (rd imm22 w : ℕ) → sethiWord rd imm22 ≡ Written w → readingOf w ≡ Read (Plain (Sethi rd imm22))
+sethi-back : (e : Edition) (rd imm22 w : ℕ) → sethiWord rd imm22 ≡ Written w → readingOf e w ≡ Read (Plain (Sethi rd imm22))
 unfolding sethiWord
-sethi-back rd imm22 w e =
-    cond-went (ltb rd 32) _ _ _ e
+sethi-back e rd imm22 w p =
+    cond-went (ltb rd 32) _ _ _ p
     (λ t q.
     cond-went (ltb imm22 (2 ^ 22)) _ _ _ q
-    (λ u q. sethi-fields rd imm22 w (ltb-true _ _ t) (ltb-true _ _ u) (written q))
+    (λ u q. sethi-fields e rd imm22 w (ltb-true _ _ t) (ltb-true _ _ u) (written q))
     (λ u q. unwritable q))
     (λ t q. unwritable q)
 
--- the fields of a branch's word, from its annul bit n
-record BranchFields (n cnd f w : ℕ) : Type 0 where
+-- the bits 24:0 of a branch are read as its form and its distance
+unpredicted-read : (e : Edition) (v b w : ℕ) → opOf w ≡ 0 → w % 2 ^ 25 ≡ b → v ≡ signExtend 22 (v % 2 ^ 22) → 2 * 2 ^ 22 + v % 2 ^ 22 ≡ b → readingOf e w ≡ branchOf w Unpredicted v
+unfolding readingOf format00
+unpredicted-read e v b w h l x s =
+    let op2 : op2Of w ≡ 2 = omega arith in
+    let f : low22Of w ≡ v % 2 ^ 22 = omega arith in
+    simp (h, op2, f, ← x)
+
+-- of one that is predicted, from its hint's bit n
+record PredictedFields (n f w : ℕ) : Type 0 where
+  op2-is : op2Of w ≡ 1
+  cc-is : ccOf w ≡ 0
+  hint-is : predictOf w ≡ n
+  low-is : low19Of w ≡ f
+
+predicted-fields : (n f b w : ℕ) → n < 2 → f < 2 ^ 19 → w % 2 ^ 25 ≡ b → 1 * 2 ^ 22 + n * 2 ^ 19 + f ≡ b → PredictedFields n f w
+predicted-fields n f b w h k l e = record { op2-is = omega arith; cc-is = omega arith; hint-is = omega arith; low-is = omega arith }
+
+predicted-read : (hint : Bool) (v b w : ℕ) → opOf w ≡ 0 → w % 2 ^ 25 ≡ b → v ≡ signExtend 19 (v % 2 ^ 19) → 1 * 2 ^ 22 + cond hint (2 ^ 19) 0 + v % 2 ^ 19 ≡ b → readingOf V9 w ≡ branchOf w (Predicted hint) v
+unfolding readingOf format00
+predicted-read true v b w h l x s =
+    let p = predicted-fields 1 (v % 2 ^ 19) b w (omega arith) (omega arith) l s in
+    simp (h, p .op2-is, p .cc-is, p .hint-is, p .low-is, ← x)
+predicted-read false v b w h l x s =
+    let p = predicted-fields 0 (v % 2 ^ 19) b w (omega arith) (omega arith) l s in
+    simp (h, p .op2-is, p .cc-is, p .hint-is, p .low-is, ← x)
+
+form-read : (e : Edition) (form : BranchForm) (v b w : ℕ) → branchBits e form v ≡ Bits b → opOf w ≡ 0 → w % 2 ^ 25 ≡ b → readingOf e w ≡ branchOf w form v
+form-read e Unpredicted v b w p h l = signed-bits 22 (2 * 2 ^ 22) v b p (unpredicted-read e v b w h l)
+form-read V8 (Predicted hint) v b w p h l = out-of-range p
+form-read V9 (Predicted hint) v b w p h l = signed-bits 19 (1 * 2 ^ 22 + cond hint (2 ^ 19) 0) v b p (predicted-read hint v b w h l)
+
+-- the fields above them, from the annul bit n
+record BranchFields (n cnd b w : ℕ) : Type 0 where
   op-is : opOf w ≡ 0
-  op2-is : op2Of w ≡ 2
   annul-is : annulOf w ≡ n
   cond-is : condOf w ≡ cnd
-  low-is : low22Of w ≡ f
+  low-is : w % 2 ^ 25 ≡ b
 
-branch-fields : (n cnd f w : ℕ) → n < 2 → cnd < 16 → f < 2 ^ 22 → n * 2 ^ 29 + cnd * 2 ^ 25 + 2 * 2 ^ 22 + f ≡ w → BranchFields n cnd f w
-branch-fields n cnd f w h k l e =
-    record { op-is = omega arith; op2-is = omega arith; annul-is = rw top (omega arith); cond-is = omega arith; low-is = omega arith }
+branch-fields : (n cnd b w : ℕ) → n < 2 → cnd < 16 → b < 2 ^ 25 → n * 2 ^ 29 + cnd * 2 ^ 25 + b ≡ w → BranchFields n cnd b w
+branch-fields n cnd b w h k l e =
+    record { op-is = omega arith; annul-is = rw top (omega arith); cond-is = omega arith; low-is = omega arith }
   where
     top : w / 2 ^ 29 ≡ n
     top = omega arith
 
-bicc-fields : (annul : Bool) (cnd f v w : ℕ) → cnd < 16 → f < 2 ^ 22 → v ≡ signExtend 22 f → cond annul (2 ^ 29) 0 + cnd * 2 ^ 25 + 2 * 2 ^ 22 + f ≡ w → readingOf w ≡ Read (Branch (record { annul = annul; cond = cnd; distance = record { 0 = v } }))
-unfolding readingOf format00
-bicc-fields true cnd f v w h k q e =
-    let b = branch-fields 1 cnd f w (omega arith) h k (omega arith) in
-    simp (b .op-is, b .op2-is, b .annul-is, b .cond-is, b .low-is, ← q)
-bicc-fields false cnd f v w h k q e =
-    let b = branch-fields 0 cnd f w (omega arith) h k (omega arith) in
-    simp (b .op-is, b .op2-is, b .annul-is, b .cond-is, b .low-is, ← q)
+branch-read : (e : Edition) (annul : Bool) (cnd : ℕ) (form : BranchForm) (v b w : ℕ) → branchBits e form v ≡ Bits b → cnd < 16 → b < 2 ^ 25 → cond annul (2 ^ 29) 0 + cnd * 2 ^ 25 + b ≡ w → readingOf e w ≡ Read (Branch (record { annul = annul; cond = cnd; distance = record { 0 = v }; form = form }))
+branch-read e true cnd form v b w p h k s =
+    let f = branch-fields 1 cnd b w (omega arith) h k s in
+    form-read e form v b w p (f .op-is) (f .low-is) ∙ rw (f .annul-is, f .cond-is)
+branch-read e false cnd form v b w p h k s =
+    let f = branch-fields 0 cnd b w (omega arith) h k s in
+    form-read e form v b w p (f .op-is) (f .low-is) ∙ rw (f .annul-is, f .cond-is)
 
-bicc-with : (annul : Bool) (cnd v w : ℕ) (low : Part) → signedBits 22 0 v ≡ low → biccWord annul cnd low ≡ Written w → readingOf w ≡ Read (Branch (record { annul = annul; cond = cnd; distance = record { 0 = v } }))
-bicc-with annul cnd v w (Bits b) l e =
-    cond-went (ltb cnd 16) _ _ _ e
-    (λ t q. signed-bits 22 0 v b l (λ x s.
-    let f : v % 2 ^ 22 ≡ b = omega arith in
-    bicc-fields annul cnd b v w (ltb-true _ _ t) (omega arith) (x ∙ ap (signExtend 22) f) (written q)))
-    (λ t q. unwritable q)
-bicc-with annul cnd v w OutOfRange l e = unwritable e
+branch-back : (e : Edition) (annul : Bool) (cnd : ℕ) (form : BranchForm) (v w : ℕ) (low : Part) → branchBits e form v ≡ low → Fits 25 low → branchWord annul cnd low ≡ Written w → readingOf e w ≡ Read (Branch (record { annul = annul; cond = cnd; distance = record { 0 = v }; form = form }))
+branch-back e annul cnd form v w (Bits b) l k p =
+    cond-went (ltb cnd 16) _ _ _ p (λ t q. branch-read e annul cnd form v b w l (ltb-true _ _ t) k (written q)) (λ t q. unwritable q)
+branch-back e annul cnd form v w OutOfRange l k p = unwritable p
 
 -- ---- all
 
-return-back : (w : ℕ) → Written 0x81C3E008 ≡ Written w → readingOf w ≡ Read Return
+return-back : (e : Edition) (w : ℕ) → Written 0x81C3E008 ≡ Written w → readingOf e w ≡ Read Return
 unfolding readingOf format10
-return-back w e = rw (← written e)
+return-back e w p = rw (← written p)
 
-operation-back : (x : Operation) (w : ℕ) → operationWord x ≡ Written w → readingOf w ≡ Read (Plain x)
-operation-back (Sethi rd imm22) w e = sethi-back rd imm22 w e
-operation-back (Alu op cc rd rs1 x) w e =
-    let p = parts 2 rd (aluCodeCc op cc) rs1 w (operandBits x) (omega arith) (alu-cc-small op cc) (operand-fits x) e in
-    alu-case op cc w (p .op-is) (p .op3-is) ∙ rw (operand-at x p, p .rd-is, p .rs1-is)
-operation-back (Shift op rd rs1 x) w e =
-    let p = parts 2 rd (shiftCode op) rs1 w (countBits x) (omega arith) (shift-small op) (count-fits x) e in
-    shift-case op w (p .op-is) (p .op3-is) ∙ rw (count-at x p, p .rd-is, p .rs1-is)
-operation-back (Memory a rd rs1 d) w e =
-    let p = parts 3 rd (accessCode a) rs1 w (displacementBits d) (omega arith) (access-small a) (displacement-fits d) e in
-    memory-case a w (p .op-is) (p .op3-is) ∙ rw (operand-at (asOperand d) (rw (as-bits d) at p), as-back d, p .rd-is, p .rs1-is)
+operation-back : (e : Edition) (x : Operation) (w : ℕ) → operationWord x ≡ Written w → readingOf e w ≡ Read (Plain x)
+operation-back e (Sethi rd imm22) w q = sethi-back e rd imm22 w q
+operation-back e (Alu op cc rd rs1 x) w q =
+    let p = parts 2 rd (aluCodeCc op cc) rs1 w (operandBits x) (omega arith) (alu-cc-small op cc) (operand-fits x) q in
+    in-10 e w (p .op-is) ∙ alu-case op cc w (p .op3-is) ∙ rw (operand-at x p, p .rd-is, p .rs1-is)
+operation-back e (Shift op rd rs1 x) w q =
+    let p = parts 2 rd (shiftCode op) rs1 w (countBits x) (omega arith) (shift-small op) (count-fits x) q in
+    in-10 e w (p .op-is) ∙ shift-case op w (p .op3-is) ∙ rw (count-at x p, p .rd-is, p .rs1-is)
+operation-back e (Memory a rd rs1 d) w q =
+    let p = parts 3 rd (accessCode a) rs1 w (displacementBits d) (omega arith) (access-small a) (displacement-fits d) q in
+    in-11 e w (p .op-is) ∙ memory-case a w (p .op3-is) ∙ rw (operand-at (asOperand d) (rw (as-bits d) at p), as-back d, p .rd-is, p .rs1-is)
 
 pub written-is-read : WrittenIsRead
 unfolding writingOf
-written-is-read (Plain x) w e = operation-back x w e
-written-is-read (Branch b) w e = bicc-with (b .annul) (b .cond) (b .distance .0) w _ refl e
-written-is-read Return w e = return-back w e
+written-is-read e (Plain x) w p = operation-back e x w p
+written-is-read e (Branch b) w p = branch-back e (b .annul) (b .cond) (b .form) (b .distance .0) w _ refl (branch-fits e (b .form) (b .distance .0)) p
+written-is-read e Return w p = return-back e w p

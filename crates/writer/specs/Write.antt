@@ -1,11 +1,15 @@
 -- What an instruction is written as (document 01, "Write an instruction"): a word, or refusal 17 for
--- "a part out of range or not of the subset".
+-- "a part out of range or not of the subset". Request 5: the edition that the terminal follows is told; only a predicted branch depends on it.
 use Prim.Native.Nat.{ℕ, _+_, _*_, _%_, _^_, _<_}
 use mathlib.Core.Bool.{Bool, cond}
 use lib.Dec.{ltb, eqb}
 use Rattle.v8.specs.Signed.{signExtend}
 use Rattle.v8.specs.Read.{leafReturn}
 use Rattle.v8.specs.Numbers.{notWritten}
+use Rattle.v8.specs.declared.Edition.{Edition}
+use Rattle.v8.specs.declared.Edition.the-variants.{V8, V9}
+use Rattle.v8.specs.declared.BranchForm.{BranchForm}
+use Rattle.v8.specs.declared.BranchForm.the-variants.{Unpredicted, Predicted}
 use Rattle.v8.specs.declared.AluOp.{AluOp}
 use Rattle.v8.specs.declared.AluOp.the-variants.{Add, And, Or, Xor, Sub, Andn, Orn, Xnor}
 use Rattle.v8.specs.declared.ShiftOp.{ShiftOp}
@@ -113,10 +117,21 @@ packed op rd op3 rs1 OutOfRange = Unwritable
 unfoldable pub sethiWord : ℕ → ℕ → Writing
 sethiWord rd imm22 = cond (ltb rd 32) (cond (ltb imm22 (2 ^ 22)) (Written (rd * 2 ^ 25 + 4 * 2 ^ 22 + imm22)) Unwritable) Unwritable
 
--- Bicc: format 00 with bits 24:22 = 010
-abbrev pub biccWord : Bool → ℕ → Part → Writing
-biccWord annul cnd (Bits b) = cond (ltb cnd 16) (Written (cond annul (2 ^ 29) 0 + cnd * 2 ^ 25 + 2 * 2 ^ 22 + b)) Unwritable
-biccWord annul cnd OutOfRange = Unwritable
+-- bits 24:0 of a predicted branch: 001, the 32-bit codes, the hint, the distance; request 5, "writing: 17 where the instruction has no word in
+-- that edition, or the distance does not fit"
+abbrev pub predictedBits : Edition → Bool → ℕ → Part
+predictedBits V8 hint v = OutOfRange
+predictedBits V9 hint v = signedBits 19 (1 * 2 ^ 22 + cond hint (2 ^ 19) 0) v
+
+-- bits 24:0 of a branch, by its form; without prediction 010 and the distance
+abbrev pub branchBits : Edition → BranchForm → ℕ → Part
+branchBits e Unpredicted v = signedBits 22 (2 * 2 ^ 22) v
+branchBits e (Predicted hint) v = predictedBits e hint v
+
+-- a branch: format 00, the annul bit and the condition above these bits
+abbrev pub branchWord : Bool → ℕ → Part → Writing
+branchWord annul cnd (Bits b) = cond (ltb cnd 16) (Written (cond annul (2 ^ 29) 0 + cnd * 2 ^ 25 + b)) Unwritable
+branchWord annul cnd OutOfRange = Unwritable
 
 -- an instruction that is no transfer
 abbrev pub operationWord : Operation → Writing
@@ -125,7 +140,7 @@ operationWord (Alu op cc rd rs1 x) = packed 2 rd (aluCodeCc op cc) rs1 (operandB
 operationWord (Shift op rd rs1 x) = packed 2 rd (shiftCode op) rs1 (countBits x)
 operationWord (Memory a rd rs1 d) = packed 3 rd (accessCode a) rs1 (displacementBits d)
 
-unfoldable pub writingOf : Instruction → Writing
-writingOf (Plain x) = operationWord x
-writingOf (Branch b) = biccWord (b .annul) (b .cond) (signedBits 22 0 (b .distance .0))
-writingOf Return = Written leafReturn
+unfoldable pub writingOf : Edition → Instruction → Writing
+writingOf e (Plain x) = operationWord x
+writingOf e (Branch b) = branchWord (b .annul) (b .cond) (branchBits e (b .form) (b .distance .0))
+writingOf e Return = Written leafReturn

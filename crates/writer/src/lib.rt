@@ -1,18 +1,20 @@
-// SPARC V8 instructions written as 32-bit words. The laws that reading and writing undo each other
+// SPARC instructions of the subset written as 32-bit words. The laws that reading and writing undo each other
 // stand in specs/Laws.antt. (Document 01, "Write an instruction".)
 ghost use mathlib.Core.Path.{_≡_};
 ghost use Prim.Native.Nat.{_+_, _<_, _≤_, _^_};
-ghost use Rattle.writer.specs.Write.{writeNumber, writingOf, signedBits, fiveBits, operandBits, countBits, displacementBits, aluCode, aluCodeCc, shiftCode, loadCode, storeCode, accessCode, packed, sethiWord, biccWord, operationWord, Fits};
+ghost use Rattle.writer.specs.Write.{writeNumber, writingOf, signedBits, fiveBits, operandBits, countBits, displacementBits, aluCode, aluCodeCc, shiftCode, loadCode, storeCode, accessCode, packed, sethiWord, predictedBits, branchBits, branchWord, operationWord, Fits};
 use v8::Access;
 use v8::AluOp;
+use v8::Bicc;
+use v8::BranchForm;
 use v8::Displacement;
+use v8::Edition;
 use v8::Instruction;
 use v8::LoadOp;
 use v8::Operand;
 use v8::Operation;
 use v8::ShiftOp;
 use v8::StoreOp;
-use v8::WordIndex;
 use v8::read::LEAF_RETURN;
 use v8::signed::sign_extend;
 
@@ -26,10 +28,14 @@ const OP3_AT: u32 = 0x0008_0000;
 const RS1_AT: u32 = 0x4000;
 // Bit 29 of a branch.
 const ANNUL_BIT: u32 = 0x2000_0000;
-// Bits 24:22 of a branch, 010, and of SETHI, 100.
+// Bits 24:22 of a branch, 010, of one with prediction, 001, and of SETHI, 100.
 const BICC_BITS: u32 = 0x0080_0000;
 
+const BPCC_BITS: u32 = 0x0040_0000;
+
 const SETHI_BITS: u32 = 0x0100_0000;
+// Bit 19 of a predicted branch: it hints that the branch is taken.
+const HINT_BIT: u32 = 0x0008_0000;
 // Bit 13, i: a number stands in the place of rs2.
 const I_BIT: u32 = 0x2000;
 
@@ -193,15 +199,41 @@ fn write_sethi(rd: u8, imm22: u32) -> Writing
     Writing::Unwritable
 }
 
-fn write_bicc(annul: bool, cond: u8, distance: WordIndex) -> Writing
-    ensures { λ r. ⌜ r ≡ biccWord annul cond (signedBits 22 0 (distance .0)) ⌝ }
+// Bits 24:0 of a predicted branch, which has no word on the older terminal.
+fn predicted_bits(edition: Edition, hint: bool, distance: u32) -> Part
+    ensures { λ r. ⌜ r ≡ predictedBits edition hint distance ⌝ }
 {
-    let c = cond as u32;
-    match signed_bits(22, 0, distance.0) {
+    match edition {
+        Edition::V8 => Part::OutOfRange,
+        Edition::V9 => {
+            if hint {
+                return signed_bits(19, BPCC_BITS + HINT_BIT, distance);
+            }
+            signed_bits(19, BPCC_BITS, distance)
+        }
+    }
+}
+
+// Bits 24:0 of a branch.
+fn branch_bits(edition: Edition, form: BranchForm, distance: u32) -> Part
+    ensures { λ r. ⌜ r ≡ branchBits edition form distance ⌝ }
+{
+    match form {
+        BranchForm::Unpredicted => signed_bits(22, BICC_BITS, distance),
+        BranchForm::Predicted(hint) => predicted_bits(edition, hint, distance),
+    }
+}
+
+fn write_branch(edition: Edition, x: Bicc) -> Writing
+    ensures { λ r. ⌜ r ≡ branchWord (x .annul) (x .cond) (branchBits edition (x .form) (x .distance .0)) ⌝ }
+{
+    let c = x.cond as u32;
+    let form = x.form;
+    match branch_bits(edition, form, x.distance.0) {
         Part::Bits(b) => {
             if c < 16 {
-                let word = c * RD_AT + BICC_BITS + b;
-                if annul {
+                let word = c * RD_AT + b;
+                if x.annul {
                     return Writing::Written(ANNUL_BIT + word);
                 }
                 return Writing::Written(word);
@@ -247,14 +279,15 @@ fn write_operation(x: Operation) -> Writing
     }
 }
 
-// Writes an instruction: a word, or refusal 17 where a part is out of range.
-pub fn write_instruction(x: Instruction) -> Writing
-    ensures writing { λ r. ⌜ r ≡ writingOf x ⌝ }
-    ensures number { λ r. ⌜ writeNumber r ≡ writeNumber (writingOf x) ⌝ }
+// Writes an instruction, as a terminal of the edition does: a word, or refusal 17 where a part is out of
+// range or the edition has no such word.
+pub fn write_instruction(edition: Edition, x: Instruction) -> Writing
+    ensures writing { λ r. ⌜ r ≡ writingOf edition x ⌝ }
+    ensures number { λ r. ⌜ writeNumber r ≡ writeNumber (writingOf edition x) ⌝ }
 {
     match x {
         Instruction::Plain(op) => write_operation(op),
-        Instruction::Branch(b) => write_bicc(b.annul, b.cond, b.distance),
+        Instruction::Branch(b) => write_branch(edition, b),
         Instruction::Return => Writing::Written(LEAF_RETURN),
     }
 }

@@ -19,8 +19,8 @@ write-operation-requires c κs = search needs
 enum-known-x-2 : tie.Need-enum-known-x-2
 enum-known-x-2 c = search needs
 
-write-bicc-requires : tie.Need-write-bicc-requires
-write-bicc-requires c κs = search needs
+write-branch-requires : tie.Need-write-branch-requires
+write-branch-requires c κs = search needs
 
 enum-told : tie.Need-enum-told
 enum-told c = search needs
@@ -31,7 +31,7 @@ returns c = with-number _ _ (rw (c .before .before .x .given .1) (c .write-opera
 
 returns-2 : tie.Need-returns-2
 unfolding writingOf
-returns-2 c = with-number _ _ (rw (c .before .before .x2 .given .1) (c .write-bicc .ensures))
+returns-2 c = with-number _ _ (rw (c .before .before .x2 .given .1) (c .write-branch .ensures))
 
 returns-3 : tie.Need-returns-3
 unfolding writingOf
@@ -44,7 +44,7 @@ write-instruction-spec =
     enum-known-x
     write-operation-requires
     enum-known-x-2
-    write-bicc-requires
+    write-branch-requires
     enum-told
     returns
     returns-2
