@@ -7,8 +7,8 @@ Needs GNU binutils for SPARC (Debian: binutils-sparc64-linux-gnu). Writes crates
 word to a line with the assembler text it came from, and crates/listings/stdout, what the program
 must print. The data is the same at each run (fixed seed).
 
-Each instruction is given to `as -32 -Av8` with a nop after it, and its word is taken from the
-assembler's listing. The run fails, and writes nothing, where
+Each instruction is given to `as -32 -Av8`, or -Av8plus for branches with prediction, with a nop
+after it, and its word is taken from the assembler's listing. The run fails, and writes nothing, where
   - the assembler reports anything;
   - a word of the listing is not the word in the object file;
   - an instruction of the subset, or one outside it that is given by name, is disassembled by
@@ -18,8 +18,9 @@ assembler's listing. The run fails, and writes nothing, where
     each JMPL to %o7+8 as `retl`, whatever its rd (MISSHOWN).
 Words outside the subset that no assembler text gives are given by `.word`.
 
-A line is `WORD TEXT` for a word of the subset. For one that is refused it is `WORD !NUMBER TEXT`, with the
-number that the reader must give: 24 for V8's privileged instructions, 2 for all others. The run fails, too,
+A line is `WORD TEXT` for a word that both terminals read, `WORD V9 TEXT` for one that only the newer one
+reads and the older one refuses with 2. For one that both refuse it is `WORD !NUMBER TEXT`, with the number
+that the reader must give: 24 for V8's privileged instructions, 2 for all others. The run fails, too,
 where the opcodes that the assembler gives to the privileged names are not those of assembly.PRIVILEGED.
 """
 import collections
@@ -34,8 +35,10 @@ sys.dont_write_bytecode = True
 import assembly
 import script
 
-AS = ["sparc64-linux-gnu-as", "-32", "-Av8"]
-OBJDUMP = ["sparc64-linux-gnu-objdump", "-d", "-z", "-m", "sparc"]
+AS = ["sparc64-linux-gnu-as", "-32"]
+OBJDUMP = ["sparc64-linux-gnu-objdump", "-d", "-z"]
+# The architectures, as `as` and objdump name them.
+OLDER, NEWER = ("-Av8", "sparc"), ("-Av8plus", "sparc:v8plus")
 CRATE = os.path.join(os.path.dirname(os.path.abspath(__file__)), "..", "crates", "listings")
 NOP = 0x01000000
 
@@ -53,6 +56,11 @@ NOT_READ, IS_PRIVILEGED = 2, 24
 # Branch distances in words.
 FAR = [2, -1, 2097151, -2097152]
 DISTANCES = [0, 1, -1, 2, -2, 3, 127, -128, 65535, -65536, 1048575, 1048576, -1048577, 2097150, 2097151, -2097151, -2097152]
+# Those of branches with prediction.
+PREDICTED_FAR = [0, 2, -1, 262143, -262144]
+PREDICTED_DISTANCES = [1, -2, 3, 127, -128, 65535, -65536, 131071, 131072, -131073, 262142, -262143]
+# Bits 21:20 of a branch with prediction, which say the codes that it tests: 00 %icc, 10 %xcc, the others none.
+CODES_AT, XCC, NO_CODES = 20, 2, (1, 3)
 
 
 def fail(message):
@@ -79,6 +87,10 @@ def memory(op, rd, where):
 
 def branch(cond, annul, words):
     return f"{CONDITIONS[cond]}{',a' if annul else ''} .{4 * words:+d}"
+
+
+def predicted(cond, annul, hint, words, codes="%icc"):
+    return f"{CONDITIONS[cond]}{',a' if annul else ''},{'pt' if hint else 'pn'} {codes},.{4 * words:+d}"
 
 
 def operations():
@@ -134,7 +146,24 @@ def at_random(pick, count):
             yield branch(pick(16), pick(2), pick(1 << 22) - (1 << 21))
 
 
+# The texts that only the newer terminal reads.
+
+def predictions(pick, count):
+    """Every condition, annulling or not, with both hints and the distances at the edges; and some at random."""
+    flags = [(annul, hint) for annul in (False, True) for hint in (False, True)]
+    for cond in range(16):
+        yield from (predicted(cond, *flag, words) for flag in flags for words in PREDICTED_FAR)
+    for words in PREDICTED_DISTANCES:
+        yield from (predicted(cond, *flag, words) for cond in (8, 9) for flag in flags)
+    for _ in range(count):
+        yield predicted(pick(16), pick(2), pick(2), pick(1 << 19) - (1 << 18))
+
+
 # The texts outside the subset.
+
+def other_codes():
+    """Branches with prediction on %xcc."""
+    yield from (predicted(cond, cond % 2, cond // 2 % 2, PREDICTED_FAR[cond % 5], "%xcc") for cond in range(16))
 
 def named_outside():
     """Instructions of V8 that are not of the subset, by their names."""
@@ -196,7 +225,8 @@ def raw_outside():
     for k, op3 in enumerate(x for x in range(64) if x not in loads + stores):
         yield format3(3, 1, op3, 2, (k % 2) << 13 | 3)
     for op2 in (0, 1, 3, 5, 6, 7):
-        yield from (1 << 25 | op2 << 22 | low for low in (0, 0x3FFFFF))
+        # With op2 1 and the rest 0 it is a branch with prediction.
+        yield from (1 << 25 | op2 << 22 | low for low in (0, 0x3FFFFF) if (op2, low) != (1, 0))
     yield from (0x40000000, 0x40800002, 0x41000000, 0x5FFFFFFF, 0x60000000, 0x7FFFFFFF)
     yield from (0x81C3E008 ^ 1 << bit for bit in range(32))
 
@@ -215,21 +245,22 @@ def run(command):
     return done.stdout
 
 
-def disassembled(path):
+def disassembled(path, machine):
     """The words of an object file, each with its address and text."""
-    rows = re.findall(r"^ *([0-9a-f]+):\t((?:[0-9a-f]{2} ){4})\t?(.*)$", run(OBJDUMP + [path]), flags=re.M)
+    rows = re.findall(r"^ *([0-9a-f]+):\t((?:[0-9a-f]{2} ){4})\t?(.*)$", run(OBJDUMP + ["-m", machine, path]), flags=re.M)
     return [(int(at, 16), int(word.replace(" ", ""), 16), text.strip()) for at, word, text in rows]
 
 
-def assembled(texts):
+def assembled(texts, architecture=OLDER):
     """The word that `as` makes of each text, from its listing, and objdump's address and text of it."""
+    flag, machine = architecture
     source = "".join(f"\t{text}\n\tnop\n" for text in texts)
     with tempfile.TemporaryDirectory() as folder:
         path = os.path.join(folder, "words")
         with open(path + ".s", "w", encoding="utf-8") as out:
             out.write(source)
-        listing = run(AS + ["-aln", "-o", path + ".o", path + ".s"])
-        objects = disassembled(path + ".o")
+        listing = run(AS + [flag, "-aln", "-o", path + ".o", path + ".s"])
+        objects = disassembled(path + ".o", machine)
     rows = re.findall(r"^ *\d+ [0-9a-f?]+ ([0-9A-F]{8}) *\t\t(.*)$", listing, flags=re.M)
     given = [line for text in texts for line in (text, "nop")]
     if [text for _, text in rows] != given:
@@ -244,11 +275,12 @@ def assembled(texts):
 
 def from_here(at, text):
     """objdump's text with a branch's or a call's target, an address, made relative."""
-    found = re.fullmatch(r"((?:b|fb|cb|call)[a-z0-9]*(?:,a)?)\s+(0x[0-9a-f]+|[0-9a-f]+)(?: <.*>)?", text)
+    found = re.fullmatch(r"((?:b|fb|cb|call)[a-z0-9]*(?:,a)?(?:,pn)?)\s+(%[ix]cc, )?(0x[0-9a-f]+|[0-9a-f]+)(?: <.*>)?", text)
     if not found:
         return text
-    distance = (int(found.group(2), 16) - at + (1 << 31)) % (1 << 32) - (1 << 31)
-    return f"{found.group(1)} .{distance:+d}"
+    name, codes, target = found.groups(default="")
+    distance = (int(target, 16) - at + (1 << 31)) % (1 << 32) - (1 << 31)
+    return f"{name} {codes}.{distance:+d}"
 
 
 def plain(word):
@@ -261,9 +293,9 @@ def plain(word):
     return word
 
 
-def cross_check(texts, made):
+def cross_check(texts, made, architecture=OLDER):
     """objdump's text of each word gives the word again."""
-    again = assembled([from_here(at, text) for _, at, text in made])
+    again = assembled([from_here(at, text) for _, at, text in made], architecture)
     wrong = [
         f"{text}: {word:08x}, disassembled as {shown}, assembled as {back:08x}"
         for text, (word, _, shown), (back, _, _) in zip(texts, made, again)
@@ -273,32 +305,57 @@ def cross_check(texts, made):
         fail("as and objdump disagree:\n" + "\n".join(wrong))
 
 
+def made(texts, architecture=OLDER):
+    """The words of texts, each with its text; objdump's text of a word gives the word again."""
+    texts = list(dict.fromkeys(texts))
+    rows = assembled(texts, architecture)
+    cross_check(texts, rows, architecture)
+    return [(word, text) for text, (word, _, _) in zip(texts, rows)]
+
+
+def raw(words):
+    """Words that are given by `.word`, each with that text."""
+    texts = [f".word 0x{word:08x}" for word in words]
+    return [(word, text) for text, (word, _, _) in zip(texts, assembled(texts))]
+
+
+def outside():
+    """The words that both terminals refuse."""
+    privileged = made(named_privileged())
+    if {assembly.opcode_of(word) for word, _ in privileged} != set(assembly.PRIVILEGED):
+        fail("the privileged names have other opcodes")
+    opcodes = [*assembly.PRIVILEGED, *assembly.BESIDE_PRIVILEGED]
+    near = raw((*raw_outside(), *(word for opcode in opcodes for word in assembly.opcode_words(opcode))))
+    xcc = made(other_codes(), NEWER)
+    no_codes = raw(word ^ (XCC ^ codes) << CODES_AT for word, _ in xcc for codes in NO_CODES)
+    return [*made(named_outside()), *privileged, *near, *xcc, *no_codes]
+
+
 def main(arguments):
     if arguments:
         fail("call it as `listings.py`, with no arguments")
     rng = random.Random(8)
-    inside = [*operations(), *registers(), *sethi_and_branches(), *at_random(lambda n: int(rng.random() * n), 320)]
-    inside, named, privileged = (list(dict.fromkeys(texts)) for texts in (inside, named_outside(), named_privileged()))
-    opcodes = [*assembly.PRIVILEGED, *assembly.BESIDE_PRIVILEGED]
-    raw = [f".word 0x{word:08x}" for word in (*raw_outside(), *(word for opcode in opcodes for word in assembly.opcode_words(opcode)))]
-    inside_made, named_made, privileged_made, raw_made = map(assembled, (inside, named, privileged, raw))
-    for texts, made in ((inside, inside_made), (named, named_made), (privileged, privileged_made)):
-        cross_check(texts, made)
-    if {assembly.opcode_of(word) for word, _, _ in privileged_made} != set(assembly.PRIVILEGED):
-        fail("the privileged names have other opcodes")
 
-    lines = {word: text for text, (word, _, _) in zip(inside, inside_made)}
-    if len(lines) != len(inside):
+    def pick(n):
+        return int(rng.random() * n)
+
+    both = made([*operations(), *registers(), *sethi_and_branches(), *at_random(pick, 320)])
+    newer = made(predictions(pick, 60), NEWER)
+    read = dict(both) | {word: f"V9 {text}" for word, text in newer}
+    if len(read) != len(both) + len(newer):
         fail("two texts of the subset are one word")
-    for text, (word, _, _) in zip(named + privileged + raw, named_made + privileged_made + raw_made):
-        if word in lines and not lines[word].startswith("!"):
-            fail(f"{text} is {lines[word]}, which is of the subset")
-        lines.setdefault(word, f"!{number_of(word)} {text}")
-    numbers = collections.Counter(number_of(word) for word, text in lines.items() if text.startswith("!"))
+    refused = {}
+    for word, text in outside():
+        if word in read:
+            fail(f"{text} is {read[word]}, which is of the subset")
+        refused.setdefault(word, f"!{number_of(word)} {text}")
+    lines = dict(both) | refused | read
+    numbers = collections.Counter(map(number_of, refused))
     with open(os.path.join(CRATE, "stdin"), "w", encoding="utf-8") as out:
         out.writelines(f"{word:08x} {text}\n" for word, text in lines.items())
     with open(os.path.join(CRATE, "stdout"), "w", encoding="utf-8") as out:
-        out.write(f"{len(lines)} words: {len(inside)} read and written back, {numbers[NOT_READ]} not read, {numbers[IS_PRIVILEGED]} privileged, 0 wrong\n")
+        out.write(f"{len(lines)} words: {len(both)} read and written back, {len(newer)} on the newer terminal alone, "
+                  f"{numbers[NOT_READ]} not read, {numbers[IS_PRIVILEGED]} privileged, 0 wrong\n")
 
 
 if __name__ == "__main__":

@@ -2,6 +2,7 @@
 use crate::text::put_instruction;
 use hex::Digits;
 use hex::word_of;
+use v8::Edition;
 use v8::Instruction;
 use v8::Reading;
 use v8::numbers::ACCEPTED;
@@ -11,11 +12,14 @@ use v8::read_word;
 use writer::Writing;
 use writer::write_instruction;
 ghost use Prim.Native.Nat.{_≤_};
+ghost use lib.ListN.{length};
 
 // What a line shows.
 pub enum Verdict {
     // A word of the subset, read as the text says and written back.
     Kept,
+    // The same on the newer terminal, and the older one refuses it with 2.
+    KeptByNewer,
     // A word outside the subset, refused with 2 as the line says.
     Refused,
     // A privileged word, refused with 24 as the line says.
@@ -61,21 +65,21 @@ fn has_text(x: Instruction, text: &[u8]) -> bool {
     false
 }
 
-fn writes(x: Instruction, w: u32) -> bool {
-    match write_instruction(x) {
+fn writes(edition: Edition, x: Instruction, w: u32) -> bool {
+    match write_instruction(edition, x) {
         Writing::Written(v) => v == w,
         Writing::Unwritable => false,
     }
 }
 
-// A word of the subset, with its text.
-fn judge_inside(w: u32, text: &[u8]) -> Verdict {
-    match read_word(w) {
+// A word that the terminal reads, with its text.
+fn judge_inside(edition: Edition, w: u32, text: &[u8]) -> Verdict {
+    match read_word(edition, w) {
         Reading::Read(x) => {
             if !has_text(x, text) {
                 return Verdict::ReadOtherwise;
             }
-            if writes(x, w) {
+            if writes(edition, x, w) {
                 return Verdict::Kept;
             }
             Verdict::NotWrittenBack
@@ -84,9 +88,9 @@ fn judge_inside(w: u32, text: &[u8]) -> Verdict {
     }
 }
 
-// A word outside the subset, with the number that it is refused with.
-fn judge_outside(w: u32, number: u8) -> Verdict {
-    match read_word(w) {
+// A word that the terminal refuses, with the number.
+fn judge_outside(edition: Edition, w: u32, number: u8) -> Verdict {
+    match read_word(edition, w) {
         Reading::Read(_) => Verdict::ReadOutside,
         Reading::Unread(given) => {
             if given != number {
@@ -100,11 +104,47 @@ fn judge_outside(w: u32, number: u8) -> Verdict {
     }
 }
 
-// The number that a text begins with where its word is outside the subset: `!2 ` or `!24 `. 0 if none.
-fn number_in(text: &[u8]) -> u8 {
-    if text.len() < 4 {
-        return ACCEPTED;
+fn is_wrong(verdict: Verdict) -> bool {
+    match verdict {
+        Verdict::Kept => false,
+        Verdict::KeptByNewer => false,
+        Verdict::Refused => false,
+        Verdict::Privileged => false,
+        _ => true,
     }
+}
+
+// What a word shows on both terminals: what is wrong on either, or what the newer one shows.
+fn on_both(older: Verdict, newer: Verdict) -> Verdict {
+    if is_wrong(older) {
+        return older;
+    }
+    newer
+}
+
+// A word that the newer terminal reads and the older refuses.
+fn judge_newer(w: u32, text: &[u8]) -> Verdict {
+    let verdict = on_both(
+        judge_outside(Edition::V8, w, NOT_READ),
+        judge_inside(Edition::V9, w, text),
+    );
+    if is_wrong(verdict) {
+        return verdict;
+    }
+    Verdict::KeptByNewer
+}
+
+// Whether a text begins with the mark of words that only the newer terminal reads, `V9 `.
+fn is_newer(text: &[u8]) -> bool
+    requires { ⌜ 4 ≤ length (now text) ⌝ }
+{
+    (text[0] == b'V') & (text[1] == b'9') & (text[2] == b' ')
+}
+
+// The number that a text begins with where its word is outside the subset: `!2 ` or `!24 `. 0 if none.
+fn number_in(text: &[u8]) -> u8
+    requires { ⌜ 4 ≤ length (now text) ⌝ }
+{
     let marked = (text[0] == b'!') & (text[1] == b'2');
     if marked & (text[2] == b' ') {
         return NOT_READ;
@@ -115,8 +155,28 @@ fn number_in(text: &[u8]) -> u8 {
     ACCEPTED
 }
 
+fn judge_word(w: u32, text: &[u8]) -> Verdict
+    requires { ⌜ 4 ≤ length (now text) ⌝ }
+{
+    if is_newer(text) {
+        return judge_newer(w, &text[3..]);
+    }
+    let number = number_in(text);
+    if number == ACCEPTED {
+        return on_both(
+            judge_inside(Edition::V8, w, text),
+            judge_inside(Edition::V9, w, text),
+        );
+    }
+    on_both(
+        judge_outside(Edition::V8, w, number),
+        judge_outside(Edition::V9, w, number),
+    )
+}
+
+// A line has eight digits, a space and a text; the shortest text is `retl`.
 pub fn judge(line: &[u8]) -> Verdict {
-    if line.len() < 10 {
+    if line.len() < 13 {
         return Verdict::Malformed;
     }
     if line[8] != b' ' {
@@ -124,14 +184,7 @@ pub fn judge(line: &[u8]) -> Verdict {
     }
     let text = &line[9..];
     match word_of(line) {
-        Digits::Word(w) => {
-            let number = number_in(text);
-            if number == ACCEPTED {
-                judge_inside(w, text)
-            } else {
-                judge_outside(w, number)
-            }
-        }
+        Digits::Word(w) => judge_word(w, text),
         Digits::Wrong => Verdict::Malformed,
     }
 }

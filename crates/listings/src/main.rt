@@ -1,7 +1,9 @@
 // Holds the reader and the writer of words against an assembler's listing, read from standard
-// input. A line is a word and the assembler's text of it, as `82006ffc add %g1,4092,%g1`, or a word
-// outside the subset with the number that it is refused with, as `c43a4000 !2 std %g2,[%o1]`, or 24 if it
-// is privileged. Prints each line that is wrong, then counts.
+// input. Each line is judged on both terminals. It is a word and the assembler's text of it, as
+// `82006ffc add %g1,4092,%g1`; or such a word that only the newer terminal reads, as
+// `12480004 V9 bne,pt %icc,.+16`, and the older one refuses with 2; or a word that both refuse, with the
+// number, as `c43a4000 !2 std %g2,[%o1]`, or 24 if it is privileged. Prints each line that is wrong,
+// then counts.
 mod line;
 mod report;
 mod text;

@@ -12,6 +12,7 @@ ghost use Rattle.listings.specs.Counts.{Below, Grown};
 struct Tally {
     lines: u64,
     kept: u64,
+    newer: u64,
     refused: u64,
     privileged: u64,
     wrong: u64,
@@ -21,6 +22,7 @@ struct Tally {
 fn print_verdict(line: u64, verdict: Verdict) {
     match verdict {
         Verdict::Kept => {}
+        Verdict::KeptByNewer => {}
         Verdict::Refused => {}
         Verdict::Privileged => {}
         Verdict::Malformed => print_wrong(b"line", line, b"not a word and its text"),
@@ -37,6 +39,8 @@ fn print_tally(t: Tally) {
     print(b" words: ");
     print_number(t.kept);
     print(b" read and written back, ");
+    print_number(t.newer);
+    print(b" on the newer terminal alone, ");
     print_number(t.refused);
     print(b" not read, ");
     print_number(t.privileged);
@@ -72,6 +76,9 @@ impl Tally {
             Verdict::Kept => {
                 self.kept += 1;
             }
+            Verdict::KeptByNewer => {
+                self.newer += 1;
+            }
             Verdict::Refused => {
                 self.refused += 1;
             }
@@ -91,6 +98,7 @@ pub fn check_lines(s: &[u8]) {
     let mut t = Tally {
         lines: 0,
         kept: 0,
+        newer: 0,
         refused: 0,
         privileged: 0,
         wrong: 0,

@@ -3,6 +3,7 @@
 use v8::Access;
 use v8::AluOp;
 use v8::Bicc;
+use v8::BranchForm;
 use v8::Displacement;
 use v8::Instruction;
 use v8::LoadOp;
@@ -184,19 +185,33 @@ fn put_condition(buf: &mut [u8; 64], cond: u8) -> usize {
     }
 }
 
-// What stands between a branch's name and its distance.
 fn put_annul(buf: &mut [u8; 64], at: usize, annul: bool) -> usize {
     if annul {
-        return put_all(buf, at, b",a .");
+        return put_all(buf, at, b",a");
     }
-    put_all(buf, at, b" .")
+    at
 }
 
-// A branch, whose distance is in bytes from the branch itself, as `bne,a .+16`.
+// What stands before a branch's distance: with prediction, its hint and the codes that it tests.
+fn put_form(buf: &mut [u8; 64], at: usize, form: BranchForm) -> usize {
+    match form {
+        BranchForm::Unpredicted => put_all(buf, at, b" ."),
+        BranchForm::Predicted(hint) => {
+            if hint {
+                return put_all(buf, at, b",pt %icc,.");
+            }
+            put_all(buf, at, b",pn %icc,.")
+        }
+    }
+}
+
+// A branch, whose distance is in bytes from the branch itself, as `bne,a .+16` or `be,pn %icc,.-8`.
 fn put_branch(buf: &mut [u8; 64], x: Bicc) -> usize {
+    let form = x.form;
     let a = put_condition(buf, x.cond);
     let b = put_annul(buf, a, x.annul);
-    put_distance(buf, b, negative(x.distance.0), 4 * size(x.distance.0))
+    let c = put_form(buf, b, form);
+    put_distance(buf, c, negative(x.distance.0), 4 * size(x.distance.0))
 }
 
 fn put_sethi(buf: &mut [u8; 64], rd: u8, imm22: u32) -> usize {
