@@ -9,7 +9,10 @@ crates/vectors/src/case.rt states, and how many there are of each kind to standa
 seed gives the same vectors: crates/vectors/stdin is what seed 8 gives.
 
 A case is a routine of at most ten words with the start values of at most six registers and of the
-codes. All cases are assembled for 32-bit V8 into one program. For each case it sets the codes by a
+codes, for the older terminal or for the newer one; the routines for the newer have branches with
+prediction. The cases for the older are assembled for 32-bit V8 into one program, and run by an
+emulator of V8 and by one of V9 with 32-bit addresses, which must leave the same; those for the newer
+are assembled for 32-bit V9, and run by the latter. For each case a program sets the codes by a
 code-setting instruction, loads all registers, calls the routine, stores all registers and reads the
 codes by branches; at its end it writes all that to its standard output. The words of a vector are
 those in the linked program, its results what qemu left. The run fails where a routine leaves a
@@ -27,10 +30,12 @@ import tempfile
 sys.dont_write_bytecode = True
 import script
 
-AS = ["sparc64-linux-gnu-as", "-32", "-Av8"]
+AS = ["sparc64-linux-gnu-as", "-32"]
 LD = ["sparc64-linux-gnu-ld", "-m", "elf32_sparc", "-static"]
 OBJCOPY = ["sparc64-linux-gnu-objcopy", "-O", "binary", "-j", ".routines"]
-QEMU = ["qemu-sparc"]
+# The editions, with what `as` calls them and the emulators that run their cases.
+OLDER, NEWER = 8, 9
+ARCHITECTURES = {OLDER: ("-Av8", ("qemu-sparc", "qemu-sparc32plus")), NEWER: ("-Av8plus", ("qemu-sparc32plus",))}
 
 REGISTERS = ["%" + bank + str(k) for bank in "goli" for k in range(8)]
 # The registers that routines use: all but %g0, %g7, the stack, the link and %fp, which has the case's block.
@@ -63,7 +68,7 @@ CODES = {
     0b1011: ("subcc", 0x7FFFFFFF, 0xFFFFFFFF),
 }
 
-Case = collections.namedtuple("Case", "kind texts start codes")
+Case = collections.namedtuple("Case", "edition kind texts start codes")
 
 
 def fail(message):
@@ -71,10 +76,11 @@ def fail(message):
 
 
 class Maker:
-    """Makes cases at random."""
+    """Makes cases at random, for one terminal and then for the other."""
 
     def __init__(self, seed):
         self.random = random.Random(seed)
+        self.edition = OLDER
         self.cases = []
 
     def pick(self, things):
@@ -97,7 +103,11 @@ class Maker:
         if len(texts) > WORDS or len(start) > NAMED:
             fail("a case is too long")
         codes = self.pick(list(CODES)) if codes is None else codes
-        self.cases.append(Case(kind, texts, start, codes))
+        self.cases.append(Case(self.edition, kind, texts, start, codes))
+
+    def branch(self, cond, annul, words):
+        """A branch; for the newer terminal with either hint, or without prediction."""
+        return branch(cond, annul, words, self.pick((None, False, True)) if self.edition == NEWER else None)
 
 
 # Single instructions.
@@ -166,8 +176,12 @@ def sethis(make):
 
 # Branches. A word that runs leaves its mark.
 
-def branch(cond, annul, words):
-    return f"{BRANCHES[cond]}{',a' if annul else ''} .{4 * words:+d}"
+# What stands between a branch's name and its target, without prediction and with each hint.
+HINTS = {None: " ", False: ",pn %icc,", True: ",pt %icc,"}
+
+
+def branch(cond, annul, words, hint=None):
+    return f"{BRANCHES[cond]}{',a' if annul else ''}{HINTS[hint]}.{4 * words:+d}"
 
 
 def marks(register):
@@ -175,19 +189,23 @@ def marks(register):
     return (three("or", register, 1 << k, register) for k in range(12))
 
 
-def conditions(make):
-    """Each condition on each setting of the codes, and after SUBcc and ADDcc of the corners."""
-    for cond, annul, codes in itertools.product(range(16), (False, True), CODES):
+def conditions(make, hints):
+    """Each condition, annulling or not, with each of the hints, on each setting of the codes."""
+    for cond, annul, hint, codes in itertools.product(range(16), (False, True), hints, CODES):
         (m,) = make.registers(1)
         a, b, c = itertools.islice(marks(m), 3)
-        make.add("condition", [branch(cond, annul, 3), a, b, c], {m: 0}, codes)
+        make.add("condition", [branch(cond, annul, 3, hint), a, b, c], {m: 0}, codes)
+
+
+def comparisons(make):
+    """Each condition after SUBcc of the corners, and after a code-setting instruction."""
     for cond, (x, y) in itertools.product(range(16), itertools.product(CORNERS, CORNERS)):
         for op, annul in (("subcc", make.pick((False, True))), (make.pick(SETTING), make.pick((False, True)))):
             x, y = (x, y) if op == "subcc" else (make.word(), make.word())
             p, q, m = make.registers(3)
             a, b, c = itertools.islice(marks(m), 3)
             compare = three(op, p, REGISTERS[q], make.pick((0, p)))
-            make.add("condition", [compare, branch(cond, annul, 3), a, b, c], {p: x, q: y, m: 0})
+            make.add("condition", [compare, make.branch(cond, annul, 3), a, b, c], {p: x, q: y, m: 0})
 
 
 def plain_word(make, registers, mark):
@@ -213,7 +231,7 @@ def forward(make):
         room = size - len(texts)
         if room > 1 and make.pick(range(5)) < 3:
             # The last target is the return.
-            texts.append(branch(make.pick(range(16)), make.pick((False, True)), make.pick(range(1, room + 1))))
+            texts.append(make.branch(make.pick(range(16)), make.pick((False, True)), make.pick(range(1, room + 1))))
         texts.append(plain_word(make, (a, b), next(mark)))
     texts += ["retl", next(mark)]
     make.add("forward routine", texts, {a: make.word(), b: make.word(), m: 0})
@@ -233,9 +251,9 @@ def ended_below(make):
     before = [next(count)] if make.pick((0, 1)) else []
     body = [next(count)]
     if make.pick((0, 1)):
-        body += [branch(make.pick(range(16)), make.pick((False, True)), make.pick((1, 2))), next(count)]
+        body += [make.branch(make.pick(range(16)), make.pick((False, True)), make.pick((1, 2))), next(count)]
     body.append(three("subcc", c, 1, c))
-    body += [branch(again, make.pick((False, True)), -len(body)), next(count)]
+    body += [make.branch(again, make.pick((False, True)), -len(body)), next(count)]
     after = [next(count)] if make.pick((0, 1)) else []
     make.add("loop", before + body + after + ["retl", next(count)], {c: make.pick(range(1, 6)), m: 0, n: 0})
 
@@ -247,9 +265,17 @@ def ended_above(make):
     # The first three hold once the counter is zero, the others a turn later.
     out = make.pick((1, 2, 4, 3, 5, 6))
     before = [next(count)] if make.pick((0, 1)) else []
-    body = [three("subcc", c, 1, c), branch(out, make.pick((False, True)), 5), next(count), next(count)]
-    body += [branch(8, make.pick((False, True)), -4), next(count)]
+    body = [three("subcc", c, 1, c), make.branch(out, make.pick((False, True)), 5), next(count), next(count)]
+    body += [make.branch(8, make.pick((False, True)), -4), next(count)]
     make.add("loop", before + body + ["retl", next(count)], {c: make.pick(range(1, 6)), m: 0, n: 0})
+
+
+def routines(make, forwards, loops):
+    for _ in range(forwards):
+        forward(make)
+    for _ in range(loops):
+        ended_below(make)
+        ended_above(make)
 
 
 # Assembling, running.
@@ -263,8 +289,8 @@ def harness(cases):
         yield from (f"\tld [%fp+{4 * r}],{REGISTERS[r]}\n" for r in USED)
         yield f"link{k}:\n\tcall routine{k}\n\tnop\n"
         yield from (f"\tst {REGISTERS[r]},[%fp+{128 + 4 * r}]\n" for r in [*USED, LINK])
-        yield "\taddx %g0,%g0,%g1\n"
-        for name, bit in (("bneg", 8), ("be", 4), ("bvs", 2)):
+        yield "\tmov 0,%g1\n"
+        for name, bit in (("bneg", 8), ("be", 4), ("bvs", 2), ("bcs", 1)):
             yield f"\t{name} 1f\n\tmov {bit},%g2\n\tmov 0,%g2\n1:\tor %g1,%g2,%g1\n"
         yield "\tst %g1,[%fp+256]\n"
     yield "\tset blocks,%o1\n1:\tmov 1,%o0\n\tset blocks_end,%o2\n\tsub %o2,%o1,%o2\n\tmov 4,%g1\n\tta 0x10\n"
@@ -294,17 +320,24 @@ def run(command, **more):
     return done.stdout
 
 
-def emulated(cases):
+def emulated(edition, cases):
     """The words of all routines, and the blocks that qemu left."""
+    flag, emulators = ARCHITECTURES[edition]
     with tempfile.TemporaryDirectory() as folder:
         path = os.path.join(folder, "cases")
         with open(path + ".s", "w", encoding="utf-8") as out:
             out.writelines(harness(cases))
-        run(AS + ["-o", path + ".o", path + ".s"])
+        run(AS + [flag, "-o", path + ".o", path + ".s"])
         run(LD + ["-o", path, path + ".o"])
         run(OBJCOPY + [path, path + ".words"])
-        with open(path + ".words", "rb") as words:
-            return words.read(), run(QEMU + [path], timeout=60)
+        with open(path + ".words", "rb") as read:
+            words = read.read()
+        blocks = [run([emulator, path], timeout=60) for emulator in emulators]
+    if any(other != blocks[0] for other in blocks):
+        fail("the emulators differ")
+    if len(words) != 4 * WORDS * len(cases) or len(blocks[0]) != BLOCK * len(cases):
+        fail("the program is not as long as its cases")
+    return struct.iter_unpack(f">{WORDS}I", words), struct.iter_unpack(f">{BLOCK // 4}I", blocks[0])
 
 
 def vector(case, words, block):
@@ -316,7 +349,7 @@ def vector(case, words, block):
     named = [*case.start] + [0] * (NAMED - len(case.start))
     packed = struct.unpack(">2I", bytes([*named, case.codes, codes]))
     values = [case.start.get(r, 0) for r in named] + [end[r] if r else 0 for r in named]
-    return " ".join(f"{w:08x}" for w in (*words, *packed, *values)) + "\n"
+    return " ".join(f"{w:08x}" for w in (*words, *packed, *values, case.edition)) + "\n"
 
 
 def main(arguments):
@@ -326,21 +359,18 @@ def main(arguments):
     operations(make)
     shifts(make)
     sethis(make)
-    conditions(make)
-    for _ in range(1300):
-        forward(make)
-    for _ in range(250):
-        ended_below(make)
-        ended_above(make)
-    cases = make.cases
-    words, blocks = emulated(cases)
-    if len(words) != 4 * WORDS * len(cases) or len(blocks) != BLOCK * len(cases):
-        fail("the program is not as long as its cases")
-    words = struct.iter_unpack(f">{WORDS}I", words)
-    blocks = struct.iter_unpack(f">{BLOCK // 4}I", blocks)
-    sys.stdout.writelines(map(vector, cases, words, blocks))
-    for kind, count in collections.Counter(case.kind for case in cases).items():
-        print(f"{count} {kind}", file=sys.stderr)
+    conditions(make, [None])
+    comparisons(make)
+    routines(make, 1300, 250)
+    make.edition = NEWER
+    conditions(make, [False, True])
+    comparisons(make)
+    routines(make, 400, 80)
+    for edition in ARCHITECTURES:
+        cases = [case for case in make.cases if case.edition == edition]
+        sys.stdout.writelines(map(vector, cases, *emulated(edition, cases)))
+        for kind, count in collections.Counter(case.kind for case in cases).items():
+            print(f"edition {edition}: {count} {kind}", file=sys.stderr)
 
 
 if __name__ == "__main__":

@@ -1,8 +1,9 @@
-// One case: a line of 24 words in hexadecimal, each with a space or the line's end after it.
+// One case: a line of 25 words in hexadecimal, each with a space or the line's end after it.
 //   0 to 9     the words of a routine, with words that never run after its return and slot
 //   10 and 11  eight bytes: the numbers of six registers, the codes before and the codes after
 //   12 to 17   what the six registers hold before
 //   18 to 23   what they hold after
+//   24         the edition that the terminal follows, 8 or 9
 // A place that is not needed names r0 and holds 0. Codes are NZVC, N the highest of four bits.
 use hex::Digits;
 use hex::word_of;
@@ -17,18 +18,18 @@ ghost use lib.ListN.{length};
 pub const RETURNS: u32 = 65536;
 
 pub struct Case {
-    pub fields: [u32; 24],
+    pub fields: [u32; 25],
     pub well_formed: bool,
 }
 
 // Word i of a line, or none where it or the byte after it is wrong.
 fn word_at(line: &[u8], i: usize) -> Digits
-    requires { ⌜ i < 24 ⌝ }
-    requires { ⌜ 216 ≤ length (now line) ⌝ }
+    requires { ⌜ i < 25 ⌝ }
+    requires { ⌜ 225 ≤ length (now line) ⌝ }
 {
     let at = 9 * i;
     let end = at + 8;
-    let mark = if i < 23 { b' ' } else { b'\n' };
+    let mark = if i < 24 { b' ' } else { b'\n' };
     if line[end] != mark {
         return Digits::Wrong;
     }
@@ -36,11 +37,11 @@ fn word_at(line: &[u8], i: usize) -> Digits
 }
 
 // What a line says.
-pub fn case_of(line: &[u8; 216]) -> Case {
+pub fn case_of(line: &[u8; 225]) -> Case {
     let text = &line[..];
-    let mut fields = [0u32; 24];
+    let mut fields = [0u32; 25];
     let mut i = 0;
-    while i < 24 {
+    while i < 25 {
         match word_at(text, i) {
             Digits::Word(w) => {
                 fields[i] = w;
@@ -61,7 +62,7 @@ pub fn case_of(line: &[u8; 216]) -> Case {
 }
 
 // Byte k of words 10 and 11.
-fn byte(fields: &[u32; 24], k: usize) -> u8
+fn byte(fields: &[u32; 25], k: usize) -> u8
     requires { ⌜ k < 8 ⌝ }
 {
     let w = fields[10 + k / 4];
@@ -76,8 +77,8 @@ fn byte(fields: &[u32; 24], k: usize) -> u8
 
 // The registers with the six words from `from` on in those that the case names, the return address
 // in r15, zero in r0 and all others unset; and the codes of byte `k`.
-fn registers_of(fields: &[u32; 24], from: usize, k: usize) -> Registers
-    requires { ⌜ from + 6 ≤ 24 ⌝ }
+fn registers_of(fields: &[u32; 25], from: usize, k: usize) -> Registers
+    requires { ⌜ from + 6 ≤ 25 ⌝ }
     requires { ⌜ k < 8 ⌝ }
 {
     let mut values = [0u32; 32];
@@ -104,11 +105,11 @@ fn registers_of(fields: &[u32; 24], from: usize, k: usize) -> Registers
 }
 
 // How the case begins.
-pub fn before(fields: &[u32; 24]) -> Registers {
+pub fn before(fields: &[u32; 25]) -> Registers {
     registers_of(fields, 12, 6)
 }
 
 // How the case must end.
-pub fn after(fields: &[u32; 24]) -> Registers {
+pub fn after(fields: &[u32; 25]) -> Registers {
     registers_of(fields, 18, 7)
 }

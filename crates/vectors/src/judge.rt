@@ -9,6 +9,7 @@ use policy::Policy;
 use states::same_codes;
 use states::same_registers;
 use step::Registers;
+use v8::Edition;
 ghost use Prim.Native.Nat.{_≤_};
 ghost use lib.ListN.{length};
 
@@ -27,12 +28,13 @@ pub enum Verdict {
 const ALLOWANCE: u64 = 1000;
 
 // The run of a case's routine, with no memory to reach.
-fn run_of(fields: &[u32], start: Registers) -> Outcome
+fn run_of(edition: Edition, fields: &[u32], start: Registers) -> Outcome
     requires { ⌜ 10 ≤ length (now fields) ⌝ }
 {
     let bases = [0u32; 1];
     let mut memory = [0u8; 1];
     machine::run(
+        edition,
         Policy::empty(),
         &fields[..10],
         &bases[..0],
@@ -52,8 +54,8 @@ fn has_returned(end: End) -> bool {
     }
 }
 
-fn judge_case(fields: &[u32; 24]) -> Verdict {
-    let outcome = run_of(fields, before(fields));
+fn judge_on(edition: Edition, fields: &[u32; 25]) -> Verdict {
+    let outcome = run_of(edition, fields, before(fields));
     let end = outcome.end;
     let left = outcome.registers;
     let expected = after(fields);
@@ -69,7 +71,15 @@ fn judge_case(fields: &[u32; 24]) -> Verdict {
     Verdict::OtherCodes
 }
 
-pub fn judge(line: &[u8; 216]) -> Verdict {
+fn judge_case(fields: &[u32; 25]) -> Verdict {
+    match fields[24] {
+        8 => judge_on(Edition::V8, fields),
+        9 => judge_on(Edition::V9, fields),
+        _ => Verdict::Malformed,
+    }
+}
+
+pub fn judge(line: &[u8; 225]) -> Verdict {
     let case = case_of(line);
     if case.well_formed {
         return judge_case(&case.fields);

@@ -27,8 +27,8 @@ fn print_verdict(number: u64, verdict: Verdict) -> u64
 }
 
 // The verdict on the `n` bytes that were read as a line.
-fn judge_read(line: &[u8; 216], n: usize) -> Verdict {
-    if n < 216 {
+fn judge_read(line: &[u8; 225], n: usize) -> Verdict {
+    if n < 225 {
         return Verdict::Malformed;
     }
     judge(line)
@@ -36,7 +36,7 @@ fn judge_read(line: &[u8; 216], n: usize) -> Verdict {
 
 // Judges each case, and prints which are wrong and how many.
 pub fn check_cases() {
-    let mut line = [0u8; 216];
+    let mut line = [0u8; 225];
     let mut cases: u64 = 0;
     let mut wrong: u64 = 0;
     while cases < MOST_CASES {

@@ -7,10 +7,10 @@ use Rattle.vectors.proofs.case.case_of.Statement.{statement}
 use Rattle.vectors.proofs.case.case_of.Tie as tie
 
 abbrev Inv-loop : tie.InvT-loop
-Inv-loop line text fields₀ i₀ fields i = (i ≤ 24) × (length fields ≡ 24)
+Inv-loop line text fields₀ i₀ fields i = (i ≤ 25) × (length fields ≡ 25)
 
 abbrev μ-loop : tie.MeasureT-loop
-μ-loop line text fields₀ i₀ fields i = 24 - i
+μ-loop line text fields₀ i₀ fields i = 25 - i
 
 loop-holds : tie.Need-loop-holds Inv-loop μ-loop
 loop-holds c = search needs

@@ -7,7 +7,7 @@ use Rattle.vectors.proofs.report.check_cases.Statement.{statement}
 use Rattle.vectors.proofs.report.check_cases.Tie as tie
 
 abbrev Inv-loop : tie.InvT-loop
-Inv-loop line₀ cases₀ wrong₀ t5 t6 line cases wrong = (length line ≡ 216) × (cases ≤ 1000000) × (wrong ≤ cases)
+Inv-loop line₀ cases₀ wrong₀ t5 t6 line cases wrong = (length line ≡ 225) × (cases ≤ 1000000) × (wrong ≤ cases)
 
 abbrev μ-loop : tie.MeasureT-loop
 μ-loop line₀ cases₀ wrong₀ t5 t6 line cases wrong = 1000000 - cases
