@@ -1,7 +1,7 @@
 -- The ranges of a written word's parts: each part fits its field, and each opcode is below 64, so that the sum of the
 -- parts is a word.
 use Prim.Native.Nat.{ℕ, _+_, _*_, _%_, _^_, _<_}
-use mathlib.Core.Bool.{Bool, true, false, cond}
+use mathlib.Core.Bool.{Bool, true, false}
 use mathlib.Core.Path.{_≡_}
 use native.Mathlib.Omega.{arith}
 use lib.Dec.{ltb, eqb}
