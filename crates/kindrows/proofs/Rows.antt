@@ -1,5 +1,6 @@
 -- The table holds: the definitions give each row's outcome, by computation.
 use mathlib.Core.Path.{refl}
+use Rattle.v8.specs.declared.Edition.{Edition}
 use Rattle.v8.specs.Search.{all, any, lowest, first}
 use Rattle.v8.specs.Signed.{signExtend}
 use Rattle.v8.specs.Read.{operandOf, countOf, format00, format10, format11, readingOf}
@@ -22,21 +23,21 @@ use Rattle.kindrows.specs.MarkRows.{meetRows, wordRows}
 use Rattle.kindrows.specs.ListRows.{listRows, refusedRows}
 use Rattle.kindrows.specs.Table.{Holds, TableHolds}
 
-meets-hold : Holds meetRows
+meets-hold : (e : Edition) → Holds e meetRows
 unfolding meet
-meets-hold = refl
+meets-hold e = refl
 
-words-hold : Holds wordRows
+words-hold : (e : Edition) → Holds e wordRows
 unfolding readingOf format00 format10 format11 operandOf countOf signExtend markOf marksWith ofNumbers sumMark differenceMark orMark
-words-hold = refl
+words-hold e = refl
 
-lists-hold : Holds listRows
+lists-hold : (e : Edition) → Holds e listRows
 unfolding readingOf format00 format10 format11 operandOf countOf signExtend lowest first all slotRuns targetOf isSlot isTarget any widthOf leastOf mostOf fieldAt valuesOk fieldOk endBefore fieldFits fieldAtOk regionOk policyOk setOk sizeIn entryOk noteOk entryOf noteOf formedAt flawFrom formFault passOf readPass flowPass meet markOf marksWith ofNumbers sumMark differenceMark orMark marksAt reached raisedAt entryMarks sentBy takenIn closedAt closed raisedByWords raisedOnce raisedUntilClosed listingOf listingAnswer listed
-lists-hold = refl
+lists-hold e = refl
 
-refusals-hold : Holds refusedRows
+refusals-hold : (e : Edition) → Holds e refusedRows
 unfolding readingOf format00 format10 format11 operandOf countOf signExtend lowest first all slotRuns targetOf isSlot isTarget any widthOf leastOf mostOf fieldAt valuesOk fieldOk endBefore fieldFits fieldAtOk regionOk policyOk setOk sizeIn entryOk noteOk entryOf noteOf formedAt flawFrom formFault passOf readPass flowPass meet markOf marksWith ofNumbers sumMark differenceMark orMark marksAt reached raisedAt entryMarks sentBy takenIn closedAt closed raisedByWords raisedOnce raisedUntilClosed listingOf listingAnswer listed
-refusals-hold = refl
+refusals-hold e = refl
 
-pub table-holds : TableHolds
-table-holds = record { meets = meets-hold; words = words-hold; lists = lists-hold; refusals = refusals-hold }
+pub table-holds : (e : Edition) → TableHolds e
+table-holds e = record { meets = meets-hold e; words = words-hold e; lists = lists-hold e; refusals = refusals-hold e }

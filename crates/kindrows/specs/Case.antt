@@ -5,6 +5,7 @@ use mathlib.Core.Bool.{Bool, cond, _&&_}
 use mathlib.Core.List.{List, [], _∷_}
 use lib.Dec.{eqb}
 use lib.ListN.{length, take, drop, replicate}
+use Rattle.v8.specs.declared.Edition.{Edition}
 use Rattle.v8.specs.Table.{every}
 use Rattle.v8.specs.Read.{readingOf}
 use Rattle.policy.specs.declared.Policy.{Policy}
@@ -69,8 +70,8 @@ leavesOf words size l =
 abbrev pub kinds : List ℕ
 kinds = 1 ∷ 1 ∷ 2 ∷ 3 ∷ 4 ∷ 5 ∷ 2 ∷ 4 ∷ replicate 24 5
 
--- what the definitions give
-abbrev pub outcome : Given → Outcome
-outcome (meeting a b) = mark (meet a b)
-outcome (word w) = marks (digits 0 (take 8 (marksAfterWord kinds (readingOf w))))
-outcome (routine p words entry size) = leavesOf words size (listed p words entry (replicate size lent))
+-- what the definitions give, on a terminal of the edition
+abbrev pub outcome : Edition → Given → Outcome
+outcome e (meeting a b) = mark (meet a b)
+outcome e (word w) = marks (digits 0 (take 8 (marksAfterWord kinds (readingOf e w))))
+outcome e (routine p words entry size) = leavesOf words size (listed e p words entry (replicate size lent))

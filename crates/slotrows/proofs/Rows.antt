@@ -1,5 +1,6 @@
 -- The table holds: the definitions give each row's outcome, by computation.
 use mathlib.Core.Path.{refl}
+use Rattle.v8.specs.declared.Edition.{Edition}
 use Rattle.v8.specs.Search.{all, any, lowest, first}
 use Rattle.v8.specs.Signed.{signExtend}
 use Rattle.v8.specs.Read.{readingOf, format00, format10, format11, operandOf, countOf}
@@ -40,48 +41,48 @@ use Rattle.slotrows.specs.ListRows.{listRows}
 use Rattle.slotrows.specs.Table.{Holds, TableHolds}
 use Rattle.slotrows.proofs.Passes.{passes-answer}
 
-flows-hold : Holds flowRows
+flows-hold : (e : Edition) → Holds e flowRows
 unfolding readingOf format00 format10 format11 operandOf countOf signExtend lowest first any targetOf isSlot isTarget passOf flowPass
-flows-hold = refl
+flows-hold e = refl
 
-shared-hold : Holds sharedRows
+shared-hold : (e : Edition) → Holds e sharedRows
 unfolding readingOf format00 format10 format11 operandOf countOf signExtend conditionOf lowest first any widthOf fieldAt holdsIn stopOf findIn slotRuns targetOf isSlot isTarget ended fitsSet within addSets fits fitsNote fieldEntry entryAt entriesWith entryOf noteOf rowOf flawFrom fitsAt misfit offsetsGive addressSum aluResult inField inRegion reachOf noteAfter codesNote aluChange accessChange branchChange returnChange narrowRow passOf flowPass cross narrowedEdge wordPass
-shared-hold = refl
+shared-hold e = refl
 
-own-hold : Holds ownRows
+own-hold : (e : Edition) → Holds e ownRows
 unfolding readingOf format00 format10 format11 operandOf countOf signExtend conditionOf lowest first any slotRuns targetOf isSlot isTarget ended fitsSet within addSets atMost atLeast lessThan isMember only without fits fitsNote entryAt entriesWith entryOf noteOf rowOf flawFrom fitsAt misfit aluResult noteAfter codesNote aluChange branchChange returnChange narrowEntry narrowRow passOf flowPass cross narrowedEdge wordPass
-own-hold = refl
+own-hold e = refl
 
-homes-hold : Holds homeRows
+homes-hold : (e : Edition) → Holds e homeRows
 unfolding readingOf format00 format10 format11 operandOf countOf signExtend conditionOf lowest first any slotRuns targetOf isSlot isTarget fitsSet fits fitsNote entryAt entriesWith entryOf noteOf rowOf flawFrom fitsAt misfit noteAfter branchChange returnChange narrowRow passOf flowPass cross narrowedEdge wordPass
-homes-hold = refl
+homes-hold e = refl
 
-idle-hold : Holds idleRows
+idle-hold : (e : Edition) → Holds e idleRows
 unfolding readingOf format00 format10 format11 operandOf countOf signExtend conditionOf lowest first any widthOf fieldAt holdsIn stopOf findIn slotRuns targetOf isSlot isTarget ended fitsSet within addSets fits fitsNote fieldEntry entryAt entriesWith entryOf noteOf rowOf flawFrom fitsAt misfit offsetsGive addressSum aluResult inField inRegion reachOf noteAfter accessChange branchChange returnChange narrowRow passOf flowPass cross narrowedEdge wordPass
-idle-hold = refl
+idle-hold e = refl
 
-checks-hold : Trials·.Holds checkRows
+checks-hold : (e : Edition) → Trials·.Holds e checkRows
 unfolding readingOf format00 format10 format11 operandOf countOf signExtend conditionOf lowest first all any widthOf leastOf mostOf fieldAt valuesOk fieldOk endBefore fieldFits fieldAtOk regionOk policyOk holdsIn stopOf findIn slotRuns targetOf isSlot isTarget ended setOk fitsSet within addSets sizeIn entryOk fits noteOk fitsNote fieldEntry entryAt entriesWith entryOf noteOf rowOf formedAt flawFrom formFault fitsAt misfit offsetsGive addressSum aluResult inField inRegion reachOf noteAfter codesNote aluChange accessChange branchChange returnChange narrowRow passOf shapeOk rowPass readPass flowPass entryPass cross narrowedEdge wordPass answerOf checkOf
-checks-hold = refl
+checks-hold e = refl
 
-runs-hold : Trials·.Holds runRows
+runs-hold : (e : Edition) → Trials·.Holds e runRows
 unfolding readingOf format00 format10 format11 operandOf countOf signExtend condHolds conditionOf all lowest first widthOf leastOf mostOf fieldAt valuesOk fieldOk endBefore fieldFits fieldAtOk regionOk policyOk partStart valueIn setIn valuesWith marksWith slotRuns targetOf stepOf disjointIn placedIn runFrom refusalOf runOf
-runs-hold = refl
+runs-hold e = refl
 
-lists-hold : Kinds·.Holds listRows
+lists-hold : (e : Edition) → Kinds·.Holds e listRows
 unfolding readingOf format00 format10 format11 operandOf countOf signExtend lowest first all any slotRuns targetOf isSlot isTarget widthOf leastOf mostOf fieldAt valuesOk fieldOk endBefore fieldFits fieldAtOk regionOk policyOk setOk sizeIn entryOk noteOk entryOf noteOf formedAt flawFrom formFault passOf readPass flowPass Marks·.meet Marks·.markOf Marks·.marksWith ofNumbers orMark marksAt reached raisedAt entryMarks sentBy takenIn closedAt closed raisedByWords raisedOnce raisedUntilClosed listingOf listingAnswer listed
-lists-hold = refl
+lists-hold e = refl
 
-pub table-holds : TableHolds
-table-holds =
+pub table-holds : (e : Edition) → TableHolds e
+table-holds e =
     record {
-      flows = flows-hold;
-      shared = shared-hold;
-      own = own-hold;
-      homes = homes-hold;
-      idle = idle-hold;
+      flows = flows-hold e;
+      shared = shared-hold e;
+      own = own-hold e;
+      homes = homes-hold e;
+      idle = idle-hold e;
       passes = passes-answer;
-      checks = checks-hold;
-      runs = runs-hold;
-      lists = lists-hold;
+      checks = checks-hold e;
+      runs = runs-hold e;
+      lists = lists-hold e;
     }

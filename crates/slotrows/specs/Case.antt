@@ -3,6 +3,7 @@
 use Prim.Native.Nat.{ℕ}
 use mathlib.Core.Path.{_≡_}
 use mathlib.Core.List.{List}
+use Rattle.v8.specs.declared.Edition.{Edition}
 use Rattle.rows.specs.declared.Entry.{Entry}
 use Rattle.rows.specs.declared.Row as Rows·
 use Rattle.checker.specs.declared.Answer.{Answer}
@@ -35,10 +36,10 @@ abbrev pub twoPasses : Routine → Answer
 twoPasses t =
     andThen (passOf (flowPass (t .readings)) (count t)) (passOf (wordPass (t .policy) (t .readings) (t .rows) (t .result)) (count t))
 
--- what the definitions give
-abbrev pub outcome : Given → Outcome
-outcome g =
-    let a = twoPasses (routineOf oneWord (g .words) (bytesOfRows (g .rows)) (bytesOf called) (bytesOfEntry (g .result))) in
+-- what the definitions give, on a terminal of the edition
+abbrev pub outcome : Edition → Given → Outcome
+outcome e g =
+    let a = twoPasses (routineOf e oneWord (g .words) (bytesOfRows (g .rows)) (bytesOf called) (bytesOfEntry (g .result))) in
     answers (a .number) (a .word .0) (a .register)
 
 -- the other passes of the check accept: then it answers as these two do

@@ -3,6 +3,7 @@
 use mathlib.Core.Path.{refl, sym, ap₂, _∙_}
 use mathlib.Core.List.{List, _++_, map-append}
 use mathlib.Core.Bool.{xor}
+use Rattle.v8.specs.declared.Edition.{Edition}
 use Rattle.v8.specs.Signed.{signExtend}
 use Rattle.v8.specs.Search.{all, any, lowest, first}
 use Rattle.v8.specs.Read.{readingOf, format00, format10, format11, operandOf, countOf}
@@ -40,31 +41,32 @@ use Rattle.trials.specs.Case.{Row, Outcome, expected, found, Holds}
 use Rattle.claims.proofs.Answered.{return-then-nop, one-nop, loop-accepted}
 use Rattle.claims.proofs.Looped.{loop-never-returns}
 use Rattle.claims.proofs.Unlinked.{start-exists}
-use Rattle.trials.specs.Table.{machineTable, rowTable, passTable, edgeTable, bundleTable, table, Claim, returnThenNop, oneNop, loopAccepted, loopNeverReturns, startExists, Says, TableHolds}
+use Rattle.claims.proofs.Alike.{accepted-too}
+use Rattle.trials.specs.Table.{machineTable, rowTable, passTable, edgeTable, bundleTable, table, Claim, returnThenNop, oneNop, loopAccepted, loopNeverReturns, startExists, acceptedToo, Says, TableHolds}
 
 -- where those of two lists do, so do those of both together
-both : (a b : List Row) → Holds a → Holds b → Holds (a ++ b)
-both a b p q = map-append found a b ∙ ap₂ (λ (x y : List Outcome). x ++ y) p q ∙ sym (map-append expected a b)
+both : (e : Edition) (a b : List Row) → Holds e a → Holds e b → Holds e (a ++ b)
+both e a b p q = map-append (found e) a b ∙ ap₂ (λ (x y : List Outcome). x ++ y) p q ∙ sym (map-append expected a b)
 
-machine-rows-hold : Holds machineTable
+machine-rows-hold : (e : Edition) → Holds e machineTable
 unfolding readingOf format00 format10 format11 operandOf countOf signExtend writingOf packed packOf sethiWord signedBits fiveBits codesOf condHolds conditionOf isSlot isTarget any xor all widthOf leastOf mostOf fieldAt valuesOk fieldOk endBefore fieldFits fieldAtOk regionOk policyOk regionNumber fieldNumber built partStart lowest first holdsIn stopOf findIn valueIn setIn valuesWith marksWith insideRegion regionIn locate aimIn slotRuns targetOf stepOf disjointIn placedIn runFrom refusalOf runOf
-machine-rows-hold = refl
+machine-rows-hold e = refl
 
-row-rows-hold : Holds rowTable
+row-rows-hold : (e : Edition) → Holds e rowTable
 unfolding readingOf format00 format10 format11 operandOf countOf signExtend conditionOf lowest first widthOf fieldAt holdsIn stopOf findIn ended setOk fitsSet within addSets subSets andSets sllSet sraSet srlSet atMost atLeast lessThan isMember only without sizeIn entryOk fits noteOk fitsNote fieldEntry entryAt entriesWith entryOf noteOf formedAt flawFrom formFault fitsAt misfit offsetsGive addressSum addressDifference aluResult shiftResult inField inRegion reachOf noteAfter codesNote aluChange shiftChange accessChange branchChange returnChange narrowEntry narrowRow
-row-rows-hold = refl
+row-rows-hold e = refl
 
-pass-rows-hold : Holds passTable
+pass-rows-hold : (e : Edition) → Holds e passTable
 unfolding readingOf format00 format10 format11 operandOf countOf signExtend lowest first all widthOf leastOf mostOf fieldAt valuesOk fieldOk endBefore fieldFits fieldAtOk regionOk policyOk targetOf setOk fitsSet sizeIn entryOk fits noteOk fitsNote entryAt entryOf noteOf rowOf formedAt flawFrom formFault fitsAt misfit passOf isSlot isTarget any shapeOk rowPass readPass flowPass entryPass answerOf checkOf
-pass-rows-hold = refl
+pass-rows-hold e = refl
 
-edge-rows-hold : Holds edgeTable
+edge-rows-hold : (e : Edition) → Holds e edgeTable
 unfolding readingOf format00 format10 format11 operandOf countOf signExtend conditionOf lowest first all widthOf leastOf mostOf fieldAt valuesOk fieldOk endBefore fieldFits fieldAtOk regionOk policyOk holdsIn stopOf findIn slotRuns targetOf ended setOk fitsSet within addSets subSets andSets sllSet sraSet srlSet atMost atLeast lessThan isMember only without sizeIn entryOk fits noteOk fitsNote fieldEntry entryAt entriesWith entryOf noteOf formedAt flawFrom formFault fitsAt misfit rowOf offsetsGive addressSum addressDifference aluResult shiftResult inField inRegion reachOf noteAfter codesNote aluChange shiftChange accessChange branchChange returnChange narrowEntry narrowRow passOf isSlot isTarget any shapeOk rowPass readPass flowPass entryPass cross narrowedEdge wordPass answerOf checkOf
-edge-rows-hold = refl
+edge-rows-hold e = refl
 
-bundle-rows-hold : Holds bundleTable
+bundle-rows-hold : (e : Edition) → Holds e bundleTable
 unfolding readingOf format00 format10 format11 operandOf countOf signExtend lowest first all widthOf leastOf mostOf fieldAt valuesOk fieldOk endBefore fieldFits fieldAtOk regionOk policyOk regionNumber fieldNumber built targetOf setOk fitsSet sizeIn entryOk fits noteOk fitsNote entryAt entriesWith entryOf noteOf rowOf formedAt flawFrom formFault fitsAt misfit branchChange returnChange narrowEntry narrowRow noteAfter passOf isSlot isTarget any shapeOk rowPass readPass flowPass entryPass cross narrowedEdge wordPass answerOf checkOf fieldsBefore fieldRead bundleOk regionTo fieldTo withRegions withFieldsOf withFields bundleAnswer
-bundle-rows-hold = refl
+bundle-rows-hold e = refl
 
 every-claim-holds : (c : Claim) → Says c
 every-claim-holds returnThenNop = return-then-nop
@@ -72,14 +74,15 @@ every-claim-holds oneNop = one-nop
 every-claim-holds loopAccepted = loop-accepted
 every-claim-holds loopNeverReturns = loop-never-returns
 every-claim-holds startExists = start-exists
+every-claim-holds acceptedToo = accepted-too
 
-every-row-holds : Holds table
-every-row-holds =
-    both (machineTable ++ rowTable ++ passTable ++ edgeTable) bundleTable
-    (both (machineTable ++ rowTable ++ passTable) edgeTable
-    (both (machineTable ++ rowTable) passTable (both machineTable rowTable machine-rows-hold row-rows-hold) pass-rows-hold)
-    edge-rows-hold)
-    bundle-rows-hold
+every-row-holds : (e : Edition) → Holds e table
+every-row-holds e =
+    both e (machineTable ++ rowTable ++ passTable ++ edgeTable) bundleTable
+    (both e (machineTable ++ rowTable ++ passTable) edgeTable
+    (both e (machineTable ++ rowTable) passTable (both e machineTable rowTable (machine-rows-hold e) (row-rows-hold e)) (pass-rows-hold e))
+    (edge-rows-hold e))
+    (bundle-rows-hold e)
 
 pub table-holds : TableHolds
 table-holds = record { rows = every-row-holds; claims = every-claim-holds }

@@ -6,6 +6,7 @@ use mathlib.Core.Bool.{Bool, cond}
 use mathlib.Core.List.{List, [], _∷_, map}
 use lib.Dec.{eqb}
 use lib.ListN.{length, take}
+use Rattle.v8.specs.declared.Edition.{Edition}
 use Rattle.v8.specs.declared.AluOp.{AluOp}
 use Rattle.v8.specs.declared.ShiftOp.{ShiftOp}
 use Rattle.v8.specs.declared.LoadOp.{LoadOp}
@@ -199,40 +200,40 @@ abbrev pub changeBy : Policy → Rows·.Row → Reading → Outcome
 changeBy p row (Read x) = changes (changeOf p row x)
 changeBy p row (Unread n) = reads (Unread n)
 
--- what the definitions give
-abbrev pub outcome : Given → Outcome
-outcome (word w) = reads (readingOf w)
-outcome (instruction x) = writes (writingOf x)
-outcome (readAnswer w) = yields (readNumber (readingOf w))
-outcome (writeAnswer x) = yields (writeNumber (writingOf x))
-outcome (edge at w taken) = edgeBy at taken (readingOf w)
-outcome (writing w) = writtenBy (readingOf w)
-outcome (examining words) = marks (examinedBelow (readingsOf words) (length words))
-outcome (operation op x y) = sets (aluOf op x y) (digitOf (codesOf op x y))
-outcome (shift op x n) = yields (shiftOf op x n)
-outcome (condition k) = meets (meetingBelow k 16)
-outcome (adds p more) = numbers (numbersOf p more)
-outcome (loaded op m a) = yields (loadOf op m a)
-outcome (stored op v a m) = leaves (storeOf op v a m)
-outcome (begins sizes r) = yields (partStart sizes r)
-outcome (runs p words bases returns g allowance memory) = endsOf (runOf p words bases returns g allowance memory)
-outcome (form regions sizes bytes) = flaw (formFault regions sizes bytes 0)
-outcome (fitting a b) = fitted (fits a b)
-outcome (fittingNote a b) = fitted (fitsNote a b)
-outcome (fittingRow a b) = flaw (misfit a b)
-outcome (entries sizes op a b) = makes (aluResult sizes op a b)
-outcome (shiftedEntry op a b) = makes (shiftResult op a b)
-outcome (change p row w) = changeBy p row (readingOf w)
-outcome (narrowing k e n) = remains (narrowEntry (conditionOf k .narrowing) e n)
-outcome (narrowingRow k row) = rowRemains (narrowRow (conditionOf k .narrowing) row)
-outcome (check p words rows entry result) =
-    let a = checkOf p words rows entry result in answers (a .number) (a .word .0) (a .register)
-outcome (bundle b) = let a = bundleAnswer b in answers (a .number) (a .word .0) (a .register)
+-- what the definitions give, on a terminal of the edition
+abbrev pub outcome : Edition → Given → Outcome
+outcome e (word w) = reads (readingOf e w)
+outcome e (instruction x) = writes (writingOf e x)
+outcome e (readAnswer w) = yields (readNumber (readingOf e w))
+outcome e (writeAnswer x) = yields (writeNumber (writingOf e x))
+outcome e (edge at w taken) = edgeBy at taken (readingOf e w)
+outcome e (writing w) = writtenBy (readingOf e w)
+outcome e (examining words) = marks (examinedBelow (readingsOf e words) (length words))
+outcome e (operation op x y) = sets (aluOf op x y) (digitOf (codesOf op x y))
+outcome e (shift op x n) = yields (shiftOf op x n)
+outcome e (condition k) = meets (meetingBelow k 16)
+outcome e (adds p more) = numbers (numbersOf p more)
+outcome e (loaded op m a) = yields (loadOf op m a)
+outcome e (stored op v a m) = leaves (storeOf op v a m)
+outcome e (begins sizes r) = yields (partStart sizes r)
+outcome e (runs p words bases returns g allowance memory) = endsOf (runOf e p words bases returns g allowance memory)
+outcome e (form regions sizes bytes) = flaw (formFault regions sizes bytes 0)
+outcome e (fitting a b) = fitted (fits a b)
+outcome e (fittingNote a b) = fitted (fitsNote a b)
+outcome e (fittingRow a b) = flaw (misfit a b)
+outcome e (entries sizes op a b) = makes (aluResult sizes op a b)
+outcome e (shiftedEntry op a b) = makes (shiftResult op a b)
+outcome e (change p row w) = changeBy p row (readingOf e w)
+outcome e (narrowing k a n) = remains (narrowEntry (conditionOf k .narrowing) a n)
+outcome e (narrowingRow k row) = rowRemains (narrowRow (conditionOf k .narrowing) row)
+outcome e (check p words rows entry result) =
+    let a = checkOf e p words rows entry result in answers (a .number) (a .word .0) (a .register)
+outcome e (bundle b) = let a = bundleAnswer e b in answers (a .number) (a .word .0) (a .register)
 
 -- .. for a row
-abbrev pub found : Row → Outcome
-found r = outcome (given r)
+abbrev pub found : Edition → Row → Outcome
+found e r = outcome e (given r)
 
 -- the rows of a list hold: each has the outcome that it expects
-abbrev pub Holds : List Row → Type 0
-Holds rows = map found rows ≡ map expected rows
+abbrev pub Holds : Edition → List Row → Type 0
+Holds e rows = map (found e) rows ≡ map expected rows

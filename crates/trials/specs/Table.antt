@@ -1,7 +1,8 @@
 -- The one shared table of worked cases, by subject: rows that are computed, in parts small enough for one proof each, and the cases that
 -- document 01 states of every row or that say more than an outcome, which are claims.
 use mathlib.Core.List.{List, _++_}
-use Rattle.claims.specs.Claims.{ReturnThenNop, OneNop, LoopAccepted, LoopNeverReturns, StartExists}
+use Rattle.v8.specs.declared.Edition.{Edition}
+use Rattle.claims.specs.Claims.{ReturnThenNop, OneNop, LoopAccepted, LoopNeverReturns, StartExists, AcceptedToo}
 use Rattle.trials.specs.Case.{Row, Holds}
 use Rattle.trials.specs.Words.{wordRows, privilegedRows, writeRows, answerRows}
 use Rattle.trials.specs.Arithmetic.{additionRows, subtractionRows, logicRows, shiftRows, conditionRows}
@@ -43,13 +44,14 @@ abbrev pub table : List Row
 table = machineTable ++ rowTable ++ passTable ++ edgeTable ++ bundleTable
 
 -- the cases of every row: "Return then nop ..", "One nop alone", "10800000 .. then nop .., accepted, never returns"; and a whole routine, with a
--- start that matches and its run
+-- start that matches and its run; and (request 5) that what is accepted for the older terminal is so for the newer
 pub data Claim : Type 0 where
   returnThenNop : Claim
   oneNop : Claim
   loopAccepted : Claim
   loopNeverReturns : Claim
   startExists : Claim
+  acceptedToo : Claim
 
 -- what each says
 abbrev pub Says : Claim → Type 0
@@ -57,9 +59,10 @@ Says returnThenNop = ReturnThenNop
 Says oneNop = OneNop
 Says loopAccepted = LoopAccepted
 Says loopNeverReturns = LoopNeverReturns
-Says startExists = StartExists
+Says startExists = (e : Edition) → StartExists e
+Says acceptedToo = AcceptedToo
 
--- the whole table holds: each row has the outcome that it expects, and each claim is so
+-- the whole table holds: each row has the outcome that it expects, on every terminal, and each claim is so
 pub record TableHolds : Type 0 where
-  pub rows : Holds table
+  pub rows : (e : Edition) → Holds e table
   pub claims : (c : Claim) → Says c

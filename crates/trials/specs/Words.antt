@@ -4,6 +4,7 @@ use Prim.Native.Nat.{ℕ, _+_, _*_, _-_, _^_}
 use mathlib.Core.Bool.{Bool, true, false}
 use mathlib.Core.List.{List, [], _∷_, _++_}
 use Rattle.v8.specs.Numbers.{notRead, privileged}
+use Rattle.v8.specs.declared.BranchForm.the-variants.{Unpredicted}
 use Rattle.v8.specs.declared.AluOp.the-variants.{Add, Sub, Orn, Xnor}
 use Rattle.v8.specs.declared.ShiftOp.the-variants.{Sll, Srl, Sra}
 use Rattle.v8.specs.declared.LoadOp.the-variants.{Ld, Ldub, Lduh, Ldsb, Ldsh}
@@ -21,7 +22,7 @@ use Rattle.trials.specs.Case.{Row, _gives_, word, instruction, readAnswe
 
 -- a branch: its annul bit, its condition, and its distance in words
 abbrev pub branch : Bool → ℕ → ℕ → Instruction
-branch annul cnd distance = Branch (record { annul = annul; cond = cnd; distance = record { 0 = distance } })
+branch annul cnd distance = Branch (record { annul = annul; cond = cnd; distance = record { 0 = distance }; form = Unpredicted })
 
 -- words read
 abbrev pub wordRows : List Row
@@ -90,7 +91,6 @@ wordRows =
     ∷ word 0x11800002 gives reads (Unread notRead)
     ∷ word 0x11C00002 gives reads (Unread notRead)
     ∷ word 0x00000000 gives reads (Unread notRead)
-    ∷ word 0x00400000 gives reads (Unread notRead)
     ∷ word 0x00C00000 gives reads (Unread notRead)
     ∷ word 0x01400000 gives reads (Unread notRead)
     -- no word of 32 bits

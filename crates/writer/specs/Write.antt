@@ -117,8 +117,7 @@ packed op rd op3 rs1 OutOfRange = Unwritable
 unfoldable pub sethiWord : ℕ → ℕ → Writing
 sethiWord rd imm22 = cond (ltb rd 32) (cond (ltb imm22 (2 ^ 22)) (Written (rd * 2 ^ 25 + 4 * 2 ^ 22 + imm22)) Unwritable) Unwritable
 
--- bits 24:0 of a predicted branch: 001, the 32-bit codes, the hint, the distance; request 5, "writing: 17 where the instruction has no word in
--- that edition, or the distance does not fit"
+-- bits 24:0 of a predicted branch (request 5): 001, the 32-bit codes, the hint, the distance; "not of the subset" on the older terminal
 abbrev pub predictedBits : Edition → Bool → ℕ → Part
 predictedBits V8 hint v = OutOfRange
 predictedBits V9 hint v = signedBits 19 (1 * 2 ^ 22 + cond hint (2 ^ 19) 0) v
