@@ -13,6 +13,7 @@ use step::MARKS;
 use step::MarkedCodes;
 use step::Registers;
 use v8::ByteOffset;
+use v8::Edition;
 
 // add, sll, xor, subcc, bne, its slot add, ba, nop.
 const ARITHMETIC: [u32; 8] = [
@@ -134,6 +135,7 @@ fn run_loop(policy: Policy, words: &[u32], allowance: u64) {
     let bases = [4096u32; 1];
     let mut memory = [0u8; 64];
     report(machine::run(
+        Edition::V8,
         policy,
         words,
         &bases,
