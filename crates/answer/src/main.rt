@@ -1,15 +1,8 @@
-// The bundle program: reads one bundle from standard input and prints the line that answers it: number,
-// word and register in decimal, one space between, and a newline. Any input has one. (Document 01,
-// "Bundle".)
-use libc::STDIN_FILENO;
-use output::print_line;
-use reply::reply;
-
-// One byte more than a bundle has at most, so that a longer input is seen to be longer.
-const ROOM: usize = 53181;
+// The bundle program of the older terminal, whose processor follows SPARC Version 8: reads one
+// bundle from standard input and prints the line that answers it. (Document 01, "Bundle".)
+use reply::serve;
+use v8::Edition;
 
 fn main() {
-    let mut input = [0u8; ROOM];
-    let n = io::read_full(STDIN_FILENO, &mut input);
-    print_line(reply(&input[..n]));
+    serve(Edition::V8)
 }

@@ -1,0 +1,54 @@
+-- `show_row` is safe and ends. Measure: the registers left.
+use Prim.Native.Nat.{_≤_, _-_}
+use borrow.Author.Needs.{needs}
+use Rattle.about.proofs.shown.show_row.Statement.{statement}
+use Rattle.about.proofs.shown.show_row.Tie as tie
+
+abbrev Inv-loop : tie.InvT-loop
+Inv-loop row r₀ t3 r = r ≤ 32
+
+abbrev μ-loop : tie.MeasureT-loop
+μ-loop row r₀ t3 r = 32 - r
+
+loop-holds : tie.Need-loop-holds Inv-loop μ-loop
+loop-holds c = search needs
+
+entry-at-requires : tie.Need-entry-at-requires Inv-loop μ-loop
+entry-at-requires c κs = search needs
+
+show-register-requires : tie.Need-show-register-requires Inv-loop μ-loop
+show-register-requires c κs = search needs
+
+add-r : tie.Need-add-r Inv-loop μ-loop
+add-r c = search needs
+
+loop-less : tie.Need-loop-less Inv-loop μ-loop
+loop-less c = search needs
+
+loop-again : tie.Need-loop-again Inv-loop μ-loop
+loop-again c = search needs
+
+slice-aggregate-show-note : tie.Need-slice-aggregate-show-note Inv-loop μ-loop
+slice-aggregate-show-note c = search needs
+
+show-note-requires : tie.Need-show-note-requires Inv-loop μ-loop
+show-note-requires c κs = search needs
+
+returns : tie.Need-returns Inv-loop μ-loop
+returns c = search needs
+
+pub show-row-spec : {M : Type 1} → statement M
+show-row-spec =
+    tie.close
+    (tie.spec
+    Inv-loop
+    μ-loop
+    loop-holds
+    entry-at-requires
+    show-register-requires
+    add-r
+    loop-less
+    loop-again
+    slice-aggregate-show-note
+    show-note-requires
+    returns)
