@@ -15,8 +15,10 @@ from script import Problem
 BINUTILS = "sparc64-linux-gnu-"
 SECONDS = 30  # for a tool to end
 SOURCE = "routine.s"
-# Of an object file: 32-bit, most significant byte first, version 1; relocatable; SPARC.
-IDENT, RELOCATABLE, SPARC = b"\x7fELF\1\2\1", 1, 2
+# The processor by the edition, as the assembler and the disassembler call it.
+PROCESSORS = {script.OLDER: ("-Av8", "sparc"), script.NEWER: ("-Av8plus", "sparc:v8plus")}
+# Of an object file: 32-bit, most significant byte first, version 1; relocatable; SPARC, and the newer one with 32-bit addresses.
+IDENT, RELOCATABLE, SPARC = b"\x7fELF\1\2\1", 1, (2, 18)
 HEADER = struct.Struct(">16sHHIIIIIHHHHHH")
 SECTION = struct.Struct(">10I")
 SYMBOL = struct.Struct(">IIIBBH")
@@ -26,6 +28,8 @@ LOADED = 2                              # a flag of sections
 LABEL_TYPES = (0, 2)                    # types of symbols: none, function
 COMMON = 0xFFF2                         # the section of a symbol that .comm makes
 RETURN, NEVER = 0x81C3E008, 0           # retl; the condition of bn
+# In a predicted branch, its codes: the 32-bit ones and the 64-bit ones.
+ICC, XCC = 0, 2
 # V8's privileged instructions: their names, by format and opcode.
 PRIVILEGED = {
     (2, 0x29): "rd %psr", (2, 0x2A): "rd %wim", (2, 0x2B): "rd %tbr",
@@ -67,15 +71,15 @@ def run(tool, *arguments, **more):
                       "(Debian: binutils-sparc64-linux-gnu)") from None
 
 
-def assemble(folder):
+def assemble(folder, edition=script.OLDER):
     """The words of the folder's routine, and the word of each label."""
     source = script.read_lines(os.path.join(folder, SOURCE))
     with tempfile.TemporaryDirectory() as scratch:
         built = os.path.join(scratch, "routine.o")
-        done = run("as", "-32", "-Av8", "-o", built, input="\n".join(source).encode(), cwd=folder)
+        done = run("as", "-32", PROCESSORS[edition][0], "-o", built, input="\n".join(source).encode(), cwd=folder)
         said = done.stderr.decode("utf-8", "backslashreplace")
         if done.returncode != 0 or said.strip():
-            raise Problem(as_messages(said, done.returncode))
+            raise Problem(as_messages(said, done.returncode) + edition_hint(said, edition))
         try:
             data = script.read_bytes(built)
         except Problem as problem:
@@ -99,43 +103,62 @@ def as_messages(said, status):
     return "\n".join(messages) or f"{BINUTILS}as ends with status {status} and says nothing"
 
 
-def disassemble(words):
+def edition_hint(said, edition):
+    """What to do where the assembler asks for a newer processor than the one that it was told."""
+    asked = edition == script.OLDER and "requested architecture is v8" in said
+    return "\n(the older terminal has no such instruction; `--edition 9` is for the newer one)" if asked else ""
+
+
+def disassemble(words, edition=script.OLDER):
     """The text of each word; branch targets as word numbers. None without objdump."""
     with tempfile.NamedTemporaryFile(suffix=".bin") as raw:
         raw.write(b"".join(struct.pack(">I", word) for word in words))
         raw.flush()
         try:
-            done = run("objdump", "-b", "binary", "-m", "sparc", "-EB", "-D", "-z", raw.name)
+            done = run("objdump", "-b", "binary", "-m", PROCESSORS[edition][1], "-EB", "-D", "-z", raw.name)
         except Problem:
             return None
     lines = re.findall(r"^ *[0-9a-f]+:\t(?:[0-9a-f]{2} ){4}\t(.*)$", done.stdout.decode("utf-8", "replace"), re.M)
     texts = [" ".join(text.split("!")[0].split()) for text in lines]
     if done.returncode != 0 or len(texts) != len(words):
         return None
-    return [with_target(index, word, text) for index, (word, text) in enumerate(zip(words, texts))]
+    return [with_target(index, word, text, edition) for index, (word, text) in enumerate(zip(words, texts))]
 
 
-def target_of(index, word):
-    """The word that a Bicc at index may go to; None for other words."""
+def predicted_codes(word):
+    """The codes of a predicted branch on integer codes, bits 21 and 20; None for other words."""
+    return word >> 20 & 3 if word >> 30 == 0 and word >> 22 & 7 == 1 else None
+
+
+def is_predicted(word, edition):
+    """Whether a word is read as a predicted branch."""
+    return edition == script.NEWER and predicted_codes(word) == ICC
+
+
+def target_of(index, word, edition=script.OLDER):
+    """The word that a branch at index may go to; None for other words."""
+    if is_predicted(word, edition):
+        distance = word & 0x7FFFF
+        return index + distance - (distance >> 18 << 19)
     if word >> 30 != 0 or word >> 22 & 7 != 2:
         return None
     distance = word & 0x3FFFFF
     return index + distance - (distance >> 21 << 22)
 
 
-def is_transfer(word):
-    """Whether a word is a Bicc or the return, so that the word after it is its slot."""
-    return word == RETURN or target_of(0, word) is not None
+def is_transfer(word, edition=script.OLDER):
+    """Whether a word is a branch or the return, so that the word after it is its slot."""
+    return word == RETURN or target_of(0, word, edition) is not None
 
 
-def landings(words):
+def landings(words, edition=script.OLDER):
     """The slots that branches land on, each with the words of these branches. (A slot that is a branch or return is
     refused, and has none here.)"""
     found = {}
     for index, word in enumerate(words):
-        target = target_of(index, word)
-        inside = target is not None and 0 < target < len(words)
-        if inside and word >> 25 & 15 != NEVER and is_transfer(words[target - 1]) and not is_transfer(words[target]):
+        target = target_of(index, word, edition)
+        inside = target is not None and 0 < target < len(words) and word >> 25 & 15 != NEVER
+        if inside and is_transfer(words[target - 1], edition) and not is_transfer(words[target], edition):
             found.setdefault(target, []).append(index)
     return found
 
@@ -146,9 +169,15 @@ def branches_text(branches):
     return f"words {', '.join(map(str, first))} and {last} branch" if first else f"word {last} branches"
 
 
-def with_target(index, word, text):
-    target = target_of(index, word)
-    return text if target is None else f"{text.split()[0]} to word {target}"
+def with_target(index, word, text, edition):
+    """The text of a branch with the word that it may go to. (The disassembler leaves out the hint `,pt`.)"""
+    target = target_of(index, word, edition)
+    if target is None:
+        return text
+    name = text.split()[0]
+    if is_predicted(word, edition):
+        name = name.removesuffix(",pn").removesuffix(",pt") + (",pt" if word >> 19 & 1 else ",pn") + " %icc"
+    return f"{name} to word {target}"
 
 
 # The object file. A section is (name, type, flags, data, size, link, info), a symbol (name, value, type, section).
@@ -163,7 +192,7 @@ def words_in(data, source):
         text = next((k for k, section in enumerate(sections) if section[0] == ".text"), None)
         refuse_relocations([each[1:] for each in relocated if each[0] == text], sections, symbols, source)
     except (struct.error, IndexError, UnicodeDecodeError):
-        raise Problem(f"what {BINUTILS}as gives is no object file for SPARC V8") from None
+        raise Problem(f"what {BINUTILS}as gives is no object file for SPARC") from None
     code = b"" if text is None else sections[text][3]
     if len(code) % 4:
         raise Problem(f"{SOURCE} gives {len(code)} bytes, which are no whole words")
@@ -187,7 +216,7 @@ def name_at(names, at):
 
 def sections_in(data):
     ident, kind, machine, _, _, _, at, _, _, _, _, _, count, names = HEADER.unpack_from(data)
-    if (ident[:7], kind, machine) != (IDENT, RELOCATABLE, SPARC):
+    if (ident[:7], kind) != (IDENT, RELOCATABLE) or machine not in SPARC:
         raise struct.error("header")
     heads = [SECTION.unpack_from(data, at + SECTION.size * k) for k in range(count)]
     held = [b"" if kind == EMPTY else part(data, start, size) for _, kind, _, _, start, size, *_ in heads]

@@ -1,8 +1,11 @@
 #!/usr/bin/env python3
 """bundle.py: makes the bundle of a routine from readable files, or lists it.
 
-    tools/bundle.py FOLDER            reads FOLDER/routine.s, policy.txt and rows.txt, writes FOLDER/bundle.bin
-    tools/bundle.py --list FOLDER     prints each word of FOLDER/bundle.bin with its disassembly and its row
+    tools/bundle.py FOLDER               reads FOLDER/routine.s, policy.txt and rows.txt, writes FOLDER/bundle.bin
+    tools/bundle.py --list FOLDER        prints each word of FOLDER/bundle.bin with its disassembly and its row
+    tools/bundle.py --edition 9 ..       for the newer terminal, which follows SPARC Version 9; 8 is the older one
+
+Without --edition it is the one in FOLDER/edition, a line with 8 or 9; without that file, 8.
 
 To make a bundle needs GNU as for SPARC (Debian: binutils-sparc64-linux-gnu); to list one, its objdump for
 the disassembly, which is left out otherwise. It writes down what the files say and does not check it: to
@@ -13,7 +16,7 @@ The files are UTF-8. In policy.txt and rows.txt, `#` begins a comment and an ind
 line above, except that each `field` is a line of its own. Numbers are decimal, or hexadecimal after 0x.
 
 routine.s
-    for `as -32 -Av8`: words in .text alone, with nothing left for a linker
+    for `as -32 -Av8`, or -Av8plus for edition 9: words in .text alone, with nothing left for a linker
 
 policy.txt
     region NAME SIZE
@@ -324,9 +327,9 @@ def set_of(text):
     return step, lo, hi
 
 
-def read_rows(path, names, labels, words):
+def read_rows(path, names, labels, words, edition):
     """Entry row, result entry, rows."""
-    rows, name = Rows(names, labels, len(words), assembly.landings(words)), os.path.basename(path)
+    rows, name = Rows(names, labels, len(words), assembly.landings(words, edition)), os.path.basename(path)
     for first, last, text in lines_of(path):
         at_lines(path, first, last, rows.add, text)
     for key in ("entry", "result"):
@@ -335,41 +338,41 @@ def read_rows(path, names, labels, words):
     lacking = [word for word in range(len(words)) if word not in rows.rows]
     if lacking:
         raise Problem(f"{name} has no row for {len(lacking)} of the {len(words)} words, from {rows.called(lacking[0])} on\n"
-                      + "\n".join(word_lines(words, labels, lacking)[:MOST_LISTED]))
+                      + "\n".join(word_lines(words, labels, lacking, edition)[:MOST_LISTED]))
     return rows.named["entry"], rows.named["result"], list(rows.rows.values())
 
 
-def words_shown(words, labels):
+def words_shown(words, labels, edition):
     """Each word with its number, its labels and, if there is a disassembler, its text."""
     names = ["".join(f"{label}: " for label, at in labels.items() if at == k) for k in range(len(words))]
-    texts, wide = assembly.disassemble(words), max(map(len, names), default=0)
+    texts, wide = assembly.disassemble(words, edition), max(map(len, names), default=0)
     return [f"{k:3}  {names[k]:<{wide}}{word:08X}" + (f"  {texts[k]:<32}" if texts else "") for k, word in enumerate(words)]
 
 
-def word_lines(words, labels, lacking):
+def word_lines(words, labels, lacking, edition):
     """Each word as it is shown; those without a row are marked."""
-    return [f"  {text}  {'<- no row' if k in lacking else ''}".rstrip() for k, text in enumerate(words_shown(words, labels))]
+    return [f"  {text}  {'<- no row' if k in lacking else ''}".rstrip() for k, text in enumerate(words_shown(words, labels, edition))]
 
 
 # Bundle
 
-def bundle_of(folder):
+def bundle_of(folder, edition):
     """The bundle of a folder's three files."""
     regions = read_policy(os.path.join(folder, "policy.txt"))
-    words, labels = assembly.assemble(folder)
+    words, labels = assembly.assemble(folder, edition)
     if len(words) > layout.ROOM_WORDS:
         raise Problem(f"routine.s has {len(words)} words: a bundle has room for {layout.ROOM_WORDS}")
     names = [name for name, _, _ in regions]
-    entry, result, rows = read_rows(os.path.join(folder, "rows.txt"), names, labels, words)
+    entry, result, rows = read_rows(os.path.join(folder, "rows.txt"), names, labels, words, edition)
     return layout.bundle_bytes(unnamed(regions), entry, result, words, rows)
 
 
-def make(folder):
+def make(folder, edition):
     """Writes a folder's bundle. The one of before is gone first, so that it is never taken for the new one."""
     path = os.path.join(folder, "bundle.bin")
     if os.path.lexists(path):
         os.remove(path)
-    data = bundle_of(folder)
+    data = bundle_of(folder, edition)
     try:
         with open(path + ".new", "wb") as file:
             file.write(data)
@@ -429,12 +432,12 @@ def row_text(row, names):
     return ", ".join(parts + ([note_text(note)] if note != NO_NOTE else [])) or "all unset"
 
 
-def listing(folder):
+def listing(folder, edition):
     policy, entry, result, words, rows = read_bundle(os.path.join(folder, "bundle.bin"))
     named, lines = names_of(folder, policy)
     names = [name for name, _ in named]
     lines += [f"entry: {row_text(entry, names)}", f"result: {entry_text(result, names)}"]
-    texts = assembly.disassemble(words)
+    texts = assembly.disassemble(words, edition)
     if texts is None:
         lines.insert(0, "(no disassembly: objdump of GNU binutils for SPARC is not here)")
     for index, word in enumerate(words):
@@ -444,16 +447,18 @@ def listing(folder):
 
 
 def main(arguments):
-    listed = arguments[:1] == ["--list"]
-    folders = arguments[1:] if listed else arguments
+    told, others = script.taken_edition(arguments)
+    listed = others[:1] == ["--list"]
+    folders = others[1:] if listed else others
     if len(folders) != 1 or folders[0].startswith("-"):
         raise Problem("call it as `bundle.py FOLDER` or `bundle.py --list FOLDER`; `bundle.py --help` says more")
     if not os.path.isdir(folders[0]):
         raise Problem(f"{folders[0]} is no folder")
+    edition = script.edition_of(folders[0], told)
     if listed:
-        print(listing(folders[0]))
+        print(listing(folders[0], edition))
     else:
-        make(folders[0])
+        make(folders[0], edition)
 
 
 if __name__ == "__main__":

@@ -3,6 +3,9 @@
 
     tools/explain.py FOLDER          FOLDER as for bundle.py, with its bundle.bin
     tools/explain.py BUNDLE          a bundle alone; regions and fields are then named by number
+    tools/explain.py --edition 9 ..  on the newer terminal, which follows SPARC Version 9; 8 is the older one
+
+Without --edition it is the one in FOLDER/edition, a line with 8 or 9; without that file, 8.
 
 Prints the answer, the entry of its number in docs/CARD.md, and then what in the bundle it is about: the word (disassembled
 by GNU binutils for SPARC, if that is here), its operands, the region's fields and the bytes reached; for 12 and 14 the way,
@@ -10,8 +13,8 @@ what was narrowed on it or why nothing was, what the word and its slot make of t
 and 18 to 23 the bytes that are badly formed. A slot is shown with the row that its branch or return hands on; or with its own,
 if a branch lands on it and it is refused with that.
 
-All this is found by the program `explain` (target/bin/explain, made by `rt check explain`), which calls the functions of the
-check; this script has the names and the words.
+All this is found by the program `explain` (target/bin/explain, made by `rt check explain`) or, for edition 9, `explain9`, which
+calls the functions of the check; this script has the names and the words.
 """
 import os
 import re
@@ -41,13 +44,14 @@ SERVED_BY = {1: "ldub and stb", 2: "ldsb and stb", 3: "lduh and sth", 4: "ldsh a
 ALU = ["add", "and", "or", "xor", "sub", "andn", "orn", "xnor"]
 OTHER = {"shift": ["sll", "srl", "sra"], "load": ["ld", "ldub", "lduh", "ldsb", "ldsh"], "store": ["st", "stb", "sth"]}
 BRANCHES = ["bn", "be", "ble", "bl", "bleu", "bcs", "bneg", "bvs", "ba", "bne", "bg", "bge", "bgu", "bcc", "bpos", "bvc"]
+HINTS = ["", ",pn", ",pt"]  # none, predicted untaken, taken
 READINGS = ("sethi", "alu", "shift", "load", "store", "branch", "return", "unread")
 TESTS = ["", "the element is none of 1 to 7", "the permission is none of 1 to 3", "the count is 0",
          "the offset is no multiple of the element's width", "it does not end inside its region",
          "lo, hi or target are not what the element allows", "it begins before the field before it ends"]
 
-# What the program says: the answer, items by name (the values of each), and rows by the item that begins them.
-Said = namedtuple("Said", "answer items rows")
+# What the program says: the answer, items by name (the values of each), and rows by the item that begins them; and the edition.
+Said = namedtuple("Said", "answer items rows edition")
 # A row that is said: entries by register, and the note.
 Row = namedtuple("Row", "entries note")
 
@@ -62,6 +66,11 @@ def card_entry(number):
 
 
 # The program
+
+def program_of(name, edition):
+    """The program of a name for a terminal."""
+    return name if edition == script.OLDER else f"{name}{edition}"
+
 
 def is_built(name):
     return os.path.exists(os.path.join(PROGRAMS, name))
@@ -80,7 +89,7 @@ def unknown(name):
     return Problem(f"target/bin/{name} does not say what is known here: `rt check {name}` builds it anew")
 
 
-def said_of(lines):
+def said_of(lines, edition):
     """The answer and the items."""
     try:
         answer = tuple(int(part) for part in lines[0].split(" "))
@@ -98,9 +107,9 @@ def said_of(lines):
                 row.entries[values[0]] = tuple(values[1:])
             elif name == "note":
                 rows[next(key for key in rows if rows[key] is row)] = row._replace(note=tuple(values))
-        return Said(answer, items, rows)
+        return Said(answer, items, rows, edition)
     except (ValueError, IndexError, AttributeError):
-        raise unknown("explain") from None
+        raise unknown(program_of("explain", edition)) from None
 
 
 def first(said, name):
@@ -153,14 +162,14 @@ def instruction_name(said):
     if kind == "alu":
         return ALU[values[0]] + ("cc" if values[1] else "")
     if kind == "branch":
-        return BRANCHES[values[1]] + (",a" if values[0] else "")
+        return BRANCHES[values[1]] + (",a" if values[0] else "") + HINTS[values[2]]
     return OTHER[kind][values[0]] if kind in OTHER else {"return": "retl"}.get(kind, kind)
 
 
 def words_in(data, said):
     """The words of a bundle as they are disassembled; none if there is no disassembler."""
     words = layout.open_bundle(data)[3]
-    return words, assembly.disassemble(words)
+    return words, assembly.disassemble(words, said.edition)
 
 
 def word_text(data, said, index):
@@ -179,7 +188,7 @@ def slot_text(data, said):
 
 def landing_text(data, said):
     """That these words branch to the word that is named."""
-    return assembly.branches_text(assembly.landings(layout.open_bundle(data)[3])[first(said, "word")[0]])
+    return assembly.branches_text(assembly.landings(layout.open_bundle(data)[3], said.edition)[first(said, "word")[0]])
 
 
 def edge_text(said):
@@ -393,6 +402,19 @@ def flow_reason(data, said):
     return "its edges do not end where they may"
 
 
+def unread_reason(said):
+    """Why a word is not read."""
+    codes, newer = assembly.predicted_codes(first(said, "word")[1]), said.edition == script.NEWER
+    if codes is None:
+        return "this is no instruction of the subset"
+    name = {assembly.ICC: "%icc", assembly.XCC: "%xcc"}.get(codes, f"reserved codes ({codes} in bits 21 and 20)")
+    if newer:
+        return f"this is a predicted branch on {name}, and only %icc is read: compare 32-bit values and branch on %icc"
+    if codes == assembly.ICC:
+        return "this is a predicted branch, which only the newer terminal reads: write it without prediction, or load it there"
+    return f"this is a predicted branch on {name}: write it without prediction (or, for the newer terminal, on %icc)"
+
+
 # What is badly formed
 
 def raw_text(raw):
@@ -448,7 +470,7 @@ def detail_lines(data, names, said):
         return form_lines(names, said)
     lines = [word_text(data, said, word)]
     if number == 2:
-        return lines + ["wrong: this is no instruction of the subset"]
+        return lines + ["wrong: " + unread_reason(said)]
     if number == 24:
         name = assembly.PRIVILEGED[assembly.opcode_of(first(said, "word")[1])]
         return lines + [f"wrong: this is {name}, which only the supervisor may run"]
@@ -467,24 +489,25 @@ def policy_of(data):
         return None
 
 
-def explained(data, names, remarks):
+def explained(data, names, remarks, edition):
     """The answer to a bundle, the card's entry and what in the bundle the answer is about, line by line."""
-    said = said_of(run_program("explain", data))
+    said = said_of(run_program(program_of("explain", edition), data), edition)
     lines = ["{} {} {}".format(*said.answer), card_entry(said.answer[0])]
     return lines + ([""] + remarks + detail_lines(data, names, said) if said.answer[0] else [])
 
 
-def explain(path):
+def explain(path, edition):
     folder = os.path.isdir(path)
     data = script.read_bytes(os.path.join(path, "bundle.bin") if folder else path)
     names, remarks = bundle.names_of(path, policy_of(data)) if folder else ([], [])
-    return "\n".join(explained(data, names, remarks))
+    return "\n".join(explained(data, names, remarks, edition))
 
 
 def main(arguments):
-    if len(arguments) != 1:
+    told, paths = script.taken_edition(arguments)
+    if len(paths) != 1:
         raise Problem("call it as `explain.py FOLDER`, or with a bundle for FOLDER; `explain.py --help` says more")
-    print(explain(arguments[0]))
+    print(explain(paths[0], script.edition_of(paths[0], told)))
 
 
 if __name__ == "__main__":

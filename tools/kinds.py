@@ -4,6 +4,9 @@
     tools/kinds.py FOLDER            FOLDER as for bundle.py; of rows.txt the line `entry:` alone is read
     tools/kinds.py BUNDLE            a bundle; its rows and its result entry are not looked at
     tools/kinds.py --table ..        a letter for each of the 32 registers, in place of names and words
+    tools/kinds.py --edition 9 ..    on the newer terminal, which follows SPARC Version 9; 8 is the older one
+
+Without --edition it is the one in FOLDER/edition, a line with 8 or 9; without that file, 8.
 
 Of FOLDER it reads routine.s and policy.txt (see `bundle.py --help`) and of rows.txt one line, with what the terminal hands
 over:
@@ -23,7 +26,8 @@ other: `.` not reached, `n` number, `a` address, `z` address or null, `r` return
 A routine that cannot be listed (23, 18 to 21, 2, 24 and 3, as in the check) is explained as by explain.py.
 
 The kinds are found by the program `kinds` (target/bin/kinds, made by `rt check kinds`), the reason of a refusal by the
-program `explain` (made by `rt check explain`); this script has the names and the words.
+program `explain` (made by `rt check explain`), or by `kinds9` and `explain9` for edition 9; this script has the names and the
+words.
 """
 import os
 import re
@@ -60,10 +64,10 @@ def entry_in(path, names, labels, count):
     return rows.named["entry"]
 
 
-def of_folder(folder):
+def of_folder(folder, edition):
     """The bundle of a folder, with nothing in its rows and its result entry; the labels; the names of regions and fields."""
     regions = bundle.read_policy(os.path.join(folder, "policy.txt"))
-    words, labels = assembly.assemble(folder)
+    words, labels = assembly.assemble(folder, edition)
     if len(words) > MOST_WORDS:
         raise Problem(f"routine.s has {len(words)} words, and a routine has at most {MOST_WORDS}")
     entry = entry_in(os.path.join(folder, "rows.txt"), [name for name, _, _ in regions], labels, len(words))
@@ -94,11 +98,12 @@ def marks_of(lines, words):
     return ["".join(m.groups()[2:]) for m in matches]
 
 
-def refusal_lines(answer, data, names):
+def refusal_lines(answer, data, names, edition):
     """A refusal: the card's entry, and what it is about. The check refuses with the same where there is nothing in the rows."""
-    if not explain.is_built("explain"):
-        return [answer, explain.card_entry(int(answer.split()[0])), "", "(`rt check explain` builds the program that says more)"]
-    lines = explain.explained(without_rows(data), names, [])
+    program = explain.program_of("explain", edition)
+    if not explain.is_built(program):
+        return [answer, explain.card_entry(int(answer.split()[0])), "", f"(`rt check {program}` builds the program that says more)"]
+    lines = explain.explained(without_rows(data), names, [], edition)
     if lines[0] != answer:
         raise explain.unknown("kinds")
     return lines
@@ -121,32 +126,33 @@ def slot_text(branches):
     return f"  (slot; {assembly.branches_text(branches)} to it)" if branches else "  (slot)"
 
 
-def listing_lines(words, labels, marks, table):
+def listing_lines(words, labels, marks, table, edition):
     """Each word with its kinds; a slot is called one, with the words that branch to it."""
     text = groups_text if table else kinds_text
-    slots, landings = [False] + [assembly.is_transfer(word) for word in words], assembly.landings(words)
+    slots, landings = [False] + [assembly.is_transfer(word, edition) for word in words], assembly.landings(words, edition)
     lines = [f"{shown}  {text(letters)}{slot_text(landings.get(k)) if slots[k] else ''}"
-             for k, (shown, letters) in enumerate(zip(bundle.words_shown(words, labels), marks))]
+             for k, (shown, letters) in enumerate(zip(bundle.words_shown(words, labels, edition), marks))]
     head = "%g0 to %g7, %o0 to %o7, %l0 to %l7, %i0 to %i7: " + ", ".join(f"{letter} {name}" for letter, name in LETTERS.items())
     return ([head] if table else []) + lines
 
 
-def listing(path, table):
-    data, labels, names = of_folder(path) if os.path.isdir(path) else (script.read_bytes(path), {}, [])
-    lines = explain.run_program("kinds", data)
+def listing(path, table, edition):
+    data, labels, names = of_folder(path, edition) if os.path.isdir(path) else (script.read_bytes(path), {}, [])
+    lines = explain.run_program(explain.program_of("kinds", edition), data)
     if len(lines) == 1 and ANSWER.fullmatch(lines[0]):
-        return "\n".join(refusal_lines(lines[0], data, names))
+        return "\n".join(refusal_lines(lines[0], data, names, edition))
     words = layout.open_bundle(data)[3]
-    return "\n".join(listing_lines(words, labels, marks_of(lines, words), table))
+    return "\n".join(listing_lines(words, labels, marks_of(lines, words), table, edition))
 
 
 def main(arguments):
-    table = arguments[:1] == ["--table"]
-    paths = arguments[1:] if table else arguments
+    told, others = script.taken_edition(arguments)
+    table = others[:1] == ["--table"]
+    paths = others[1:] if table else others
     if len(paths) != 1 or paths[0].startswith("-"):
         raise Problem("call it as `kinds.py FOLDER` or `kinds.py --table FOLDER`, or with a bundle for FOLDER; "
                       "`kinds.py --help` says more")
-    print(listing(paths[0], table))
+    print(listing(paths[0], table, script.edition_of(paths[0], told)))
 
 
 if __name__ == "__main__":

@@ -1,4 +1,5 @@
-"""script.py: how the scripts are run: their help, the files that they read, and what they say of a problem.
+"""script.py: how the scripts are run: their help, the edition that they are told, the files that they read, and what they say
+of a problem.
 
 Files are UTF-8 and so is what a script prints, whatever the locale. A script ends with status 0, or says what is wrong
 on standard error, in a line that begins with its name, and ends with status 1.
@@ -9,6 +10,7 @@ import sys
 
 MOST_BYTES = 2**20  # of a file that is read
 MOST_SHOWN = 400    # letters of a line that says what is wrong
+OLDER, NEWER = 8, 9  # the terminals, by the version of the SPARC manual that they follow
 
 
 class Problem(Exception):
@@ -57,6 +59,31 @@ def shown(message):
     """A message with no line too long to read, and with nothing in it that a terminal would obey."""
     lines = [line if len(line) <= MOST_SHOWN else line[:MOST_SHOWN] + " .." for line in message.split("\n")]
     return "\n".join("".join(c if c.isprintable() else ascii(c)[1:-1] for c in line) for line in lines)
+
+
+# The edition
+
+def taken_edition(arguments):
+    """The edition that `--edition 8` or `--edition 9` tells, None without it, and the other arguments."""
+    if "--edition" not in arguments:
+        return None, arguments
+    at = arguments.index("--edition")
+    return edition_named(arguments[at + 1:at + 2], "--edition"), arguments[:at] + arguments[at + 2:]
+
+
+def edition_named(words, what):
+    for edition in (OLDER, NEWER):
+        if words == [str(edition)]:
+            return edition
+    raise Problem(f"{what} is {OLDER}, the older terminal, or {NEWER}, the newer one")
+
+
+def edition_of(path, told=None):
+    """The edition that was told; if none was, that of the file `edition` in a folder, or the older one."""
+    file = os.path.join(path, "edition")
+    if told is None and os.path.lexists(file):
+        return edition_named(" ".join(read_lines(file)).split(), "the line of the file edition")
+    return told or OLDER
 
 
 # Files

@@ -7,8 +7,8 @@ Holds bundle.py, explain.py and kinds.py against the examples, and tries on them
 assembler, an answer or the place where they run: each must be said in a line with the file and the line, with status 1.
 Sees that each script says what it does when asked for help, and does nothing else.
 
-What needs GNU binutils for SPARC or a program (target/bin/answer, explain or kinds) is left out where that is not here, and
-this is said. The last line is `N passed, 0 failed`, with the number of those left out if there are any; the status is 0 if
+What needs GNU binutils for SPARC or a program (target/bin/answer, explain or kinds, and answer9, explain9 or kinds9) is left out
+where that is not here, and this is said. The last line is `N passed, 0 failed`, with the number of those left out if there are any; the status is 0 if
 none failed.
 """
 import contextlib
@@ -24,6 +24,7 @@ import tempfile
 sys.dont_write_bytecode = True
 import assembly
 import bundle
+import explain
 import kinds
 import layout
 import parts
@@ -35,6 +36,7 @@ ROOT = os.path.dirname(TOOLS)
 EXAMPLES = os.path.join(ROOT, "examples")
 NAMES = sorted(name for name in os.listdir(EXAMPLES) if os.path.isdir(os.path.join(EXAMPLES, name)))
 ANSWER, EXPLAIN, KINDS = (os.path.join(ROOT, "target", "bin", program) for program in ("answer", "explain", "kinds"))
+ANSWER_9, EXPLAIN_9, KINDS_9 = (program + "9" for program in (ANSWER, EXPLAIN, KINDS))
 PATH = os.environ.get("PATH", "")
 AS, OBJDUMP = (assembly.BINUTILS + tool for tool in ("as", "objdump"))
 CASES = []
@@ -49,6 +51,11 @@ def cases(*needs):
 
 
 # Files and tools
+
+def of_edition(edition):
+    """The examples for a terminal."""
+    return [name for name in NAMES if script.edition_of(os.path.join(EXAMPLES, name)) == edition]
+
 
 def read(*path):
     with open(os.path.join(*path), "rb") as file:
@@ -221,7 +228,16 @@ def examples_are_listed():
 
 @cases(EXPLAIN)
 def examples_are_explained():
-    for name in NAMES:
+    yield from explained(of_edition(8))
+
+
+@cases(EXPLAIN_9)
+def examples_are_explained_on_the_newer():
+    yield from explained(of_edition(9))
+
+
+def explained(names):
+    for name in names:
         answer = read(EXAMPLES, name, "answer.txt").decode()
         status, out, said = called("explain.py", os.path.join(EXAMPLES, name))
         found = "\nwrong: " in out or answer == "0 0 0\n"
@@ -229,11 +245,25 @@ def examples_are_explained():
         yield f"explain.py explains {name}", status == 0 and found and right and not said, out + said
 
 
+def answer_of(program, name):
+    return subprocess.run([program], input=read(EXAMPLES, name, "bundle.bin"), capture_output=True).stdout
+
+
 @cases(ANSWER)
 def examples_are_answered():
-    for name in NAMES:
-        out = subprocess.run([ANSWER], input=read(EXAMPLES, name, "bundle.bin"), capture_output=True).stdout
+    for name in of_edition(8):
+        out = answer_of(ANSWER, name)
         yield f"the bundle program answers {name}", out == read(EXAMPLES, name, "answer.txt"), out.decode()
+    for name in of_edition(9):
+        out = answer_of(ANSWER, name)
+        yield f"the older terminal does not read {name}", out == b"2 4 0\n", out.decode()
+
+
+@cases(ANSWER_9)
+def examples_are_answered_on_the_newer():
+    for name in NAMES:
+        out = answer_of(ANSWER_9, name)
+        yield f"the newer terminal's bundle program answers {name}", out == read(EXAMPLES, name, "answer.txt"), out.decode()
 
 
 @cases(OBJDUMP)
@@ -241,10 +271,12 @@ def text_shows_what_is_printed():
     """What examples/README.md shows of the tools."""
     text = read(EXAMPLES, "README.md").decode()
     for command, shown in re.findall(r"^    \$ tools/((?:explain|kinds)\.py .*)\n((?:    .+\n)+)", text, re.M):
-        tool, folder = command.split()
-        if not os.path.exists(EXPLAIN if tool == "explain.py" else KINDS):
+        tool, *options, folder = command.split()
+        told, _ = script.taken_edition(options)
+        edition = script.edition_of(os.path.join(ROOT, folder), told)
+        if not explain.is_built(explain.program_of(tool.removesuffix(".py"), edition)):
             continue
-        _, out, _ = called(tool, os.path.join(ROOT, folder))
+        _, out, _ = called(tool, *options, os.path.join(ROOT, folder))
         lines = [line[4:] for line in shown.splitlines() if line != "    .."]
         yield f"examples/README.md shows {command}", "\n".join(lines) in out, out
 
@@ -422,7 +454,7 @@ def rows_that_are_missing():
 
 # What is wrong with the assembler
 
-NONE = "what sparc64-linux-gnu-as gives is no object file for SPARC V8"
+NONE = "what sparc64-linux-gnu-as gives is no object file for SPARC"
 DATA = (".data", 1, 3, b"1234")
 OBJECTS = [
     ("an empty object file", b"", NONE),
@@ -532,7 +564,7 @@ def kinds_of(files, data=OBJECT, *options):
 @cases(KINDS)
 def kinds_of_examples():
     yield "crates/kinds/stdin is an example", read(ROOT, "crates", "kinds", "stdin") == read(EXAMPLES, "name", "bundle.bin"), ""
-    for name in NAMES:
+    for name in of_edition(8):
         data = read(EXAMPLES, name, "bundle.bin")
         with example(name) as folder:
             path = os.path.join(folder, "bundle.bin")
@@ -679,6 +711,130 @@ def kinds_of_slots():
     yield "kinds.py says which slot a branch lands on", (status, slots, said) == (0, expected, ""), out + said
 
 
+# The newer terminal
+
+NET = words_of("net")
+PREDICTED, UNREAD = 0x10480003, 0x10680003  # ba,pt to the third word from here, on %icc and on %xcc
+
+
+def with_word(word, name="net"):
+    """The bundle of an example with another word 8."""
+    policy, entry, result, words, rows = layout.open_bundle(read(EXAMPLES, name, "bundle.bin"))
+    return layout.bundle_bytes(policy, entry, result, words[:8] + [word] + words[9:], rows)
+
+
+@cases()
+def editions_that_are_told():
+    for arguments, expected in [(["a"], (None, ["a"])), (["--edition", "9", "a"], (9, ["a"])), (["a", "--edition", "8"], (8, ["a"]))]:
+        yield f"the edition in {arguments}", script.taken_edition(arguments) == expected, ""
+    for arguments in [["--edition"], ["--edition", "7"], ["a", "--edition", "v9"]]:
+        yield f"no edition in {arguments}", refused(script.taken_edition, arguments), ""
+    with example() as folder:
+        yield "a folder without a file edition", script.edition_of(folder) == 8, ""
+        for text, told, expected in [(b"9\n", None, 9), (b"8\r\n", None, 8), (b"9\n", 8, 8), (b"v9\n", 9, 9)]:
+            write(text, folder, "edition")
+            yield f"a file edition with {text}, told {told}", script.edition_of(folder, told) == expected, ""
+        for text in (b"", b"v9\n", b"9 9\n", b"7\n"):
+            write(text, folder, "edition")
+            said = problem_of(folder)
+            yield f"a file edition with {text}", "edition is" in said and "8, the older terminal, or 9" in said or said == "edition is empty", said
+    for name in of_edition(9):
+        yield f"{name} has its edition", read(EXAMPLES, name, "edition") == b"9\n", ""
+    for program, name in (("answer9", "net"), ("kinds9", "net"), ("explain9", "net-unsigned")):
+        yield f"crates/{program}/stdin is an example", read(ROOT, "crates", program, "stdin") == read(EXAMPLES, name, "bundle.bin"), ""
+
+
+@cases()
+def predicted_branches():
+    for what, word, older, newer in [
+            ("bl,a,pn %icc", NET[4], None, 6), ("bne,pt %icc", NET[8], None, -3), ("the same on %xcc", words_of("net-xcc")[8], None, None),
+            ("the longest way back", 0x12440000, None, 4 - 2**18), ("the longest way on", 0x1243FFFF, None, 4 + 2**18 - 1),
+            ("bne", 0x12BFFFFD, 1, 1), ("brz,pt", 0x02F87FFD, None, None), ("sethi", parts.NOP, None, None)]:
+        given = assembly.target_of(4, word), assembly.target_of(4, word, 9)
+        yield f"the target of {what}", given == (older, newer), repr(given)
+    for what, words, older, newer in [
+            ("a predicted branch to a slot", [PREDICTED, parts.NOP, parts.RETURN, parts.NOP], {}, {3: [0]}),
+            ("the slot of a predicted branch", [BRANCH, parts.NOP, PREDICTED, parts.NOP, parts.NOP, parts.NOP], {}, {3: [0]}),
+            ("a branch on %xcc", [UNREAD, parts.NOP, parts.RETURN, parts.NOP], {}, {})]:
+        given = assembly.landings(words), assembly.landings(words, 9)
+        yield f"slots that branches land on: {what}", given == (older, newer), repr(given)
+    data = object_file(NET, [("next", 1), ("keep", 6)])
+    for what, machine in (("V8", 2), ("V9 with 32-bit addresses", 18)):
+        words, _ = assembly.words_in(data[:18] + struct.pack(">H", machine) + data[20:], [])
+        yield f"an object file for {what}", words == NET, ""
+
+
+@cases(AS)
+def editions_of_the_assembler():
+    with example("net") as folder:
+        said = problem_of("--edition", "8", folder)
+        right = said.startswith("routine.s, line 9: Architecture mismatch") and "`--edition 9` is for the newer one" in said
+        yield "predicted branches for the older terminal", right and "bundle.bin" not in os.listdir(folder), said
+        os.remove(os.path.join(folder, "edition"))
+        right = problem_of("--edition", "9", folder) == "" and read(folder, "bundle.bin") == read(EXAMPLES, "net", "bundle.bin")
+        yield "predicted branches for the newer terminal", right, ""
+    with routine() as folder:
+        right = problem_of("--edition", "9", folder) == "" and read(folder, "bundle.bin") == read(EXAMPLES, "name", "bundle.bin")
+        yield "the words of a routine without them are the same", right, ""
+
+
+@cases(OBJDUMP)
+def predicted_branches_are_shown():
+    for words, expected in [(NET, {4: "bl,a,pn %icc to word 6", 8: "bne,pt %icc to word 1"}),
+                            ([0x12BFFFFF, 0x10480002, 0x106FFFFE], {0: "bne to word -1", 1: "b,pt %icc to word 3", 2: "b %xcc, 0x0"})]:
+        texts = assembly.disassemble(words, 9)
+        yield f"the text of {sorted(expected.values())}", {k: texts[k] for k in expected} == expected, repr(texts)
+    yield "the text on the older terminal", assembly.disassemble(NET)[4] == "unknown", ""
+    status, out, said = called("bundle.py", "--list", os.path.join(EXAMPLES, "net"))
+    yield "bundle.py --list takes the folder's edition", status == 0 and "  bne,pt %icc to word 1  " in out, out + said
+
+
+def explained_bundle(data, *options):
+    """What explain.py says of a bundle, with no disassembler."""
+    with example("net") as folder, only_tool("other", ""):
+        write(data, folder, "other.bin")
+        return called("explain.py", *options, os.path.join(folder, "other.bin"))
+
+
+@cases(EXPLAIN)
+def predicted_branches_on_the_older():
+    for what, word, expected in [
+            ("a predicted branch", NET[8], "wrong: this is a predicted branch, which only the newer terminal reads: write it without prediction"),
+            ("one on %xcc", UNREAD, "wrong: this is a predicted branch on %xcc: write it without prediction"),
+            ("one on codes 1", 0x10580003, "wrong: this is a predicted branch on reserved codes (1 in bits 21 and 20)"),
+            ("brz", 0x02F87FFD, "wrong: this is no instruction of the subset")]:
+        policy, entry, result, words, rows = layout.open_bundle(read(EXAMPLES, "name", "bundle.bin"))
+        data = layout.bundle_bytes(policy, entry, result, words[:5] + [word] + words[6:], rows)
+        status, out, said = explained_bundle(data)
+        yield f"explain.py with {what} on the older terminal", out.startswith("2 5 0\n") and expected in out and not said, out + said
+
+
+@cases(EXPLAIN_9)
+def predicted_branches_on_the_newer():
+    for what, data, answer, expected in [
+            ("%xcc", with_word(UNREAD), "2 8 0", ["wrong: this is a predicted branch on %xcc, and only %icc is read: compare 32-bit values"]),
+            ("codes 3", with_word(0x10780003), "2 8 0", ["predicted branch on reserved codes (3 in bits 21 and 20), and only %icc is read"]),
+            ("a hint taken", read(EXAMPLES, "net-unsigned", "bundle.bin"), "12 8 1",
+             ["word 8: 0A4FFFF9  bcs,pt\n", "not narrowed: bcs never narrows", "wrong: 40 is not in 0..36 step 4"]),
+            ("annul and a hint untaken", with_word(0x2A47FFF9), "12 8 1", ["word 8: 2A47FFF9  bcs,a,pn\n"]),
+            ("a target outside", with_word(0x12480004), "3 8 0", ["wrong: its target is word 12, and the code has words 0 to 11"])]:
+        status, out, said = explained_bundle(data, "--edition", "9")
+        right = status == 0 and out.startswith(answer + "\n") and all(text in out for text in expected) and not said
+        yield f"explain.py with {what} on the newer terminal", right, out + said
+
+
+@cases(KINDS_9)
+def kinds_on_the_newer():
+    for name in of_edition(9):
+        path = os.path.join(EXAMPLES, name, "bundle.bin")
+        status, out, said = called("kinds.py", "--edition", "9", path)
+        if name == "net-xcc":
+            yield f"kinds.py refuses {name}", status == 0 and out.startswith("2 8 0\n"), out + said
+        else:
+            slots = [k for k, line in enumerate(out.splitlines()) if line.endswith("  (slot)")]
+            yield f"kinds.py lists {name}", (status, said, slots, out.count("\n")) == (0, "", [5, 9, 11], 12), out + said
+
+
 # Searches for fields
 
 @cases()
@@ -712,7 +868,8 @@ def wrong_calls():
             ("bundle.py", []), ("bundle.py", [name, name]), ("bundle.py", ["--lst", name]), ("bundle.py", [os.path.join(ROOT, "none")]),
             ("bundle.py", [os.path.join(ROOT, "README.md")]), ("bundle.py", ["--list", EXAMPLES]),
             ("explain.py", []), ("explain.py", [name, "7", "6", "10"]), ("explain.py", [os.path.join(ROOT, "none")]),
-            ("explain.py", [EXAMPLES]), ("kinds.py", []), ("kinds.py", ["--table"]), ("kinds.py", [name, name]), ("kinds.py", ["--tabel", name]),
+            ("explain.py", [EXAMPLES]), ("explain.py", ["--edition", "9"]), ("explain.py", ["--edition", "10", name]),
+            ("bundle.py", ["--edition", name]), ("kinds.py", ["--edition", "v9", name]), ("kinds.py", []), ("kinds.py", ["--table"]), ("kinds.py", [name, name]), ("kinds.py", ["--tabel", name]),
             ("kinds.py", [os.path.join(ROOT, "none")]), ("kinds.py", [EXAMPLES]), ("parts.py", ["x"]), ("listings.py", ["x"]), ("vectors.py", ["x"]),
             ("corpus.py", ["x"]), ("corpus.py", ["none", "none"]), ("mutants.py", ["x"]), ("runs.py", ["x", "y"]), ("runs.py", ["none"]), ("speed.py", ["x"]),
             ("tables.py", ["x", "y"]), ("tables.py", ["none"]), ("tables.py", [os.path.join(ROOT, "README.md")]),
