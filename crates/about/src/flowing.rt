@@ -1,10 +1,10 @@
 // A broken flow: the edges of the word, and what stands where they end.
 use crate::items::single;
-use crate::ways::reading_at;
 use crate::ways::show_edge;
 use crate::ways::show_slot;
 use crate::ways::slot_at;
 use flow::edges::edge_of;
+use flow::readings::reading_at;
 use flow::readings::transfers;
 use v8::Instruction;
 use v8::Reading;

@@ -10,6 +10,7 @@ use crate::shown::show_row;
 use checker::change_by;
 use flow::Destination;
 use flow::Edge;
+use flow::readings::reading_at;
 use flow::readings::transfers;
 use output::print;
 use policy::Policy;
@@ -36,7 +37,6 @@ use rules::narrows;
 use v8::Reading;
 use v8::numbers::ACCEPTED;
 use v8::numbers::MOST_WORDS;
-use v8::numbers::NOT_READ;
 use v8::signed::BIAS;
 
 // r8, which has the result.
@@ -188,15 +188,6 @@ pub fn show_end(to: Destination, words: usize, readings: [Reading; MOST_WORDS]) 
         }
         Destination::Caller => bare(b"caller"),
     }
-}
-
-// The reading of a word; not read where there is none.
-pub fn reading_at(readings: [Reading; MOST_WORDS], at: usize) -> Reading {
-    if MOST_WORDS <= at {
-        return Reading::Unread(NOT_READ);
-    }
-    let x = readings[at];
-    x
 }
 
 // Whether a word is a slot, examined as an ordinary word too or not: the word before it is a transfer.
