@@ -95,12 +95,13 @@ fn show_looked(
     let slot = slot_at(readings, at);
     let handed = slot & !edge & by_transfer(policy, readings, rows, result, at);
     let from = looked_at(at, handed);
+    let x = reading_at(readings, from);
     if slot {
         show_slot(at, !handed);
     }
     let row = row_of(rows, from, read_row(rows, 0));
     show_row_of(from, row);
-    match reading_at(readings, from) {
+    match x {
         Reading::Read(i) => {
             if edge | handed {
                 return show_way(policy, rows, result, from, words, readings, i, row);
