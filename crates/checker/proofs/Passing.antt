@@ -9,8 +9,8 @@ use lib.ListN.{length, getD}
 use borrow.Author.Tests.{lt-ltb, le-ltb, eq-eqb, ne-eqb}
 use Rattle.v8.specs.Numbers.{badRow, badFlow}
 use Rattle.v8.specs.declared.Reading.{Reading}
-use Rattle.flow.specs.Readings.{readingAt, transfers, isSlot, Examines}
-use Rattle.flow.specs.Flow.{flowOf}
+use Rattle.flow.specs.Readings.{readingAt, transfers, isSlot, examined, Examines}
+use Rattle.flow.specs.Flow.{flowWith, flowOf}
 use Rattle.flow.proofs.Examined.{slot-next}
 use Rattle.v8.specs.Search.{first}
 use Rattle.v8.proofs.Search.{first-here, first-next, first-end}
@@ -69,9 +69,17 @@ module _ (code : List Reading) (i : ℕ) (x : Reading) (here : x ≡ readingAt c
   unfolding readPass
   read-here a e = e ∙ ap (ifRead i) here
 
-  pub flow-here : (t : Bool) (a : Answer) → t ≡ flowOf code i x → a ≡ need t badFlow i 0 → a ≡ flowPass code i
+  pub flow-here : (n : ℕ) (inSlot ordinary t : Bool) (a : Answer) → n ≡ length code → inSlot ≡ isSlot code i → ordinary ≡ examined code i
+      → t ≡ flowWith n inSlot ordinary i x → a ≡ need t badFlow i 0 → a ≡ flowPass code i
   unfolding flowPass
-  flow-here t a f e = e ∙ ap (λ (b : Bool). need b badFlow i 0) (f ∙ ap (flowOf code i) here)
+  flow-here n inSlot ordinary t a c p q f e = e ∙ ap (λ (b : Bool). need b badFlow i 0) (f ∙ same)
+    where
+      same : flowWith n inSlot ordinary i x ≡ flowOf code i (readingAt code i)
+      same =
+          ap (λ (m : ℕ). flowWith m inSlot ordinary i x) c
+          ∙ ap (λ (b : Bool). flowWith (length code) b ordinary i x) p
+          ∙ ap (λ (b : Bool). flowWith (length code) (isSlot code i) b i x) q
+          ∙ ap (flowOf code i) here
 
   -- the next word is a slot exactly if this one is read as a transfer
   pub slot-here : (t : Bool) → t ≡ transfers x → t ≡ isSlot code (i + 1)

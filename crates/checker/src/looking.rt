@@ -15,7 +15,6 @@ use crate::answers::accept;
 use crate::answers::refuse;
 use crate::arrival::row_at;
 use crate::edges::edges_of;
-use flow::readings::reading_at;
 use policy::Policy;
 use rows::row_with;
 use rules::Change;
@@ -25,6 +24,7 @@ use v8::Reading;
 use v8::WordIndex;
 use v8::numbers::ACCEPTED;
 use v8::numbers::MOST_WORDS;
+use v8::numbers::NOT_READ;
 
 // An instruction in its row: its own conditions, then its edges. Its slot is read as x.
 fn look_at(
@@ -98,8 +98,11 @@ pub fn word_pass(
 {
     let mut i: usize = 0;
     while i < count {
-        let x = reading_at(readings, i);
-        let slot = reading_at(readings, i + 1);
+        let x = readings[i];
+        let mut slot = Reading::Unread(NOT_READ);
+        if i + 1 < MOST_WORDS {
+            slot = readings[i + 1];
+        }
         let found = word_in(policy, rows, result, WordIndex(i as u32), marks[i], x, slot);
         if found.number != ACCEPTED {
             return found;

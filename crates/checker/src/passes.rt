@@ -14,7 +14,6 @@ use crate::answers::need;
 use crate::answers::refuse;
 use crate::answers::unless_fault;
 use flow::flows::flows;
-use flow::readings::reading_at;
 use flow::readings::transfers;
 use policy::Policy;
 use rows::formed_at;
@@ -76,7 +75,8 @@ pub fn read_pass(readings: [Reading; MOST_WORDS], count: usize) -> Answer
 {
     let mut i: usize = 0;
     while i < count {
-        let found = if_read(WordIndex(i as u32), reading_at(readings, i));
+        let x = readings[i];
+        let found = if_read(WordIndex(i as u32), x);
         if found.number != ACCEPTED {
             return found;
         }
@@ -97,13 +97,9 @@ pub fn flow_pass(
     let mut in_slot = false;
     let mut i: usize = 0;
     while i < count {
-        let x = reading_at(readings, i);
+        let x = readings[i];
         let at = WordIndex(i as u32);
-        let found = need(
-            flows(readings, count, at, in_slot, marks[i], x),
-            BAD_FLOW,
-            at,
-        );
+        let found = need(flows(count, at, in_slot, marks[i], x), BAD_FLOW, at);
         if found.number != ACCEPTED {
             return found;
         }

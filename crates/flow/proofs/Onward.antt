@@ -28,7 +28,7 @@ asked : (a b : Bool) → not a || b ≡ true → a ≡ true → b ≡ true
 asked true b e t = e
 asked false b e t = false-true t
 
-in-code : (readings : List Reading) (d : Destination) → inCode readings d ≡ true → InCode readings d
+in-code : (readings : List Reading) (d : Destination) → inCode (length readings) d ≡ true → InCode readings d
 in-code readings (To w) e = ltb-true (w .0) (length readings) e
 in-code readings Caller e = tt
 
@@ -37,19 +37,19 @@ instruction-flows readings w x e =
     record {
       slot = λ t. ltb-true (w + 1) (length readings) (own t .0);
       free = λ t. not-true (isSlot readings w) (own t .1);
-      ends = λ f taken t. in-code readings (edgeOf w x taken .to) (asked (edgeOf w x taken .exists) (inCode readings (edgeOf w x taken .to)) (each f taken) t);
+      ends = λ f taken t. in-code readings (edgeOf w x taken .to) (asked (edgeOf w x taken .exists) (inCode (length readings) (edgeOf w x taken .to)) (each f taken) t);
     }
   where
-    parts : (not (isTransfer x) || transferFlow readings w ≡ true) × (not (examined readings w) || edgesFlow readings w x ≡ true)
-    parts = and-went (not (isTransfer x) || transferFlow readings w) (not (examined readings w) || edgesFlow readings w x) e
+    parts : (not (isTransfer x) || transferFlow (length readings) (isSlot readings w) w ≡ true) × (not (examined readings w) || edgesFlow (length readings) w x ≡ true)
+    parts = and-went (not (isTransfer x) || transferFlow (length readings) (isSlot readings w) w) (not (examined readings w) || edgesFlow (length readings) w x) e
 
     own : isTransfer x ≡ true → (ltb (w + 1) (length readings) ≡ true) × (not (isSlot readings w) ≡ true)
-    own t = and-went (ltb (w + 1) (length readings)) (not (isSlot readings w)) (asked (isTransfer x) (transferFlow readings w) (parts .0) t)
+    own t = and-went (ltb (w + 1) (length readings)) (not (isSlot readings w)) (asked (isTransfer x) (transferFlow (length readings) (isSlot readings w) w) (parts .0) t)
 
-    both : examined readings w ≡ true → (edgeFlow readings (edgeOf w x true) ≡ true) × (edgeFlow readings (edgeOf w x false) ≡ true)
-    both f = and-went (edgeFlow readings (edgeOf w x true)) (edgeFlow readings (edgeOf w x false)) (asked (examined readings w) (edgesFlow readings w x) (parts .1) f)
+    both : examined readings w ≡ true → (edgeFlow (length readings) (edgeOf w x true) ≡ true) × (edgeFlow (length readings) (edgeOf w x false) ≡ true)
+    both f = and-went (edgeFlow (length readings) (edgeOf w x true)) (edgeFlow (length readings) (edgeOf w x false)) (asked (examined readings w) (edgesFlow (length readings) w x) (parts .1) f)
 
-    each : examined readings w ≡ true → (taken : Bool) → edgeFlow readings (edgeOf w x taken) ≡ true
+    each : examined readings w ≡ true → (taken : Bool) → edgeFlow (length readings) (edgeOf w x taken) ≡ true
     each f true = both f .0
     each f false = both f .1
 

@@ -17,10 +17,11 @@ use Rattle.flow.specs.Transfer.{isTransfer}
 use Rattle.flow.specs.Edge.{edgeOf}
 use Rattle.flow.specs.Readings.{isSlot, examined}
 
-module _ (readings : List Reading) where
+-- of n words
+module _ (n : ℕ) where
   -- an edge ends at a word of the code, or at the caller
   abbrev pub inCode : Destination → Bool
-  inCode (To w) = ltb (w .0) (length readings)
+  inCode (To w) = ltb (w .0) n
   inCode Caller = true
 
   -- an edge, if there is one, ends there
@@ -31,10 +32,14 @@ module _ (readings : List Reading) where
   edgesFlow w x = edgeFlow (edgeOf w x true) && edgeFlow (edgeOf w x false)
 
   -- the slot of a transfer is in the code, and it stands in none
-  abbrev pub transferFlow : ℕ → Bool
-  transferFlow w = ltb (w + 1) (length readings) && not (isSlot readings w)
+  abbrev pub transferFlow : Bool → ℕ → Bool
+  transferFlow inSlot w = ltb (w + 1) n && not inSlot
 
-  -- the flow of word w, as it is read: a transfer's, and that of the edges of a word that is examined
-  abbrev pub flowOf : ℕ → Reading → Bool
-  flowOf w (Read x) = (not (isTransfer x) || transferFlow w) && (not (examined readings w) || edgesFlow w x)
-  flowOf w (Unread number) = true
+  -- the flow of word w, in a slot or not, examined or not, as it is read: a transfer's, and that of the edges of a word that is examined
+  abbrev pub flowWith : Bool → Bool → ℕ → Reading → Bool
+  flowWith inSlot ordinary w (Read x) = (not (isTransfer x) || transferFlow inSlot w) && (not ordinary || edgesFlow w x)
+  flowWith inSlot ordinary w (Unread number) = true
+
+-- the flow of word w among the readings
+abbrev pub flowOf : List Reading → ℕ → Reading → Bool
+flowOf readings w x = flowWith (length readings) (isSlot readings w) (examined readings w) w x

@@ -2,11 +2,9 @@
 ghost use mathlib.Core.Path.{_≡_};
 ghost use Prim.Native.Nat.{_<_};
 ghost use lib.Dec.{ltb};
-ghost use lib.ListN.{length};
 ghost use Rattle.v8.specs.Numbers.{mostWords};
 ghost use Rattle.v8.specs.declared.Reading.the-variants.{Read};
-ghost use Rattle.flow.specs.Readings.{isSlot, examined, codeOf, Formed};
-ghost use Rattle.flow.specs.Flow.{edgeFlow, edgesFlow, flowOf};
+ghost use Rattle.flow.specs.Flow.{edgeFlow, edgesFlow, flowWith};
 use crate::Destination;
 use crate::Edge;
 use crate::edges::edge_of;
@@ -14,96 +12,68 @@ use crate::transfer::is_transfer;
 use v8::Instruction;
 use v8::Reading;
 use v8::WordIndex;
-use v8::numbers::MOST_WORDS;
 
 // Whether a word is one of the code.
-fn inside(readings: [Reading; MOST_WORDS], count: usize, at: WordIndex) -> bool
-    requires { ⌜ Formed readings count ⌝ }
-    ensures { λ r. ⌜ r ≡ ltb (at .0) (length (codeOf readings count)) ⌝ }
+fn inside(count: usize, at: WordIndex) -> bool
+    ensures { λ r. ⌜ r ≡ ltb (at .0) count ⌝ }
 {
     let i = at.0 as usize;
     i < count
 }
 
 // Whether an edge, if there is one, ends in the code or at the caller.
-fn edge_flow(readings: [Reading; MOST_WORDS], count: usize, e: Edge) -> bool
-    requires { ⌜ Formed readings count ⌝ }
-    ensures { λ r. ⌜ r ≡ edgeFlow (codeOf readings count) e ⌝ }
+fn edge_flow(count: usize, e: Edge) -> bool
+    ensures { λ r. ⌜ r ≡ edgeFlow count e ⌝ }
 {
     if !e.exists {
         return true;
     }
     let to = e.to;
     match to {
-        Destination::To(at) => inside(readings, count, at),
+        Destination::To(at) => inside(count, at),
         Destination::Caller => true,
     }
 }
 
 // Whether both edges of an instruction do.
-fn edges_flow(readings: [Reading; MOST_WORDS], count: usize, at: WordIndex, x: Instruction) -> bool
-    requires { ⌜ Formed readings count × (at .0 < mostWords) ⌝ }
-    ensures { λ r. ⌜ r ≡ edgesFlow (codeOf readings count) (at .0) x ⌝ }
+fn edges_flow(count: usize, at: WordIndex, x: Instruction) -> bool
+    requires { ⌜ at .0 < mostWords ⌝ }
+    ensures { λ r. ⌜ r ≡ edgesFlow count (at .0) x ⌝ }
 {
-    let taken = edge_flow(readings, count, edge_of(at, x, true));
-    taken & edge_flow(readings, count, edge_of(at, x, false))
+    let taken = edge_flow(count, edge_of(at, x, true));
+    taken & edge_flow(count, edge_of(at, x, false))
 }
 
 // The flow of an instruction, in a slot or not, examined as an ordinary word or not: the slot of a
 // transfer is of the code, and it is in no slot itself; the edges of a word that is examined end where
 // they may.
 fn instruction_flow(
-    readings: [Reading; MOST_WORDS],
     count: usize,
     at: WordIndex,
     in_slot: bool,
     ordinary: bool,
     x: Instruction,
 ) -> bool
-    requires { ⌜
-        Formed readings count
-        × (at .0 < mostWords)
-        × (in_slot ≡ isSlot (codeOf readings count) (at .0))
-        × (ordinary ≡ examined (codeOf readings count) (at .0))
-        ⌝ }
-    ensures { λ r. ⌜ r ≡ flowOf (codeOf readings count) (at .0) (Read x) ⌝ }
+    requires { ⌜ at .0 < mostWords ⌝ }
+    ensures { λ r. ⌜ r ≡ flowWith count in_slot ordinary (at .0) (Read x) ⌝ }
 {
-    let slot = inside(readings, count, WordIndex(at.0 + 1));
+    let slot = inside(count, WordIndex(at.0 + 1));
     if is_transfer(x) & !(slot & !in_slot) {
         return false;
     }
     if !ordinary {
         return true;
     }
-    edges_flow(readings, count, at, x)
+    edges_flow(count, at, x)
 }
 
 // The flow of a word, in a slot or not, examined as an ordinary word or not, read as x.
-pub fn flows(
-    readings: [Reading; MOST_WORDS],
-    count: usize,
-    at: WordIndex,
-    in_slot: bool,
-    ordinary: bool,
-    x: Reading,
-) -> bool
-    requires { ⌜
-        Formed readings count
-        × (at .0 < mostWords)
-        × (in_slot ≡ isSlot (codeOf readings count) (at .0))
-        × (ordinary ≡ examined (codeOf readings count) (at .0))
-        ⌝ }
-    ensures { λ r. ⌜ r ≡ flowOf (codeOf readings count) (at .0) x ⌝ }
+pub fn flows(count: usize, at: WordIndex, in_slot: bool, ordinary: bool, x: Reading) -> bool
+    requires { ⌜ at .0 < mostWords ⌝ }
+    ensures { λ r. ⌜ r ≡ flowWith count in_slot ordinary (at .0) x ⌝ }
 {
     match x {
-        Reading::Read(instruction) => instruction_flow(
-            readings,
-            count,
-            at,
-            in_slot,
-            ordinary,
-            instruction,
-        ),
+        Reading::Read(instruction) => instruction_flow(count, at, in_slot, ordinary, instruction),
         Reading::Unread(_) => true,
     }
 }

@@ -61,7 +61,8 @@ fn outside_slots(readings: [Reading; MOST_WORDS], count: usize) -> [bool; MOST_W
     let mut marks = [true; MOST_WORDS];
     let mut i: usize = 1;
     while i < count {
-        marks[i] = !transfers(reading_at(readings, i - 1));
+        let x = readings[i - 1];
+        marks[i] = !transfers(x);
         i += 1;
     }
     marks
@@ -107,7 +108,8 @@ pub fn examine_all(readings: [Reading; MOST_WORDS], count: usize) -> [bool; MOST
     let mut marks = outside_slots(readings, count);
     let mut i: usize = 0;
     while i < count {
-        mark_target(&mut marks, WordIndex(i as u32), reading_at(readings, i));
+        let x = readings[i];
+        mark_target(&mut marks, WordIndex(i as u32), x);
         i += 1;
     }
     marks

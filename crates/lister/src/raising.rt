@@ -13,10 +13,10 @@ use crate::sending::lower;
 use crate::sending::pass_on;
 use crate::table::entry_marks;
 use crate::table::raise_at;
-use flow::readings::reading_at;
 use v8::Reading;
 use v8::WordIndex;
 use v8::numbers::MOST_WORDS;
+use v8::numbers::NOT_READ;
 
 // Raises a table with no marks by the entry row's kinds at word 0 and by all that the words send, until
 // it is closed.
@@ -47,8 +47,11 @@ pub fn raise_until_closed(
             continue;
         }
         pending[w] = false;
-        let x = reading_at(readings, w);
-        let slot = reading_at(readings, next);
+        let x = readings[w];
+        let mut slot = Reading::Unread(NOT_READ);
+        if next < MOST_WORDS {
+            slot = readings[next];
+        }
         let raised = pass_on(table, &mut pending, count, WordIndex(w as u32), x, slot);
         w = lower(raised, next);
     }

@@ -3,8 +3,11 @@ use borrow.Author.Needs.{needs}
 use Prim.Native.Nat.{_≤_, _-_}
 use mathlib.Core.Path.{_≡_, sym, _∙_}
 use native.Mathlib.Omega.{arith}
+use Rattle.v8.specs.declared.Operation.the-variants.{Sethi}
+use Rattle.v8.specs.declared.Instruction.the-variants.{Plain}
+use Rattle.v8.specs.declared.Reading.the-variants.{Read}
 use Rattle.flow.specs.Readings.{isSlot, codeOf}
-use Rattle.flow.proofs.Fetched.{at-index, code-count}
+use Rattle.flow.proofs.Fetched.{array-has, code-count}
 use Rattle.flow.proofs.Examined.{first-free}
 use Rattle.checker.specs.Answer.{passOf}
 use Rattle.checker.specs.Passes.{flowPass}
@@ -13,32 +16,31 @@ use Rattle.checker.proofs.passes.flow_pass.Statement.{statement}
 use Rattle.checker.proofs.passes.flow_pass.Tie as tie
 
 abbrev Inv-loop : tie.InvT-loop
-Inv-loop readings count marks in-slot₀ i₀ in-slot i =
+Inv-loop count marks readings in-slot₀ i₀ in-slot i =
     (i ≤ count)
     × (in-slot ≡ isSlot (codeOf readings count) i)
     × (passOf (flowPass (codeOf readings count)) count ≡ passFrom (flowPass (codeOf readings count)) i count)
 
 abbrev μ-loop : tie.MeasureT-loop
-μ-loop readings count marks in-slot₀ i₀ in-slot i = count - i
+μ-loop count marks readings in-slot₀ i₀ in-slot i = count - i
 
 loop-holds : tie.Need-loop-holds Inv-loop μ-loop
 loop-holds c = (omega arith, sym (first-free _), pass-start _ _)
 
-reading-at-requires : tie.Need-reading-at-requires Inv-loop μ-loop
-reading-at-requires c κs = c .before .before .pre .0 .long
+mul-x : tie.Need-mul-x Inv-loop μ-loop
+mul-x c = search needs
 
-cast-t10 : tie.Need-cast-t10 Inv-loop μ-loop
-cast-t10 c = record { fits = omega (arith, c .before .loop-test .taken, c .before .before .before .pre .0 .most) }
+array-copy-out-x : tie.Need-array-copy-out-x Inv-loop μ-loop
+array-copy-out-x c = let s = c .before .before in omega (arith, c .loop-test .taken, s .pre .0 .most, s .pre .0 .long)
+
+cast-t15 : tie.Need-cast-t15 Inv-loop μ-loop
+cast-t15 c = record { fits = omega (arith, c .before .loop-test .taken, c .before .before .before .pre .0 .most) }
 
 element-copy-out-flows : tie.Need-element-copy-out-flows Inv-loop μ-loop
 element-copy-out-flows c = search needs
 
 flows-requires : tie.Need-flows-requires Inv-loop μ-loop
-flows-requires c κs =
-    let s = c .before .before .before .before in
-    let more = c .before .before .loop-test .taken in
-    let count = code-count (s .args .readings) (s .args .count) (s .pre .0) in
-    (s .pre .0, omega (arith, more, s .pre .0 .most), c .before .before .before .loop .inv .1, s .pre .1 _ (omega (arith, more, count)))
+flows-requires c κs = omega (arith, c .before .before .loop-test .taken, c .before .before .before .before .pre .0 .most)
 
 need-requires : tie.Need-need-requires Inv-loop μ-loop
 need-requires c κs = search needs
@@ -47,9 +49,12 @@ returns : tie.Need-returns Inv-loop μ-loop
 returns c =
     let t = c .before .before .before .before .before .before in
     let s = t .before .before in
-    let x = c .before .before .before .before .before .reading-at .ensures ∙ at-index (s .args .readings) (s .args .count) (s .pre .0) (t .before .loop .i) in
-    let here = flow-here _ (t .before .loop .i) _ x _ _ (c .before .before .before .flows .ensures) (c .before .before .need .ensures) in
-    sym (t .before .loop .inv .2 ∙ pass-here _ _ _ _ here (t .loop-test .taken) (c .if1 .taken))
+    let more = t .loop-test .taken in
+    let count = code-count (s .args .t1) (s .args .count) (s .pre .0) in
+    let x = array-has (s .args .t1) (s .args .count) (s .pre .0) (t .before .loop .i) (Read (Plain (Sethi 0 0))) (omega (arith, t .loop-test .taken, s .pre .0 .most)) in
+    let here = flow-here _ (t .before .loop .i) _ x _ _ _ _ _ (sym count) (t .before .loop .inv .1) (s .pre .1 _ (omega (arith, more, count)))
+    (c .before .before .before .flows .ensures) (c .before .before .need .ensures) in
+    sym (t .before .loop .inv .2 ∙ pass-here _ _ _ _ here more (c .if1 .taken))
 
 transfers-requires : tie.Need-transfers-requires Inv-loop μ-loop
 transfers-requires c κs = search needs
@@ -64,11 +69,14 @@ loop-again : tie.Need-loop-again Inv-loop μ-loop
 loop-again c =
     let t = c .before .before .before .before .before .before .before in
     let s = t .before .before in
-    let x = c .before .before .before .before .before .before .reading-at .ensures ∙ at-index (s .args .readings) (s .args .count) (s .pre .0) (t .before .loop .i) in
-    let here = flow-here _ (t .before .loop .i) _ x _ _ (c .before .before .before .before .flows .ensures) (c .before .before .before .need .ensures) in (
-      omega (arith, t .loop-test .taken),
+    let more = t .loop-test .taken in
+    let count = code-count (s .args .t1) (s .args .count) (s .pre .0) in
+    let x = array-has (s .args .t1) (s .args .count) (s .pre .0) (t .before .loop .i) (Read (Plain (Sethi 0 0))) (omega (arith, t .loop-test .taken, s .pre .0 .most)) in
+    let here = flow-here _ (t .before .loop .i) _ x _ _ _ _ _ (sym count) (t .before .loop .inv .1) (s .pre .1 _ (omega (arith, more, count)))
+    (c .before .before .before .before .flows .ensures) (c .before .before .before .need .ensures) in (
+      omega (arith, more),
       slot-here _ (t .before .loop .i) _ x _ (c .transfers .ensures),
-      t .before .loop .inv .2 ∙ pass-next _ _ _ _ here (t .loop-test .taken) (c .before .if1 .left),
+      t .before .loop .inv .2 ∙ pass-next _ _ _ _ here more (c .before .if1 .left),
     )
 
 accept-requires : tie.Need-accept-requires Inv-loop μ-loop
@@ -84,8 +92,9 @@ flow-pass-spec =
     Inv-loop
     μ-loop
     loop-holds
-    reading-at-requires
-    cast-t10
+    mul-x
+    array-copy-out-x
+    cast-t15
     element-copy-out-flows
     flows-requires
     need-requires

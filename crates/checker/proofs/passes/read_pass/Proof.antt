@@ -3,8 +3,11 @@ use borrow.Author.Needs.{needs}
 use Prim.Native.Nat.{_≤_, _-_}
 use mathlib.Core.Path.{_≡_, sym, _∙_}
 use native.Mathlib.Omega.{arith}
+use Rattle.v8.specs.declared.Operation.the-variants.{Sethi}
+use Rattle.v8.specs.declared.Instruction.the-variants.{Plain}
+use Rattle.v8.specs.declared.Reading.the-variants.{Read}
 use Rattle.flow.specs.Readings.{codeOf}
-use Rattle.flow.proofs.Fetched.{at-index}
+use Rattle.flow.proofs.Fetched.{array-has}
 use Rattle.checker.specs.Answer.{passOf}
 use Rattle.checker.specs.Passes.{readPass}
 use Rattle.checker.proofs.Passing.{passFrom, pass-start, pass-here, pass-next, pass-end, read-here}
@@ -12,20 +15,23 @@ use Rattle.checker.proofs.passes.read_pass.Statement.{statement}
 use Rattle.checker.proofs.passes.read_pass.Tie as tie
 
 abbrev Inv-loop : tie.InvT-loop
-Inv-loop readings count i₀ i =
+Inv-loop count readings i₀ i =
     (i ≤ count) × (passOf (readPass (codeOf readings count)) count ≡ passFrom (readPass (codeOf readings count)) i count)
 
 abbrev μ-loop : tie.MeasureT-loop
-μ-loop readings count i₀ i = count - i
+μ-loop count readings i₀ i = count - i
 
 loop-holds : tie.Need-loop-holds Inv-loop μ-loop
 loop-holds c = (omega arith, pass-start _ _)
 
-cast-t6 : tie.Need-cast-t6 Inv-loop μ-loop
-cast-t6 c = record { fits = omega (arith, c .loop-test .taken, c .before .before .pre .most) }
+mul-x : tie.Need-mul-x Inv-loop μ-loop
+mul-x c = search needs
 
-reading-at-requires : tie.Need-reading-at-requires Inv-loop μ-loop
-reading-at-requires c κs = c .before .before .pre .long
+array-copy-out-x : tie.Need-array-copy-out-x Inv-loop μ-loop
+array-copy-out-x c = let s = c .before .before in omega (arith, c .loop-test .taken, s .pre .most, s .pre .long)
+
+cast-t12 : tie.Need-cast-t12 Inv-loop μ-loop
+cast-t12 c = record { fits = omega (arith, c .before .loop-test .taken, c .before .before .before .pre .most) }
 
 if-read-requires : tie.Need-if-read-requires Inv-loop μ-loop
 if-read-requires c κs = search needs
@@ -34,7 +40,7 @@ returns : tie.Need-returns Inv-loop μ-loop
 returns c =
     let t = c .before .before .before .before in
     let s = t .before .before in
-    let x = c .before .before .before .reading-at .ensures ∙ at-index (s .args .readings) (s .args .count) (s .pre) (t .before .loop .i) in
+    let x = array-has (s .args .t1) (s .args .count) (s .pre) (t .before .loop .i) (Read (Plain (Sethi 0 0))) (omega (arith, t .loop-test .taken, s .pre .most)) in
     let here = read-here _ (t .before .loop .i) _ x _ (c .before .before .if-read .ensures) in
     sym (t .before .loop .inv .1 ∙ pass-here _ _ _ _ here (t .loop-test .taken) (c .if1 .taken))
 
@@ -48,7 +54,7 @@ loop-again : tie.Need-loop-again Inv-loop μ-loop
 loop-again c =
     let t = c .before .before .before .before in
     let s = t .before .before in
-    let x = c .before .before .before .reading-at .ensures ∙ at-index (s .args .readings) (s .args .count) (s .pre) (t .before .loop .i) in
+    let x = array-has (s .args .t1) (s .args .count) (s .pre) (t .before .loop .i) (Read (Plain (Sethi 0 0))) (omega (arith, t .loop-test .taken, s .pre .most)) in
     let here = read-here _ (t .before .loop .i) _ x _ (c .before .before .if-read .ensures) in
     (omega (arith, t .loop-test .taken), t .before .loop .inv .1 ∙ pass-next _ _ _ _ here (t .loop-test .taken) (c .if1 .left))
 
@@ -65,8 +71,9 @@ read-pass-spec =
     Inv-loop
     μ-loop
     loop-holds
-    cast-t6
-    reading-at-requires
+    mul-x
+    array-copy-out-x
+    cast-t12
     if-read-requires
     returns
     add-i

@@ -18,8 +18,8 @@ stands true true q = refl
 stands true false q = false-true (sym q)
 stands false u q = refl
 
-add-t8 : tie.Need-add-t8
-add-t8 c = search needs
+add-t7 : tie.Need-add-t7
+add-t7 c = search needs
 
 inside-requires : tie.Need-inside-requires
 inside-requires c κs = search needs
@@ -32,7 +32,7 @@ returns c =
     let s = c .before .before .before .before in
     let i = c .before .before .inside in
     let t = c .before .is-transfer in
-    rw (← s .pre .2, ← i .ensures, ← t .ensures) (stops (t .result) (i .result && not (s .args .in-slot)) _ (c .if1 .taken))
+    rw (← i .ensures, ← t .ensures) (stops (t .result) (i .result && not (s .args .in-slot)) _ (c .if1 .taken))
 
 returns-2 : tie.Need-returns-2
 returns-2 c =
@@ -40,8 +40,6 @@ returns-2 c =
     let i = c .before .before .before .inside in
     let t = c .before .before .is-transfer in
     rw (
-      ← s .pre .3,
-      ← s .pre .2,
       ← i .ensures,
       ← t .ensures,
       not-true (s .args .ordinary) (c .if2 .taken),
@@ -57,8 +55,6 @@ returns-3 c =
     let i = c .before .before .before .before .inside in
     let t = c .before .before .before .is-transfer in
     rw (
-      ← s .pre .3,
-      ← s .pre .2,
       ← i .ensures,
       ← t .ensures,
       not-false (s .args .ordinary) (c .before .if2 .left),
@@ -69,7 +65,7 @@ pub instruction-flow-spec : {M : Type 1} → statement M
 instruction-flow-spec =
     tie.close
     (tie.spec
-    add-t8
+    add-t7
     inside-requires
     is-transfer-requires
     returns
