@@ -1,8 +1,8 @@
-"""cases.py: bundles made for the program crates/corpus, each with the answer that document 01, with requests 1 to 4, gives it.
+"""cases.py: bundles made for the program crates/corpus, each with the answer that document 01, with requests 1 to 5, gives it.
 
 They are what the wrong versions of tools/plain/mutants.txt need beside the bundles of the independent implementation.
 Each case has a name that says what it is about. Most are a few words long: what is tried stands at word 0 or 1,
-and the rest is a return with a nop in its slot.
+and the rest is a return with a nop in its slot. A case is for one terminal, the older one unless it is told.
 """
 import struct
 from collections import namedtuple
@@ -12,8 +12,9 @@ import layout
 import parts
 from layout import ADDRESS, BOTH, OR_NULL, READ, UNSET, WRITE
 from parts import NOP, RETURN
+from script import NEWER, OLDER
 
-Case = namedtuple("Case", "name bundle answer")
+Case = namedtuple("Case", "name bundle answer edition", defaults=[OLDER])
 
 RETURN_ADDRESS, START_OR_NULL = layout.RETURN, OR_NULL
 LEAST, MOST = -2**31, 2**31 - 1
@@ -74,6 +75,19 @@ def word(name, rd, rs1, second):
 
 def branch(condition, distance, annul=False):
     return annul << 29 | condition << 25 | 2 << 22 | distance & 0x3FFFFF
+
+
+def predicted(condition, distance, annul=False, hint=False, codes=0):
+    """The predicted branch; codes 0 are those of 32 bits, the only ones that are read."""
+    return annul << 29 | condition << 25 | 1 << 22 | codes << 20 | hint << 19 | distance & 0x7FFFF
+
+
+def as_predicted(one, hint):
+    """A branch that is not predicted as one that is; any other word, and a branch too far for that, as it is."""
+    distance = assembly.target_of(0, one)
+    if distance is None or not -2**18 <= distance < 2**18:
+        return one
+    return predicted(one >> 25 & 15, distance, bool(one >> 29 & 1), hint)
 
 
 def sethi(rd, value):
@@ -628,12 +642,13 @@ def words():
 
 
 UNREAD = [
-    0x00000000, 0x00400000, 0x00C00000, 0x01400000, 0x01800000, 0x01C00000,           # format 00: all but SETHI and Bicc
+    0x00000000, 0x00C00000, 0x01400000, 0x01800000, 0x01C00000,                       # format 00: all but SETHI and branches
     0x40000000, 0x41000000, 0x50800000, 0x7FFFFFFF,                                    # CALL
     0x81C3E00C, 0x83C3E008, 0x81C7E008, 0x81C3C008,                                    # JMPL beside the leaf return
     0x80400000, 0x80780000, 0x80C00000, 0x81200000, 0x81400000,                        # format 10: opcodes 08, 0F, 18, 24, 28
     0x80000020, 0x80001000, 0x80A00020, 0x81280020, 0x81281000, 0x81282020, 0x81283000,  # bits 12:5
-    0xC0180000, 0xC0380000, 0xC0400000, 0xC0580000, 0xC0000020, 0xC0001000,            # format 11
+    0xC0180000, 0xC0380000, 0xC0400000, 0xC0580000, 0xC0700000, 0xC0000020, 0xC0001000,  # format 11
+    0x81F00000, 0x83F00000, 0xBFF7FFFF,                                                # DONE, RETRY of V9 (opcode 3E)
 ]
 # Each privileged opcode and each beside one, every other bit 0 and every other bit 1
 WITH_OPCODES = [one for opcode in [*assembly.PRIVILEGED, *assembly.BESIDE_PRIVILEGED] for one in assembly.opcode_words(opcode)]
@@ -924,11 +939,81 @@ ONE_LEFT = [
 ]
 
 
+# The predicted branch. It does what the other branch does, whatever its hint, on the newer terminal; the older one does not read it.
+
+def in_place_of_others():
+    """Cases with predicted branches in the place of others."""
+    for case in [*flows(), *edges(), *landings(), *narrowing()]:
+        policy, first, result, code, rows = layout.open_bundle(case.bundle)
+        for hint in False, True:
+            other = [as_predicted(one, hint) for one in code]
+            if other != code:
+                name, data = case.name + "-predicted" + "-hint" * hint, layout.bundle_bytes(policy, first, result, other, rows)
+                yield Case(name, data, case.answer, NEWER)
+                if not case.answer.startswith("2 "):
+                    at_word = next(k for k, one in enumerate(other) if one != code[k])
+                    yield Case(name + "-on-the-older", data, f"2 {at_word} 0")
+
+
+def predictions():
+    yield from in_place_of_others()
+    for condition in range(16):
+        for annul, hint in (False, False), (False, True), (True, False), (True, True):
+            name = f"predicted-{condition}" + "-annulled" * annul + "-hint" * hint
+            yield from on_both(name, [predicted(condition, 2, annul, hint), NOP, *ONWARD], "2 0 0", "0 0 0")
+            for codes in 1, 2, 3:
+                code = [predicted(condition, 2, annul, hint, codes), NOP, *ONWARD]
+                yield from on_both(f"{name}-codes-{codes}", code, "2 0 0", "2 0 0")
+    for name, code, older, newer in PREDICTED:
+        yield from on_both("predicted-" + name, code, older, newer)
+
+
+def on_both(name, code, older, newer):
+    """These words on the older and on the newer terminal, with rows that say no more than that the codes are set."""
+    data = routine(code, [{"note": SET}] * len(code))
+    return Case(name, data, older), Case(name + "-on-9", data, newer, NEWER)
+
+
+# The words, and the answers on the older and on the newer terminal.
+PREDICTED = [
+    ("alone", [predicted(NEVER, 0)], "2 0 0", "3 0 0"),
+    ("with-every-bit-1", [0x3E7FFFFF, NOP, *ONWARD], "2 0 0", "2 0 0"),
+    ("last", [NOP, predicted(ALWAYS, -1)], "2 1 0", "3 1 0"),
+    ("in-slot-of-return", [RETURN, predicted(ALWAYS, -1), NOP], "2 1 0", "3 1 0"),
+    ("in-slot-of-another", [branch(ALWAYS, 2), predicted(ALWAYS, 1), *ONWARD], "2 1 0", "3 1 0"),
+    ("with-another-in-its-slot", [predicted(ALWAYS, 2), branch(ALWAYS, 1), *ONWARD], "2 0 0", "3 1 0"),
+    ("with-return-in-its-slot", [predicted(NEVER, 2), RETURN, *ONWARD], "2 0 0", "3 1 0"),
+    ("in-skipped-slot", [branch(ALWAYS, 2, True), predicted(NEVER, 0), *ONWARD], "2 1 0", "3 1 0"),
+    ("unreached", [*ONWARD, predicted(ALWAYS, -2), NOP], "2 2 0", "0 0 0"),
+    ("to-the-end", [predicted(ALWAYS, 2), NOP], "2 0 0", "3 0 0"),
+    ("below-0", [NOP, predicted(ALWAYS, -2), NOP], "2 1 0", "3 1 0"),
+    ("to-0-with-hint", [NOP, predicted(ALWAYS, -1, hint=True), NOP], "2 1 0", "0 0 0"),
+    ("far", [NOP, predicted(ALWAYS, 2**18 - 1), NOP], "2 1 0", "3 1 0"),
+    ("far-back", [NOP, predicted(ALWAYS, -2**18), NOP], "2 1 0", "3 1 0"),
+    ("far-never", [predicted(NEVER, 2**18 - 1), NOP, *ONWARD], "2 0 0", "0 0 0"),
+    ("far-back-never", [predicted(NEVER, -2**18), NOP, *ONWARD], "2 0 0", "0 0 0"),
+    ("far-back-as-in-18-bits", [predicted(ALWAYS, 2 - 2**18), NOP, *ONWARD], "2 0 0", "3 0 0"),
+    ("far-as-in-18-bits", [NOP, predicted(ALWAYS, 2**18 - 1), NOP, *ONWARD], "2 1 0", "3 1 0"),
+    ("far-as-in-16-bits", [predicted(ALWAYS, 2**16 + 2), NOP, *ONWARD], "2 0 0", "3 0 0"),
+    ("far-as-in-17-bits", [predicted(ALWAYS, 2**17 + 2), NOP, *ONWARD], "2 0 0", "3 0 0"),
+    ("as-if-in-bytes", [predicted(ALWAYS, 8), NOP, *ONWARD], "2 0 0", "3 0 0"),
+    ("then-not-read", [predicted(ALWAYS, 2), 0, *ONWARD], "2 0 0", "2 1 0"),
+    ("then-privileged", [predicted(ALWAYS, 2), READS_STATE, *ONWARD], "2 0 0", "24 1 0"),
+    ("after-privileged", [READS_STATE, predicted(ALWAYS, 2)], "24 0 0", "24 0 0"),
+    ("with-codes-after-privileged", [LOADS_SPACE, predicted(ALWAYS, 2, codes=2)], "24 0 0", "24 0 0"),
+    ("with-codes-before-privileged", [predicted(ALWAYS, 2, codes=2), LOADS_SPACE], "2 0 0", "2 0 0"),
+    ("after-flow", [branch(ALWAYS, 100), NOP, predicted(ALWAYS, 100)], "2 2 0", "3 0 0"),
+    ("with-codes-after-flow", [predicted(ALWAYS, 100), NOP, predicted(ALWAYS, 0, codes=1)], "2 0 0", "2 2 0"),
+    ("as-in-another-with-a-long-distance", [NOP, branch(ALWAYS, 0x7FFFF), NOP], "3 1 0", "3 1 0"),
+]
+
 GROUPS = [layouts, long_ones, adds, forms, fitting, results, conditions, accesses, words, flows, edges, landings, returns, narrowing]
 
 
 def cases():
-    """All of them. The first is the bundle of the program crates/answer."""
+    """All of them. The first is the bundle of the program crates/answer. Without a predicted branch the answer is that on both terminals."""
     yield Case("return-then-nop", parts.return_then_nop(), "0 0 0")
     for group in GROUPS:
-        yield from group()
+        for case in group():
+            yield from (case, case._replace(name=case.name + "-on-9", edition=NEWER))
+    yield from predictions()

@@ -1,24 +1,25 @@
 """kindcases.py: routines made for the program crates/tables, each for one rule of the listing of kinds.
 
-Each case has a name that says what it is about. Those that are short have what requests 2 and 4 of document 02 give, written
+Each case has a name that says what it is about. Those that are short have what requests 2, 4 and 5 of document 02 give, written
 down here: the answer, or a text of marks. This has for each word the marks of r0 to r7 as digits, or `-` if the word is not
 reached; r8 to r31 are at each word that is reached as in the entry row. A longer one has None, and what it gives is what
 tools/plain/kinds.c gives.
 
-The entry row is ENTRY unless it is told: r1 a number, r2 an address, r3 an address or null, r4 a return address, r5 unset,
+A case is for one terminal, the older one unless it is told. The entry row is ENTRY unless it is told: r1 a number, r2 an address, r3 an address or null, r4 a return address, r5 unset,
 r6 a number and r7 an address, so that what r6 or r7 is given can be seen.
 """
 from collections import namedtuple
 
 import cases
 import layout
-from cases import ALWAYS, EQUAL, LESS, NEVER, branch, sethi, word
+from cases import ALWAYS, EQUAL, LESS, NEVER, branch, predicted, sethi, word
 from parts import NOP, RETURN
+from script import NEWER, OLDER
 
 # A policy is the number of its regions and a list of them; a region is its size, how many fields it has, and the fields.
 Policy = namedtuple("Policy", "count regions")
 # What is expected is (answer, marks): no marks on a refusal, or None if the marks are those of the plain program.
-Case = namedtuple("Case", "name policy entry words length expected")
+Case = namedtuple("Case", "name policy entry words length expected edition", defaults=[OLDER])
 
 TABLE, MARKS, WORDS = 4096, 32, 128
 ACCEPTED = "0 0 0"
@@ -314,7 +315,46 @@ def policies():
         yield refused(f"policy-{name}", "20 0 0", policy=policy, entry=cases.spell({}))
 
 
+# The predicted branch
+
+def predictions():
+    """On the newer terminal it does what another branch does, whatever its hint; its annul bit and its target are its own. The older
+    terminal does not read it."""
+    for at, case in enumerate([*flows(), *landings()]):
+        words = [cases.as_predicted(one, (at + k) % 2 == 1) for k, one in enumerate(case.words)]
+        if words != case.words:
+            yield case._replace(name=case.name + "-predicted", words=words, edition=NEWER)
+    copy = word("or", 6, 0, "r2")
+    for hint in False, True:
+        end = "-with-hint" * hint
+        for name, code, text in [
+                ("be", [predicted(EQUAL, 4, False, hint), copy] + END + END, f"{FIRST} {FIRST} {' '.join(['11234522'] * 4)}"),
+                ("be-a", [predicted(EQUAL, 4, True, hint), copy] + END + END, f"{FIRST} {FIRST} {FIRST} {FIRST} 11234522 11234522"),
+                ("ba", [predicted(ALWAYS, 3, False, hint), copy, copy] + END, f"{FIRST} {FIRST} - 11234522 11234522"),
+                ("ba-a", [predicted(ALWAYS, 3, True, hint), copy, copy] + END, f"{FIRST} {FIRST} - {FIRST} {FIRST}"),
+                ("bn", [predicted(NEVER, -2**18, False, hint), copy] + END, f"{FIRST} {FIRST} 11234522 11234522"),
+                ("bn-a", [predicted(NEVER, 2**18 - 1, True, hint), copy] + END, f"{FIRST} {FIRST} {FIRST} {FIRST}"),
+                ("back", [NOP, predicted(EQUAL, -1, False, hint), copy] + END, " ".join([FIRST[:6] + "52"] * 3 + ["11234522"] * 2)),
+                ("to-its-slot", [predicted(ALWAYS, 1, True, hint), copy] + END, f"{FIRST} {FIRST} 11234522 11234522")]:
+            yield listed(f"predicted-{name}{end}", code, text)._replace(edition=NEWER)
+            yield refused(f"predicted-{name}{end}-on-the-older", f"2 {int(code[0] == NOP)} 0", code)
+        for codes in 1, 2, 3:
+            for condition in NEVER, EQUAL, ALWAYS:
+                code = [predicted(condition, 2, False, hint, codes), NOP] + END
+                yield refused(f"predicted-{condition}-codes-{codes}{end}", "2 0 0", code)._replace(edition=NEWER)
+    for name, answer, code in [
+            ("in-a-slot", "3 1 0", [branch(ALWAYS, 2), predicted(ALWAYS, 1)] + END), ("last", "3 2 0", END + [predicted(ALWAYS, -2)]),
+            ("with-return-in-its-slot", "3 1 0", [predicted(NEVER, 2), RETURN] + END), ("to-the-end", "3 0 0", [predicted(EQUAL, 4), NOP] + END),
+            ("far", "3 0 0", [predicted(ALWAYS, 2**18 - 1), NOP] + END), ("far-back", "3 1 0", [NOP, predicted(ALWAYS, -2**18), NOP] + END),
+            ("far-back-as-in-18-bits", "3 0 0", [predicted(ALWAYS, 2 - 2**18), NOP] + END), ("below-0", "3 0 0", [predicted(EQUAL, -1), NOP] + END),
+            ("to-the-last-slot", "3 3 0", [predicted(EQUAL, 3), NOP] + END), ("then-privileged", "24 1 0", [predicted(ALWAYS, 2), LD_ALTERNATE] + END),
+            ("then-not-read", "2 1 0", [predicted(ALWAYS, 2), CALL] + END), ("with-no-word-behind", "3 0 0", [predicted(EQUAL, 0), NOP])]:
+        yield refused("predicted-" + name, answer, code)._replace(edition=NEWER)
+    for name, one in ("return-of-9", 0x81CFE008), ("flushw", 0x81580000):
+        yield refused(name, "24 1 0", [NOP, one] + END)._replace(edition=NEWER)
+
+
 def made():
     """All cases; the first is that by which they are known from others."""
-    for several in (flows, landings, loops, meetings, copies, sums, numbers, accesses, every_pair, lengths, forms, orders, policies):
+    for several in (flows, landings, loops, meetings, copies, sums, numbers, accesses, every_pair, lengths, forms, orders, policies, predictions):
         yield from several()

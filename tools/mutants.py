@@ -5,8 +5,8 @@
     tools/mutants.py -v         lists for each version the record that it answers wrong first, too
 
 The wrong versions are listed in tools/plain/mutants.txt, each a line of tools/plain/answer.c replaced by
-another. They are compiled with gcc (-O1, one after another) and answer all the records, and the bundles of
-cases.py that are too long for the program. A version that answers each of them right survives: a record that
+another. They are compiled with gcc (-O1, one after another) and answer all the records, each for the edition
+that it has, and the bundles of cases.py that are too long for the program. A version that answers each of them right survives: a record that
 tells it apart is missing, or it is no wrong version, and then the list has the reason. The status is 0 if
 the right program answers each right and exactly those versions survive that have a reason.
 """
@@ -16,6 +16,7 @@ import struct
 import subprocess
 import sys
 import tempfile
+from collections import namedtuple
 
 sys.dont_write_bytecode = True
 import cases
@@ -29,6 +30,10 @@ DATA = os.path.join(TOOLS, "..", "crates", "corpus", "stdin")
 SECONDS = 20
 # The longest bundle that the program reads.
 ROOM = 53181
+# The beginning of a record: edition, number, register, word, the bundle's length.
+HEAD = struct.Struct(">BBBHI")
+# A record: the edition, the bundle, and the answer, a line as the program prints it.
+Record = namedtuple("Record", "edition bundle answer")
 
 
 class Version:
@@ -67,13 +72,18 @@ def versions(path=LIST):
 
 
 def records(data):
-    """(bundle, answer) of each record; an answer is a line as the program prints it."""
+    """The records of the data."""
     at, found = 0, []
     while at < len(data):
-        number, register, word, length = struct.unpack_from(">BBHI", data, at)
-        found.append((data[at + 8:at + 8 + length], f"{number} {word} {register}"))
-        at += 8 + length
+        edition, number, register, word, length = HEAD.unpack_from(data, at)
+        start, at = at + HEAD.size, at + HEAD.size + length
+        found.append(Record(edition, data[start:at], f"{number} {word} {register}"))
     return found
+
+
+def case_records(fits):
+    """The records of those cases whose bundle has a length that fits, each once."""
+    return list(dict.fromkeys(Record(case.edition, case.bundle, case.answer) for case in cases.cases() if fits(len(case.bundle))))
 
 
 def compiled(source, folder):
@@ -82,22 +92,22 @@ def compiled(source, folder):
     return path
 
 
-def answers(program, bundles):
+def answers(program, edition, bundles):
     """The answer to each bundle, None where the program stops or does not end."""
     stream = b"".join(struct.pack(">I", len(bundle)) + bundle for bundle in bundles)
     try:
-        done = subprocess.run([program, "-s"], input=stream, capture_output=True, timeout=SECONDS)
+        done = subprocess.run([program, str(edition), "-s"], input=stream, capture_output=True, timeout=SECONDS)
         lines = done.stdout.decode().splitlines()
         if done.returncode == 0 and len(lines) == len(bundles):
             return lines
     except subprocess.TimeoutExpired:
         pass
-    return [answer(program, bundle) for bundle in bundles]
+    return [answer(program, edition, bundle) for bundle in bundles]
 
 
-def answer(program, bundle):
+def answer(program, edition, bundle):
     try:
-        done = subprocess.run([program], input=bundle, capture_output=True, timeout=SECONDS)
+        done = subprocess.run([program, str(edition)], input=bundle, capture_output=True, timeout=SECONDS)
     except subprocess.TimeoutExpired:
         return None
     return done.stdout.decode().strip() if done.returncode == 0 else None
@@ -105,8 +115,12 @@ def answer(program, bundle):
 
 def wrong(source, held, folder):
     """The places of the records that a program answers wrong."""
-    given = answers(compiled(source, folder), [bundle for bundle, _ in held])
-    return [at for at, (line, (_, expected)) in enumerate(zip(given, held)) if line != expected]
+    program, found = compiled(source, folder), []
+    for edition in sorted({one.edition for one in held}):
+        places = [at for at, one in enumerate(held) if one.edition == edition]
+        given = answers(program, edition, [held[at].bundle for at in places])
+        found += [at for at, line in zip(places, given) if line != held[at].answer]
+    return sorted(found)
 
 
 def all_wrong(held):
@@ -148,7 +162,7 @@ def main(arguments):
         raise Problem("call it as `mutants.py`, `mutants.py -v` or `mutants.py --help`")
     with open(DATA, "rb") as file:
         held = records(file.read())
-    held += [(case.bundle, case.answer) for case in cases.cases() if len(case.bundle) > ROOM]
+    held += case_records(lambda length: length > ROOM)
     if not report(held, arguments == ["-v"]):
         raise Problem("a wrong version survives, or one that is none is caught")
 

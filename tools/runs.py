@@ -5,6 +5,7 @@
     tools/runs.py RUNS       from these and others
 
 RUNS has runs of the machine as text, a blank line between two. A line is a name and what stands for it:
+  edition E            the terminal: 8, which it is also without this line, or 9
   policy N             the number of regions; for each of them
     region SIZE N      its size and the number of its fields; for each of them
       field ELEMENT PERMISSION TARGET OFFSET COUNT LO HI
@@ -19,8 +20,8 @@ and what the run gives: end (0 returned, 1 spent, else the number of the refusal
 regs, codes, and memory (`same`, or whole).
 
 Of the runs that fit the program's room a sample is taken: EACH runs at most of every end with the memory
-changed and of every end with it unchanged, with a branch into a slot and without, evenly over the sizes of
-memory; none that ends with 20. Those that stand in the data stay there. After them come runs that are made from
+changed and of every end with it unchanged, with a branch into a slot and without, on each terminal, evenly over
+the sizes of memory; none that ends with 20. Those that stand in the data stay there. After them come runs that are made from
 one run of the sample, with what document 01 says of them, which needs no implementation to tell:
   20   its policy is changed so that it breaks one rule, another each time; a run that is refused changes nothing
   20   it has no words, and its policy breaks a rule
@@ -31,17 +32,19 @@ one run of the sample, with what document 01 says of them, which needs no implem
   104  after a nop a half is stored at an odd address
   0    a branch goes into a slot: its own, that of another branch or of a return, one that is skipped, one with a
        branch in it, which is run; and some of these with few steps allowed (1), or no word after the slot (101)
+  0    these with predicted branches, on the newer terminal; and a predicted branch of each condition, taken and not taken
+  101  a predicted branch on the older terminal, and one with other codes than those of 32 bits on the newer
 The first of them ends with 20, so that they are known again. How many runs there are of each end, and how many
 with a branch into a slot, is written to standard error.
 
 A record of the data is numbers of 32 bits, big-endian, and then bytes. The first number says how many come
 after it; these are
-    0  end                     5  number of words W           10  sizes of 8 regions
-    1  steps                   6  number of bases             18  numbers of fields of 8 regions
-    2  allowance               7  number of fields F          26  8 bases
-    3  return address          8  length of memory            34  the state before, 34 numbers
-    4  number of regions       9  1 if memory is changed      68  the state after, 34 numbers
-  102  W words, and F fields, 4 numbers each
+    0  edition                 6  number of words W           11  sizes of 8 regions
+    1  end                     7  number of bases             19  numbers of fields of 8 regions
+    2  steps                   8  number of fields F          27  8 bases
+    3  allowance               9  length of memory            35  the state before, 34 numbers
+    4  return address         10  1 if memory is changed      69  the state after, 34 numbers
+    5  number of regions     103  W words, and F fields, 4 numbers each
 A state is 32 registers, their marks (bit r that of register r, set 1), and the codes NZVC with 16 added
 if they are set. A field is its place (16 times the region, plus its number there), element, permission and
 target, a byte each; offset and count, 16 bits each; lo and hi, 2^31 added. The bytes are memory before, and
@@ -56,8 +59,9 @@ import sys
 sys.dont_write_bytecode = True
 import assembly
 import script
-from cases import ALWAYS, EQUAL, NEVER, NOT_EQUAL, branch, word
+from cases import ALWAYS, EQUAL, NEVER, NOT_EQUAL, as_predicted, branch, predicted, word
 from parts import NOP, RETURN
+from script import NEWER, OLDER
 
 DATA = os.path.join(os.path.dirname(os.path.abspath(__file__)), "..", "crates", "runs", "stdin")
 # How the first run ends that is made here; none ends so that is not.
@@ -68,7 +72,7 @@ RETURNED, SPENT, BAD_SHAPE, BAD_PLACEMENT, NO_WORD, UNSET_READ, UNALIGNED = 0, 1
 BRANCH, ADD, STORE = 0x10800002, 0x86004002, 0xC4304000
 LINK = 15
 # The program's room: bytes of memory, words.
-MEMORY, WORDS = 2048, 132
+MEMORY, WORDS = 2048, 131
 EACH = 35
 REGIONS, FIELDS, REGISTERS = 8, 16, 32
 # The codes of a state: that they are set; Z alone; N and C.
@@ -94,6 +98,7 @@ class Run:
         for line in text.splitlines():
             name, *rest = line.split()
             lines[name].append(rest)
+        self.edition = script.edition_named(lines["edition"][0], "edition") if "edition" in lines else OLDER
         self.end, self.steps, self.allowance = (int(lines[name][0][0]) for name in ("end", "steps", "allowance"))
         self.returns = int(lines["return"][0][0], 16)
         self.words, self.bases = ([int(number, 16) for number in lines[name][0]] for name in ("words", "bases"))
@@ -109,10 +114,10 @@ class Run:
         return len(self.memory) <= MEMORY and len(self.words) <= WORDS and len(self.bases) <= REGIONS
 
     def sort(self):
-        return self.end, self.changed, bool(assembly.landings(self.words))
+        return self.edition, self.end, self.changed, bool(assembly.landings(self.words, self.edition))
 
     def record(self):
-        numbers = [self.end, self.steps, self.allowance, self.returns, self.regions]
+        numbers = [self.edition, self.end, self.steps, self.allowance, self.returns, self.regions]
         numbers += [len(self.words), len(self.bases), len(self.fields), len(self.memory), self.changed]
         numbers += padded(self.sizes) + padded(self.counts) + padded(self.bases) + self.before + self.after + self.words
         fields = [field._replace(lo=field.lo + EXCESS, hi=field.hi + EXCESS) for field in self.fields]
@@ -126,10 +131,10 @@ def run_in(data, at):
     (count,) = struct.unpack_from(">I", data, at)
     numbers = list(struct.unpack_from(f">{count}I", data, at + 4))
     run = Run.__new__(Run)
-    run.end, run.steps, run.allowance, run.returns, run.regions, words, bases, fields, length, changed = numbers[:10]
-    run.sizes, run.counts, run.bases = numbers[10:10 + run.regions], numbers[18:18 + run.regions], numbers[26:26 + bases]
-    run.before, run.after, run.words, run.changed = numbers[34:68], numbers[68:102], numbers[102:102 + words], bool(changed)
-    places = at + 4 + 4 * (102 + words)
+    run.edition, run.end, run.steps, run.allowance, run.returns, run.regions, words, bases, fields, length, changed = numbers[:11]
+    run.sizes, run.counts, run.bases = numbers[11:11 + run.regions], numbers[19:19 + run.regions], numbers[27:27 + bases]
+    run.before, run.after, run.words, run.changed = numbers[35:69], numbers[69:103], numbers[103:103 + words], bool(changed)
+    places = at + 4 + 4 * (103 + words)
     packed = [Field(*struct.unpack_from(">4B2H2I", data, places + 16 * k)) for k in range(fields)]
     run.fields = [field._replace(lo=field.lo - EXCESS, hi=field.hi - EXCESS) for field in packed]
     start = at + 4 + 4 * count
@@ -286,6 +291,49 @@ def landing(run):
         yield altered(run, change, end=end, steps=steps, after=[0, first, second, *registers[3:], *rest])
 
 
+def holds(condition, codes):
+    """Whether a condition holds with the codes NZVC."""
+    n, z, v, c = (codes >> bit & 1 for bit in (3, 2, 1, 0))
+    return bool([0, z, z | n ^ v, n ^ v, c | z, c, n, v][condition % 8]) != (condition >= 8)
+
+
+def parting(run, registers, condition, codes, annul, hint):
+    """A predicted branch over a return. Its slot adds 1 to r2; where it is taken 1 is added to r1."""
+    words = [predicted(condition, 4, annul, hint), word("add", 2, 2, 1), RETURN, NOP, word("add", 1, 1, 1), RETURN, NOP]
+    taken = holds(condition, codes)
+    slot = not annul or (taken and condition != ALWAYS)
+    rest = [2 ** REGISTERS - 1, CODES_SET + codes]
+    change = {"edition": NEWER, "words": words, "before": registers + rest, "allowance": 99}
+    return altered(run, change, end=RETURNED, steps=3 + slot + taken, after=[0, int(taken), int(slot), *registers[3:], *rest])
+
+
+def unread(run, edition, registers, words):
+    """A run whose first word is not read."""
+    rest = [2 ** REGISTERS - 1, CODES_SET]
+    change = {"edition": edition, "words": words, "before": registers + rest, "allowance": 99}
+    return altered(run, change, end=NO_WORD, steps=0, after=[0, *registers[1:], *rest])
+
+
+def predictions(run):
+    """Runs with predicted branches: those into slots again, each condition with codes that it holds with and codes that it does not, if
+    there are both, and words that are not read."""
+    for one in landing(run):
+        for hint in False, True:
+            yield altered(one, {"edition": NEWER, "words": [as_predicted(each, hint) for each in one.words]}, after=one.after)
+    registers = run.before[:REGISTERS]
+    registers[1:3], registers[LINK] = [0, 0], run.returns
+    for condition in range(16):
+        for way in False, True:
+            codes = next((codes for codes in range(16) if holds(condition, codes) == way), IS_LESS)
+            for annul in False, True:
+                yield parting(run, registers, condition, codes, annul, (condition + way + annul) % 2 == 1)
+    for condition in NEVER, EQUAL, ALWAYS:
+        for hint in False, True:
+            yield unread(run, OLDER, registers, [predicted(condition, 2, False, hint), NOP, RETURN, NOP])
+            for codes in 1, 2, 3:
+                yield unread(run, NEWER, registers, [predicted(condition, 2, False, hint, codes), NOP, RETURN, NOP])
+
+
 def run_of(text):
     """The run that a text has; a problem names its first line."""
     try:
@@ -305,13 +353,14 @@ def main(arguments):
     whole = [run for run in runs if run.end == 0 and 3 <= run.regions < REGIONS and all(kinds(run))]
     if not whole:
         raise script.Problem("no run that returned can be made into others: it needs three to seven regions, an address and two signed halves")
-    for made in refused, empty, misplaced, faulting, landing:
+    for made in refused, empty, misplaced, faulting, landing, predictions:
         runs += made(whole[0])
     for run in runs:
         sys.stdout.buffer.write(run.record())
     for end, count in sorted(collections.Counter(run.end for run in runs).items()):
         print(f"end {end}: {count} runs", file=sys.stderr)
-    print(f"with a branch into a slot: {sum(bool(assembly.landings(run.words)) for run in runs)} runs", file=sys.stderr)
+    print(f"with a branch into a slot: {sum(bool(assembly.landings(run.words, run.edition)) for run in runs)} runs", file=sys.stderr)
+    print(f"on the newer terminal: {sum(run.edition == NEWER for run in runs)} runs", file=sys.stderr)
 
 
 if __name__ == "__main__":

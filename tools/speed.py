@@ -18,6 +18,7 @@ import time
 sys.dont_write_bytecode = True
 import kindcases
 import layout
+import mutants
 import parts
 import script
 import tables
@@ -55,7 +56,7 @@ def expect(right, program):
 
 
 def answers(name, bundle, count, plain):
-    ours, wrote = best([f"{ROOT}/target/bin/corpus"], (struct.pack(">BBHI", 0, 0, 0, len(bundle)) + bundle) * count)
+    ours, wrote = best([f"{ROOT}/target/bin/corpus"], (mutants.HEAD.pack(script.OLDER, 0, 0, 0, len(bundle)) + bundle) * count)
     expect(wrote[-2:-1] == [f"{count} bundles, 0 wrong"], "corpus")
     theirs, lines = best([plain, "-s"], (struct.pack(">I", len(bundle)) + bundle) * count)
     expect(lines[:-1] == ["0 0 0"] * count, "the plain answer")

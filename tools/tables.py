@@ -5,6 +5,7 @@
     tools/tables.py LISTINGS       with more of the independent implementation
 
 LISTINGS has listings of kinds as text, a blank line between two. A line is a name and what stands for it:
+  terminal E     8, which it is also without this line, or 9
   policy HEX     the number of regions, a byte; the regions, 4 bytes each; the fields of all, 16 bytes each, as in a bundle
   entry HEX      the entry row
   words W ..     the routine, in hexadecimal
@@ -22,10 +23,11 @@ some minutes: each version is compiled and makes every listing.
 
 A record of the data is numbers of 32 bits, big-endian, and then bytes. The first number says how many come
 after it; these are
-    0  number of the answer      4  length of the entry row     8  how many marks M follow
-    1  its word                  5  number of words W           9  sizes of 8 regions
-    2  its register              6  number of regions          17  numbers of fields of 8 regions
-    3  length of the table       7  number of fields F         25  W words, and F fields, 4 numbers each
+    0  edition                   4  length of the table         8  number of fields F
+    1  number of the answer      5  length of the entry row     9  how many marks M follow
+    2  its word                  6  number of words W          10  sizes of 8 regions
+    3  its register              7  number of regions          18  numbers of fields of 8 regions
+   26  W words, and F fields, 4 numbers each
 A field is its place (16 times the region, plus its number there), element, permission and target, a byte each; offset and
 count, 16 bits each; lo and hi, 2^31 added. The bytes are the entry row, and M marks; of a table that is written all marks behind these are 0.
 """
@@ -48,7 +50,7 @@ TOOLS = os.path.dirname(os.path.abspath(__file__))
 SOURCE = os.path.join(TOOLS, "plain", "kinds.c")
 LIST = os.path.join(TOOLS, "plain", "kinds-mutants.txt")
 CRATE = os.path.join(TOOLS, "..", "crates", "tables")
-REGIONS, FIELDS, HEAD, EXCESS = 8, 16, 25, 2 ** 31
+REGIONS, FIELDS, HEAD, EXCESS = 8, 16, 26, 2 ** 31
 # Seconds that the plain program has for all listings, and for one.
 SECONDS, SECONDS_EACH = 20, 2
 # How many listings there are to be with a branch into a slot, and how many that are refused at such a slot.
@@ -71,7 +73,7 @@ def record(case):
     answer, marks = case.expected
     regions = case.policy.regions[:REGIONS]
     fields = [field_bytes(FIELDS * r + min(k, FIELDS - 1), field) for r, (_, _, own) in enumerate(regions) for k, field in enumerate(own)]
-    numbers = [*map(int, answer.split()), case.length, len(case.entry), len(case.words), case.policy.count, len(fields), len(marks)]
+    numbers = [case.edition, *map(int, answer.split()), case.length, len(case.entry), len(case.words), case.policy.count, len(fields), len(marks)]
     numbers += padded([size for size, _, _ in regions]) + padded([count for _, count, _ in regions]) + case.words
     return struct.pack(f">{len(numbers) + 1}I", len(numbers) + 4 * len(fields), *numbers) + b"".join(fields) + case.entry + marks
 
@@ -82,7 +84,7 @@ def records(data):
     while at < len(data):
         (count,) = struct.unpack_from(">I", data, at)
         numbers = struct.unpack_from(f">{HEAD}I", data, at + 4)
-        end = at + 4 + 4 * count + numbers[4] + numbers[8]
+        end = at + 4 + 4 * count + numbers[5] + numbers[9]
         found.append(data[at:end])
         at = end
     return found
@@ -90,15 +92,15 @@ def records(data):
 
 def expected(one):
     """What a record expects, as the plain program prints it: a line with the answer, and one with the table."""
-    number, at_word, register, *_, count = struct.unpack_from(">9I", one, 4)
+    _, number, at_word, register, *_, count = struct.unpack_from(">10I", one, 4)
     marks = one[len(one) - count:].ljust(kindcases.TABLE, b"\0")
     return f"{number} {at_word} {register}", "same" if number else "".join(map(str, marks))
 
 
 def words_of(one):
-    """The words of a record."""
-    (count,) = struct.unpack_from(">I", one, 4 + 4 * 5)
-    return struct.unpack_from(f">{count}I", one, 4 + 4 * HEAD)
+    """The edition and the words of a record."""
+    edition, *_, count = struct.unpack_from(">7I", one, 4)
+    return edition, struct.unpack_from(f">{count}I", one, 4 + 4 * HEAD)
 
 
 # Listings as text
@@ -117,7 +119,8 @@ def case_of(text):
         words = [int(one, 16) for one in lines["words"].split()]
         table = b"" if marks == "same" else bytes(map(int, marks.replace(" ", "")))
         entry = bytes.fromhex(lines["entry"])
-        return Case("", Policy(policy[0], regions), entry, words, int(lines["table"]), (lines["answer"], table))
+        edition = script.edition_named([lines.get("terminal", "8")], "terminal")
+        return Case("", Policy(policy[0], regions), entry, words, int(lines["table"]), (lines["answer"], table), edition)
     except (ValueError, KeyError, IndexError, struct.error):
         raise Problem(f"no listing: `{(text.strip().splitlines() or [''])[0]} ..`") from None
 
@@ -177,9 +180,8 @@ def chosen(text, other, kept, made, folder):
         if bool(places) == (version.reason is not None):
             raise Problem(f"{version.name}: " + ("survives" if version.reason is None else "has a reason, but is told apart"))
         told.append((version, [at for at in places if at < len(other)]))
-    stock = [(one, expected(one)[0]) for one in other]
-    sorts = [corpus.sort_of(words_of(one), answer, LANDING, REFUSED) for one, answer in stock]
-    return corpus.chosen(stock, told, sorts, range(kept))
+    sorts = [corpus.sort_of(*words_of(one), expected(one)[0], LANDING, REFUSED) for one in other]
+    return corpus.chosen([len(one) for one in other], told, sorts, range(kept))
 
 
 def main(arguments):

@@ -5,10 +5,11 @@
 
 Holds bundle.py, explain.py and kinds.py against the examples, and tries on them what can be wrong with a file, a folder, the
 assembler, an answer or the place where they run: each must be said in a line with the file and the line, with status 1.
+Holds the words and the data of both terminals against what they must be.
 Sees that each script says what it does when asked for help, and does nothing else.
 
-What needs GNU binutils for SPARC or a program (target/bin/answer, explain or kinds, and answer9, explain9 or kinds9) is left out
-where that is not here, and this is said. The last line is `N passed, 0 failed`, with the number of those left out if there are any; the status is 0 if
+What needs GNU binutils for SPARC, gcc or a program (target/bin/answer, explain or kinds, and answer9, explain9 or kinds9) is left
+out where that is not here, and this is said. The last line is `N passed, 0 failed`, with the number of those left out if there are any; the status is 0 if
 none failed.
 """
 import contextlib
@@ -24,12 +25,20 @@ import tempfile
 sys.dont_write_bytecode = True
 import assembly
 import bundle
+import cases as bundles
+import corpus
 import explain
+import kindcases
 import kinds
 import layout
+import mutants
 import parts
+import runs
 import script
 import searches
+import tables
+from cases import predicted
+from script import NEWER, OLDER
 
 TOOLS = os.path.dirname(os.path.abspath(__file__))
 ROOT = os.path.dirname(TOOLS)
@@ -859,6 +868,131 @@ def searches_of_fields():
         yield f"a list of fields with {what}", refused(searches.list_of, 9, text.replace(lost, instead, 1)), ""
 
 
+# The data of both terminals
+
+ASSEMBLED = [
+    ("ba,pt %icc,", predicted(bundles.ALWAYS, 2, hint=True)), ("ba,pn %icc,", predicted(bundles.ALWAYS, 2)),
+    ("bn,a,pt %icc,", predicted(bundles.NEVER, 2, True, True)), ("bne,pn %icc,", predicted(bundles.NOT_EQUAL, 2)),
+    ("bl,a,pn %icc,", predicted(bundles.LESS, 2, True)), ("bge,pt %xcc,", predicted(bundles.AT_LEAST, 2, hint=True, codes=2)),
+    ("ble,a,pt %icc,", predicted(bundles.AT_MOST, 2, True, True)),
+]
+
+
+@cases(AS)
+def made_words_as_assembled():
+    for text, expected in ASSEMBLED:
+        with tempfile.TemporaryDirectory() as folder:
+            write(f"{text} 1f\nnop\n1: nop\n".encode(), folder, ROUTINE)
+            words, _ = assembly.assemble(folder, NEWER)
+        yield f"the word of `{text}`", words[0] == expected, f"{words[0]:08X} {expected:08X}"
+
+
+@cases()
+def made_predicted_branches():
+    far = 2**18
+    for what, word, expected in [
+            ("farthest", predicted(bundles.ALWAYS, far - 1), far + 9), ("farthest back", predicted(bundles.ALWAYS, -far, hint=True), 10 - far),
+            ("codes 01", predicted(bundles.ALWAYS, 3, codes=1), None), ("codes 10", predicted(bundles.ALWAYS, 3, codes=2), None),
+            ("codes 11", predicted(bundles.NEVER, 3, codes=3), None), ("format 011", 0x00C00003, None), ("format 101", 0x01400003, None)]:
+        given = assembly.target_of(10, word), assembly.target_of(10, word, NEWER)
+        yield f"the target of a predicted branch: {what}", given == (None, expected), repr(given)
+    for hint in False, True:
+        for word, expected in [(bundles.branch(2, -5, True), predicted(2, -5, True, hint)), (parts.NOP, parts.NOP),
+                               (bundles.branch(2, far), bundles.branch(2, far)), (bundles.branch(2, far - 1), predicted(2, far - 1, hint=hint))]:
+            yield f"{word:08X} as predicted", bundles.as_predicted(word, hint) == expected, f"{bundles.as_predicted(word, hint):08X}"
+
+
+@cases()
+def editions_of_bundles():
+    data = read(ROOT, "crates", "corpus", "stdin")
+    held = mutants.records(data)
+    yield "crates/corpus opened and written again", b"".join(map(corpus.record, held)) == data, ""
+    yield "crates/corpus has both editions", {one.edition for one in held} == {OLDER, NEWER}, ""
+    branches = {(one.edition, one.answer.split()[0]) for one in held
+                for k, word in enumerate(corpus.words_in(one.bundle)) if assembly.target_of(k, word, NEWER) != assembly.target_of(k, word)}
+    yield "crates/corpus has the predicted branch on both terminals", {(OLDER, "2"), (NEWER, "0"), (NEWER, "3"), (NEWER, "12")} <= branches, str(branches)
+    answers = {(case.edition, case.bundle): case.answer for case in bundles.cases()}
+    wrong = [case.name for case in bundles.cases() if answers[case.edition, case.bundle] != case.answer]
+    yield "each made bundle has one answer on a terminal", wrong == [], str(wrong)
+    lost = [name for name, one in zip(NAMES, corpus.examples()) if one not in held]
+    yield "crates/corpus has each example", lost == [], str(lost)
+    two = b"\0\0\0\1a\0\0\0\0"
+    yield "bundles one after another", corpus.stream(NEWER, two, "23 0 0\n2 1 0\n") == [(9, b"a", "23 0 0"), (9, b"", "2 1 0")], ""
+    for what, text in ("one answer less", "23 0 0\n"), ("one answer more", "23 0 0\n" * 3):
+        yield f"bundles with {what}", refused(corpus.stream, NEWER, two, text), ""
+
+
+LISTING = """case 1
+terminal 9
+policy 00
+entry {}
+words 81c3e008 01000000
+table 4096
+answer 2 1 0
+marks same"""
+RUN = """edition 9
+policy 1
+region 8 1
+field 1 3 0 0 8 0 255
+words 81c3e008 01000000
+bases 1000
+return 2000
+regs {0}
+codes 4+
+memory 0000000000000000
+allowance 9
+end 0
+steps 2
+regs {0}
+codes 4+
+memory same"""
+
+
+@cases()
+def editions_of_listings_and_runs():
+    data = read(ROOT, "crates", "tables", "stdin")
+    held = tables.records(data)
+    yield "crates/tables opened and written again", b"".join(held) == data, ""
+    yield "crates/tables has both editions", {tables.words_of(one)[0] for one in held} == {OLDER, NEWER}, ""
+    text = LISTING.format(kindcases.ENTRY.hex())
+    for given, expected in (text, NEWER), (text.replace("terminal 9\n", ""), OLDER), (text.replace("terminal 9", "terminal 8"), OLDER):
+        one = tables.case_of(given)
+        yield f"a listing on terminal {expected}", tables.words_of(tables.record(one)) == (expected, (parts.RETURN, parts.NOP)), repr(one)
+    yield "a listing on terminal 7", refused(tables.case_of, text.replace("terminal 9", "terminal 7")), ""
+    data, at, several = read(ROOT, "crates", "runs", "stdin"), 0, []
+    while at < len(data):
+        run, at = runs.run_in(data, at)
+        several.append(run)
+    yield "crates/runs opened and written again", data.startswith(b"".join(run.record() for run in runs.standing())), ""
+    yield "crates/runs has both editions", {run.edition for run in several} == {OLDER, NEWER}, ""
+    yield "crates/runs says how many there are", read(ROOT, "crates", "runs", "stdout").decode() == f"{len(several)} runs, 0 wrong\n", ""
+    text = RUN.format(" ".join(["0+"] * 32))
+    for given, expected in (text, NEWER), (text.replace("edition 9\n", ""), OLDER), (text.replace("edition 9", "edition 8"), OLDER):
+        one, _ = runs.run_in(runs.run_of(given).record(), 0)
+        yield f"a run on terminal {expected}", (one.edition, one.end, one.words) == (expected, 0, [parts.RETURN, parts.NOP]), repr(vars(one))
+    yield "a run on terminal 7", refused(runs.run_of, text.replace("edition 9", "edition 7")), ""
+    true = ["".join(f"{codes:X}" for codes in range(16) if runs.holds(condition, codes)) for condition in range(16)]
+    expected = ["", "4567CDEF", "2345" "6789CDEF", "236789" "CD", "1345679BCDEF", "13579BDF", "89ABCDEF", "2367ABEF"]
+    yield "which codes each condition holds with", true[:8] == ["".join(sorted(one)) for one in expected], repr(true)
+    opposite = ["".join(f"{codes:X}" for codes in range(16) if f"{codes:X}" not in one) for one in true[:8]]
+    yield "which codes the opposite conditions hold with", true[8:] == opposite, repr(true)
+
+
+@cases("gcc")
+def plain_program_is_told_the_edition():
+    branch = bundles.routine([predicted(bundles.ALWAYS, 2), parts.NOP, parts.RETURN, parts.NOP], [{}] * 4)
+    with tempfile.TemporaryDirectory() as folder, open(mutants.SOURCE, encoding="utf-8") as source:
+        program = mutants.compiled(source.read(), folder)
+        for arguments, status, expected in [
+                ([], 0, b"2 0 0\n"), (["8"], 0, b"2 0 0\n"), (["9"], 0, b"0 0 0\n"), (["9", "-n", "2"], 0, b"0 0 0\n"), (["7"], 2, b""), (["9", "9"], 2, b"")]:
+            done = subprocess.run([program, *arguments], input=branch, capture_output=True)
+            yield f"plain answer {' '.join(arguments)}", (done.returncode, done.stdout) == (status, expected), done.stdout.decode()
+        for edition, expected in (OLDER, ["2 0 0"] * 2), (NEWER, ["0 0 0"] * 2):
+            yield f"plain answer {edition} -s", mutants.answers(program, edition, [branch] * 2) == expected, ""
+        held = [mutants.Record(edition, branch, "2 0 0") for edition in (OLDER, NEWER, OLDER)]
+        yield "a record with the answer of the other terminal", mutants.wrong(read(mutants.SOURCE).decode(), held, folder) == [1], ""
+
+
 # How the tools are called, and where
 
 @cases()
@@ -871,7 +1005,8 @@ def wrong_calls():
             ("explain.py", [EXAMPLES]), ("explain.py", ["--edition", "9"]), ("explain.py", ["--edition", "10", name]),
             ("bundle.py", ["--edition", name]), ("kinds.py", ["--edition", "v9", name]), ("kinds.py", []), ("kinds.py", ["--table"]), ("kinds.py", [name, name]), ("kinds.py", ["--tabel", name]),
             ("kinds.py", [os.path.join(ROOT, "none")]), ("kinds.py", [EXAMPLES]), ("parts.py", ["x"]), ("listings.py", ["x"]), ("vectors.py", ["x"]),
-            ("corpus.py", ["x"]), ("corpus.py", ["none", "none"]), ("mutants.py", ["x"]), ("runs.py", ["x", "y"]), ("runs.py", ["none"]), ("speed.py", ["x"]),
+            ("corpus.py", ["x"]), ("corpus.py", ["none", "none"]), ("corpus.py", ["9", "none", "none"]),
+            ("corpus.py", ["7", os.path.join(name, "bundle.bin"), os.path.join(name, "answer.txt")]), ("mutants.py", ["x"]), ("runs.py", ["x", "y"]), ("runs.py", ["none"]), ("speed.py", ["x"]),
             ("tables.py", ["x", "y"]), ("tables.py", ["none"]), ("tables.py", [os.path.join(ROOT, "README.md")]),
             ("searches.py", ["x", "y"]), ("searches.py", ["none"]), ("searches.py", [os.path.join(ROOT, "README.md")])]:
         status, out, said = called(tool, *arguments)

@@ -7,10 +7,13 @@
  * It is written for simplicity and speed and is NOT verified. It serves as
  * the plain implementation that the proved one is measured against.
  *
- *   answer            one bundle from standard input
- *   answer -n COUNT   the same, answered COUNT times in memory (for timing)
- *   answer -s         a stream of bundles, each after its length (32-bit
- *                     big-endian); one answer a line
+ *   answer [EDITION]            one bundle from standard input
+ *   answer [EDITION] -n COUNT   the same, answered COUNT times in memory (for
+ *                               timing)
+ *   answer [EDITION] -s         a stream of bundles, each after its length
+ *                               (32-bit big-endian); one answer a line
+ *
+ * EDITION is the terminal: 8, which is also taken if it is not told, or 9.
  */
 #include <stdbool.h>
 #include <stdint.h>
@@ -359,6 +362,9 @@ static void write_register(struct row *row, int rd, const struct entry *e)
 
 /* ---- Words ---- */
 
+/* The edition of the manual that the terminal follows. */
+enum edition { V8 = 8, V9 = 9 };
+
 enum form { UNREAD, SETHI, BICC, ALU, LOAD, STORE, RETURN };
 
 /* Operations; the first eight are V8's opcodes for them. */
@@ -381,6 +387,7 @@ struct insn {
     uint8_t width;          /* LOAD and STORE: bytes */
     bool is_signed;         /* LOAD */
     bool annul;             /* BICC */
+    bool predicted, hint;   /* BICC: kept, but with no effect */
     uint8_t condition;      /* BICC */
     int32_t imm;            /* second operand, SETHI's value, or distance */
 };
@@ -399,14 +406,37 @@ static int32_t sign_extend(uint32_t word, int bits)
     return (int32_t)(low ^ sign) - (int32_t)sign;
 }
 
-static void decode_format_0(uint32_t word, struct insn *in)
+/* A branch whose distance has so many bits. */
+static void decode_branch(uint32_t word, int bits, struct insn *in)
+{
+    in->form = BICC;
+    in->annul = word >> 29 & 1;
+    in->condition = word >> 25 & 15;
+    in->imm = sign_extend(word, bits);
+}
+
+/* The predicted branch: bits 21:20 name the codes, bit 19 is the hint. */
+static void decode_predicted(enum edition edition, uint32_t word,
+                             struct insn *in)
+{
+    if (edition != V9)
+        return;
+    if ((word >> 20 & 3) != 0)
+        return;
+    decode_branch(word, 19, in);
+    in->predicted = true;
+    in->hint = word >> 19 & 1;
+}
+
+static void decode_format_0(enum edition edition, uint32_t word,
+                            struct insn *in)
 {
     switch (word >> 22 & 7) {
+    case 1:
+        decode_predicted(edition, word, in);
+        break;
     case 2:
-        in->form = BICC;
-        in->annul = word >> 29 & 1;
-        in->condition = word >> 25 & 15;
-        in->imm = sign_extend(word, 22);
+        decode_branch(word, 22, in);
         break;
     case 4:
         in->form = SETHI;
@@ -483,7 +513,7 @@ static uint8_t unread_number(uint32_t format, uint32_t opcode)
 }
 
 /* Read a word; the form is UNREAD if it is not of the subset. */
-static struct insn decode(uint32_t word)
+static struct insn decode(enum edition edition, uint32_t word)
 {
     struct insn in = {
         .form = UNREAD,
@@ -497,7 +527,7 @@ static struct insn decode(uint32_t word)
 
     switch (word >> 30) {
     case 0:
-        decode_format_0(word, &in);
+        decode_format_0(edition, word, &in);
         break;
     case 2:
         decode_alu(word, opcode, &in);
@@ -1118,8 +1148,8 @@ static int get_policy(const uint8_t **at, int regions, struct policy *p)
 }
 
 /* The answer to a bundle; c is room for what is read from it. */
-static struct answer answer_bundle(const uint8_t *bundle, size_t size,
-                                   struct code *c)
+static struct answer answer_bundle(enum edition edition, const uint8_t *bundle,
+                                   size_t size, struct code *c)
 {
     const uint8_t *at = bundle + HEAD_BYTES;
 
@@ -1142,7 +1172,7 @@ static struct answer answer_bundle(const uint8_t *bundle, size_t size,
 
     at += ROW_BYTES + ENTRY_BYTES;
     for (int w = 0; w < c->words; w++, at += WORD_BYTES)
-        c->insn[w] = decode(get32(at));
+        c->insn[w] = decode(edition, get32(at));
     find_targets(c);
     for (int w = 0; w < c->words; w++, at += ROW_BYTES) {
         get_row(at, &c->row[w]);
@@ -1166,18 +1196,18 @@ static void print_answer(struct answer a)
 static uint8_t buffer[MAX_BUNDLE + 1];
 static struct code code;
 
-static void answer_input(long count)
+static void answer_input(enum edition edition, long count)
 {
     size_t size = fread(buffer, 1, sizeof buffer, stdin);
     struct answer answer = accepted;
 
     for (long i = 0; i < count; i++)
-        answer = answer_bundle(buffer, size, &code);
+        answer = answer_bundle(edition, buffer, size, &code);
     print_answer(answer);
 }
 
 /* Answer each bundle of a stream; false if the stream breaks off. */
-static bool answer_stream(void)
+static bool answer_stream(enum edition edition)
 {
     uint8_t head[4];
     size_t got;
@@ -1191,28 +1221,35 @@ static bool answer_stream(void)
         for (size_t rest = size - kept; rest > 0; rest--)
             if (getchar() == EOF)
                 return false;
-        print_answer(answer_bundle(buffer, kept, &code));
+        print_answer(answer_bundle(edition, buffer, kept, &code));
     }
     return got == 0;
 }
 
 int main(int argc, char **argv)
 {
+    enum edition edition = V8;
+
+    if (argc > 1 && (strcmp(argv[1], "8") == 0 || strcmp(argv[1], "9") == 0)) {
+        edition = argv[1][0] == '9' ? V9 : V8;
+        argc--;
+        argv++;
+    }
     if (argc == 1) {
-        answer_input(1);
+        answer_input(edition, 1);
         return 0;
     }
     if (argc == 2 && strcmp(argv[1], "-s") == 0)
-        return answer_stream() ? 0 : 1;
+        return answer_stream(edition) ? 0 : 1;
     if (argc == 3 && strcmp(argv[1], "-n") == 0) {
         char *end;
         long count = strtol(argv[2], &end, 10);
 
         if (*end == '\0' && count >= 1) {
-            answer_input(count);
+            answer_input(edition, count);
             return 0;
         }
     }
-    fprintf(stderr, "usage: answer [-n COUNT | -s]\n");
+    fprintf(stderr, "usage: answer [8 | 9] [-n COUNT | -s]\n");
     return 2;
 }

@@ -1,10 +1,10 @@
 /*
  * Listing of kinds, the plain implementation.
  *
- * Reads records (a policy, an entry row, words, and the length of a table)
- * and prints for each the answer, and the marks that the table then has.
- * A record is laid out as in crates/tables/src/record.rt; what it expects is
- * passed over.
+ * Reads records (an edition, a policy, an entry row, words, and the length of
+ * a table) and prints for each the answer, and the marks that the table then
+ * has. A record is laid out as in crates/tables/src/record.rt; what it expects
+ * is passed over.
  *
  * It is written for simplicity and speed and is NOT verified. Words, policies,
  * entry rows and flow are read and tested by the parts of answer.c.
@@ -184,7 +184,7 @@ static void list(const struct code *c, struct listing *l)
 /* ---- Records ---- */
 
 enum {
-    RECORD_WORDS = 25,      /* numbers before the words */
+    RECORD_WORDS = 26,      /* numbers before the words */
     MOST_NUMBERS = 1024,
     MOST_ENTRY = 512,
     MOST_TABLE = 8192,
@@ -192,8 +192,8 @@ enum {
 };
 
 enum {
-    TABLE_LENGTH = 3, ENTRY_LENGTH, WORD_COUNT, REGION_COUNT, FIELD_COUNT,
-    MARK_COUNT, SIZES, COUNTS = SIZES + MAX_REGIONS
+    EDITION = 0, TABLE_LENGTH = 4, ENTRY_LENGTH, WORD_COUNT, REGION_COUNT,
+    FIELD_COUNT, MARK_COUNT, SIZES, COUNTS = SIZES + MAX_REGIONS
 };
 
 struct record {
@@ -249,7 +249,7 @@ static struct answer list_record(struct record *record, struct code *c)
 
     c->words = (int)n[WORD_COUNT];
     for (int w = 0; w < c->words; w++) {
-        c->insn[w] = decode(n[RECORD_WORDS + w]);
+        c->insn[w] = decode(n[EDITION], n[RECORD_WORDS + w]);
         if (c->insn[w].form == UNREAD)
             return refuse(c->insn[w].refusal, w, 0);
     }
@@ -289,7 +289,8 @@ static bool get_record(struct record *record)
             return false;
         n[i] = get32(b);
     }
-    return n[ENTRY_LENGTH] <= MOST_ENTRY && n[TABLE_LENGTH] <= MOST_TABLE &&
+    return (n[EDITION] == V8 || n[EDITION] == V9) &&
+           n[ENTRY_LENGTH] <= MOST_ENTRY && n[TABLE_LENGTH] <= MOST_TABLE &&
            n[MARK_COUNT] <= MOST_TABLE &&
            n[WORD_COUNT] + 4 * n[FIELD_COUNT] == count - RECORD_WORDS &&
            get_bytes(record->entry, n[ENTRY_LENGTH]) &&

@@ -1,10 +1,14 @@
-// One record: a header of eight bytes, and then the bundle. Numbers are big-endian.
-//   0        the expected answer's number
-//   1        its register
-//   2 and 3  its word
-//   4 to 7   the bundle's length
+// One record: a header of nine bytes, and then the bundle. Numbers are big-endian.
+//   0        the edition, 8 or 9
+//   1        the expected answer's number
+//   2        its register
+//   3 and 4  its word
+//   5 to 8   the bundle's length
 use checker::Answer;
 use libc::STDIN_FILENO;
+use records::edition::Told;
+use records::edition::edition_of;
+use v8::Edition;
 use v8::WordIndex;
 ghost use Prim.Native.Nat.{_<_};
 
@@ -18,7 +22,7 @@ pub struct Answers {
 
 pub enum Record {
     Held(Answers),
-    // The bundle is too long, or the record is cut short.
+    // There is no such edition, the bundle is too long, or the record is cut short.
     Bad,
     // There is no further record.
     End,
@@ -35,55 +39,68 @@ fn half_of(high: u8, low: u8) -> u32
     high as u32 * 256 + low as u32
 }
 
+// The edition that a header's first byte tells.
+fn told_by(byte: u8) -> Told {
+    edition_of(byte as u32)
+}
+
 // The answer that a header expects.
-fn expected_of(header: &[u8; 8]) -> Answer {
-    let word = WordIndex(half_of(header[2], header[3]));
+fn expected_of(header: &[u8; 9]) -> Answer {
+    let word = WordIndex(half_of(header[3], header[4]));
     Answer {
-        number: header[0],
+        number: header[1],
         word,
-        register: header[1],
+        register: header[2],
     }
 }
 
 // The bundle's length.
-fn length_of(header: &[u8; 8]) -> usize {
-    let length = half_of(header[4], header[5]) * 65536 + half_of(header[6], header[7]);
+fn length_of(header: &[u8; 9]) -> usize {
+    let length = half_of(header[5], header[6]) * 65536 + half_of(header[7], header[8]);
     length as usize
 }
 
 // Reads a bundle that fills `part` and answers it.
-fn answer_in(part: &mut [u8]) -> Answered {
+fn answer_in(edition: Edition, part: &mut [u8]) -> Answered {
     let n = io::read_full(STDIN_FILENO, part);
     if n < part.len() {
         return Answered::Bad;
     }
-    Answered::With(bundle::answer(part))
+    Answered::With(bundle::answer(edition, part))
 }
 
 // Reads a bundle of `length` bytes and answers it.
-fn answer_next(length: usize) -> Answered {
+fn answer_next(edition: Edition, length: usize) -> Answered {
     if length > ROOM {
         return Answered::Bad;
     }
     let mut room = [0u8; ROOM];
-    answer_in(&mut room[..length])
+    answer_in(edition, &mut room[..length])
+}
+
+// Reads the bundle after a header and answers it.
+fn record_of(edition: Edition, header: &[u8; 9]) -> Record {
+    match answer_next(edition, length_of(header)) {
+        Answered::With(answered) => {
+            let expected = expected_of(header);
+            Record::Held(Answers { answered, expected })
+        }
+        Answered::Bad => Record::Bad,
+    }
 }
 
 // Reads the next record and answers its bundle.
 pub fn next_record() -> Record {
-    let mut header = [0u8; 8];
+    let mut header = [0u8; 9];
     let n = io::read_full(STDIN_FILENO, &mut header);
     if n == 0 {
         return Record::End;
     }
-    if n < 8 {
+    if n < 9 {
         return Record::Bad;
     }
-    match answer_next(length_of(&header)) {
-        Answered::With(answered) => {
-            let expected = expected_of(&header);
-            Record::Held(Answers { answered, expected })
-        }
-        Answered::Bad => Record::Bad,
+    match told_by(header[0]) {
+        Told::As(edition) => record_of(edition, &header),
+        Told::Not => Record::Bad,
     }
 }

@@ -3,6 +3,7 @@ use crate::record::ALLOWANCE;
 use crate::record::BASES;
 use crate::record::Bytes;
 use crate::record::CHANGED;
+use crate::record::EDITION;
 use crate::record::END;
 use crate::record::MOST_BYTES;
 use crate::record::RETURNS;
@@ -18,10 +19,13 @@ use crate::start::policy_of;
 use machine::Outcome;
 use policy::Policy;
 use records::MOST_NUMBERS;
+use records::edition::Told;
+use records::edition::edition_of;
 use states::end_number;
 use states::same_codes;
 use states::same_registers;
 use step::Registers;
+use v8::Edition;
 ghost use Prim.Native.Nat.{_≤_};
 
 // What a run shows.
@@ -77,6 +81,7 @@ fn judge_outcome(numbers: &[u32; MOST_NUMBERS], outcome: Outcome, kept: bool) ->
 
 // The run of the record's routine over memory.
 fn run_of(
+    edition: Edition,
     numbers: &[u32; MOST_NUMBERS],
     policy: Policy,
     start: Registers,
@@ -86,6 +91,7 @@ fn run_of(
     let bases = bases_end(numbers);
     let all = &numbers[..];
     machine::run(
+        edition,
         policy,
         &all[WORDS..words],
         &all[BASES..bases],
@@ -98,6 +104,7 @@ fn run_of(
 
 // Makes the run again over so many bytes of memory, and compares all that it leaves.
 fn judge_over(
+    edition: Edition,
     numbers: &[u32; MOST_NUMBERS],
     length: usize,
     start: [u8; MOST_BYTES],
@@ -108,7 +115,7 @@ fn judge_over(
     let policy = policy_of(numbers);
     let registers = before(numbers);
     let mut memory = start;
-    let outcome = run_of(numbers, policy, registers, &mut memory[..length]);
+    let outcome = run_of(edition, numbers, policy, registers, &mut memory[..length]);
     judge_outcome(numbers, outcome, same_memory(&memory, expected))
 }
 
@@ -129,7 +136,10 @@ pub fn judge(numbers: &[u32; MOST_NUMBERS]) -> Verdict {
     let expected = memory_after(numbers, length, start);
     let bytes = start.bytes;
     if start.whole & expected.whole {
-        return judge_over(numbers, length, bytes, &expected.bytes);
+        return match edition_of(numbers[EDITION]) {
+            Told::As(edition) => judge_over(edition, numbers, length, bytes, &expected.bytes),
+            Told::Not => Verdict::Malformed,
+        };
     }
     Verdict::Malformed
 }

@@ -1,14 +1,15 @@
 // One record: how many numbers it has, the numbers of 32 bits, big-endian, and then bytes.
-//   0   the number of the end        10  the sizes of 8 regions
-//   1   the steps run                18  how many fields each of 8 regions has
-//   2   the allowance                26  8 bases
-//   3   the return address           34  the state before
-//   4   how many regions             68  the state after
-//   5   how many words              102  the words, and then the fields
-//   6   how many bases
-//   7   how many fields
-//   8   the length of memory
-//   9   1 if memory is changed
+//   0   the edition, 8 or 9          11  the sizes of 8 regions
+//   1   the number of the end        19  how many fields each of 8 regions has
+//   2   the steps run                27  8 bases
+//   3   the allowance                35  the state before
+//   4   the return address           69  the state after
+//   5   how many regions            103  the words, and then the fields
+//   6   how many words
+//   7   how many bases
+//   8   how many fields
+//   9   the length of memory
+//   10  1 if memory is changed
 // A state is 34 numbers: 32 registers, their marks (bit r is that of register r), and the codes NZVC,
 // 16 more if they are set. A field is 4 numbers: place, element, permission and target, a byte each;
 // offset and count, 16 bits each; lo; hi. The bytes are memory before, and memory after if it is changed.
@@ -17,38 +18,40 @@ use records::reading::count_of;
 use records::reading::fill;
 ghost use Prim.Native.Nat.{_≤_};
 
-pub const END: usize = 0;
+pub const EDITION: usize = 0;
 
-pub const STEPS: usize = 1;
+pub const END: usize = 1;
 
-pub const ALLOWANCE: usize = 2;
+pub const STEPS: usize = 2;
 
-pub const RETURNS: usize = 3;
+pub const ALLOWANCE: usize = 3;
 
-pub const REGIONS: usize = 4;
+pub const RETURNS: usize = 4;
 
-const WORD_COUNT: usize = 5;
+pub const REGIONS: usize = 5;
 
-const BASE_COUNT: usize = 6;
+const WORD_COUNT: usize = 6;
 
-const FIELD_COUNT: usize = 7;
+const BASE_COUNT: usize = 7;
 
-const LENGTH: usize = 8;
+const FIELD_COUNT: usize = 8;
 
-pub const CHANGED: usize = 9;
+const LENGTH: usize = 9;
 
-pub const SIZES: usize = 10;
+pub const CHANGED: usize = 10;
 
-pub const BASES: usize = 26;
+pub const SIZES: usize = 11;
 
-pub const BEFORE: usize = 34;
+pub const BASES: usize = 27;
 
-pub const AFTER: usize = 68;
+pub const BEFORE: usize = 35;
 
-pub const WORDS: usize = 102;
+pub const AFTER: usize = 69;
+
+pub const WORDS: usize = 103;
 
 // The most words, bases and fields of a record.
-const MOST_WORDS: u32 = 132;
+const MOST_WORDS: u32 = 131;
 
 const MOST_BASES: u32 = 8;
 
@@ -65,14 +68,14 @@ pub struct Bytes {
 
 // Where the bases end.
 pub fn bases_end(numbers: &[u32; MOST_NUMBERS]) -> usize
-    ensures { λ r. ⌜ (26 ≤ r) × (r ≤ 34) ⌝ }
+    ensures { λ r. ⌜ (27 ≤ r) × (r ≤ 35) ⌝ }
 {
     BASES + count_of(numbers[BASE_COUNT], MOST_BASES)
 }
 
 // Where the words end and the fields begin.
 pub fn words_end(numbers: &[u32; MOST_NUMBERS]) -> usize
-    ensures { λ r. ⌜ (102 ≤ r) × (r ≤ 234) ⌝ }
+    ensures { λ r. ⌜ (103 ≤ r) × (r ≤ 234) ⌝ }
 {
     WORDS + count_of(numbers[WORD_COUNT], MOST_WORDS)
 }

@@ -1,4 +1,5 @@
 // A listing made again, and compared with the one that is expected.
+use crate::record::EDITION;
 use crate::record::MOST_BYTES;
 use crate::record::NUMBER;
 use crate::record::REGIONS;
@@ -17,7 +18,10 @@ use lister::TABLE_MARKS;
 use lister::list_kinds;
 use policy::Policy;
 use records::MOST_NUMBERS;
+use records::edition::Told;
+use records::edition::edition_of;
 use records::given::policy_at;
+use v8::Edition;
 use v8::numbers::ACCEPTED;
 
 // What a case shows.
@@ -76,23 +80,29 @@ fn policy_of(numbers: &[u32; MOST_NUMBERS]) -> Policy {
 }
 
 // The answer to the record's routine, with the table lent.
-fn answer_of(numbers: &[u32; MOST_NUMBERS], row: [u8; MOST_BYTES], table: &mut [u8]) -> Answer {
+fn answer_of(
+    edition: Edition,
+    numbers: &[u32; MOST_NUMBERS],
+    row: [u8; MOST_BYTES],
+    table: &mut [u8],
+) -> Answer {
     let policy = policy_of(numbers);
     let words = words_end(numbers);
     let length = entry_length(numbers);
     let all = &numbers[..];
-    list_kinds(policy, &all[WORDS..words], &row[..length], table)
+    list_kinds(edition, policy, &all[WORDS..words], &row[..length], table)
 }
 
 // Makes the listing again, and compares its answer and all bytes of the table and behind it.
 fn judge_over(
+    edition: Edition,
     numbers: &[u32; MOST_NUMBERS],
     row: [u8; MOST_BYTES],
     expected: &[u8; MOST_BYTES],
 ) -> Verdict {
     let mut table = [UNTOUCHED; MOST_BYTES];
     let length = table_length(numbers);
-    let answer = answer_of(numbers, row, &mut table[..length]);
+    let answer = answer_of(edition, numbers, row, &mut table[..length]);
     if !same_answer(answer, numbers) {
         return Verdict::OtherAnswer;
     }
@@ -109,7 +119,10 @@ pub fn judge(numbers: &[u32; MOST_NUMBERS]) -> Verdict {
     if entry.whole & marks.whole {
         let row = entry.bytes;
         let expected = table_after(numbers, &marks.bytes);
-        return judge_over(numbers, row, &expected);
+        return match edition_of(numbers[EDITION]) {
+            Told::As(edition) => judge_over(edition, numbers, row, &expected),
+            Told::Not => Verdict::Malformed,
+        };
     }
     Verdict::Malformed
 }

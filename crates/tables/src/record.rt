@@ -1,10 +1,11 @@
 // One record: how many numbers it has, the numbers of 32 bits, big-endian, and then bytes.
-//   0  the number of the answer        6  how many regions
-//   1  its word                        7  how many fields
-//   2  its register                    8  how many marks follow
-//   3  the length of the lent table    9  the sizes of 8 regions
-//   4  the length of the entry row    17  how many fields each of 8 regions has
-//   5  how many words                 25  the words, and then the fields
+//   0  the edition, 8 or 9             7  how many regions
+//   1  the number of the answer        8  how many fields
+//   2  its word                        9  how many marks follow
+//   3  its register                   10  the sizes of 8 regions
+//   4  the length of the lent table   18  how many fields each of 8 regions has
+//   5  the length of the entry row    26  the words, and then the fields
+//   6  how many words
 // A field is 4 numbers, as crates/records reads them. The bytes are the entry row, and the marks that an
 // accepted listing must have; those after them are 0.
 use records::MOST_NUMBERS;
@@ -12,27 +13,29 @@ use records::reading::count_of;
 use records::reading::fill;
 ghost use Prim.Native.Nat.{_≤_};
 
-pub const NUMBER: usize = 0;
+pub const EDITION: usize = 0;
 
-pub const WORD: usize = 1;
+pub const NUMBER: usize = 1;
 
-pub const REGISTER: usize = 2;
+pub const WORD: usize = 2;
 
-const TABLE_LENGTH: usize = 3;
+pub const REGISTER: usize = 3;
 
-const ENTRY_LENGTH: usize = 4;
+const TABLE_LENGTH: usize = 4;
 
-const WORD_COUNT: usize = 5;
+const ENTRY_LENGTH: usize = 5;
 
-pub const REGIONS: usize = 6;
+const WORD_COUNT: usize = 6;
 
-const FIELD_COUNT: usize = 7;
+pub const REGIONS: usize = 7;
 
-const MARK_COUNT: usize = 8;
+const FIELD_COUNT: usize = 8;
 
-pub const SIZES: usize = 9;
+const MARK_COUNT: usize = 9;
 
-pub const WORDS: usize = 25;
+pub const SIZES: usize = 10;
+
+pub const WORDS: usize = 26;
 
 // The most words and fields of a record.
 const MOST_WORDS: u32 = 200;
@@ -50,7 +53,7 @@ pub struct Bytes {
 
 // Where the words end and the fields begin.
 pub fn words_end(numbers: &[u32; MOST_NUMBERS]) -> usize
-    ensures { λ r. ⌜ (25 ≤ r) × (r ≤ 225) ⌝ }
+    ensures { λ r. ⌜ (26 ≤ r) × (r ≤ 226) ⌝ }
 {
     WORDS + count_of(numbers[WORD_COUNT], MOST_WORDS)
 }
