@@ -167,9 +167,11 @@ def instruction_name(said):
 
 
 def words_in(data, said):
-    """The words of a bundle as they are disassembled; none if there is no disassembler."""
+    """The words of a bundle as they are disassembled; none if there is no disassembler. Where a predicted branch is not read,
+    they are shown as the newer terminal has them."""
     words = layout.open_bundle(data)[3]
-    return words, assembly.disassemble(words, said.edition)
+    unread = "unread" in said.items and assembly.predicted_codes(first(said, "word")[1]) is not None
+    return words, assembly.disassemble(words, script.NEWER if unread else said.edition)
 
 
 def word_text(data, said, index):
