@@ -1,0 +1,80 @@
+-- The routine of Elsewhere.antt: the check's passes, the start's tests and the runs on both terminals are computed from the definitions, and the
+-- guarantee is not for a run on a terminal that the check was not told.
+use mathlib.Core.Path.{_≡_, refl, sym}
+use mathlib.Core.List.{[]}
+use native.Mathlib.Omega.{arith}
+use Rattle.v8.specs.declared.Edition.the-variants.{V8, V9}
+use Rattle.v8.specs.Signed.{signExtend}
+use Rattle.v8.specs.Search.{all, any, lowest, first}
+use Rattle.v8.specs.Read.{readingOf, format00, format10, operandOf}
+use Rattle.v8.proofs.Choice.{false-true}
+use Rattle.alu.specs.Condition.{condHolds, conditionOf}
+use Rattle.flow.specs.Transfer.{slotRuns, targetOf}
+use Rattle.flow.specs.Readings.{isSlot, isTarget}
+use Rattle.policy.specs.Element.{widthOf}
+use Rattle.policy.specs.Policy.{fieldAt, endBefore, fieldFits, fieldAtOk, regionOk, policyOk}
+use Rattle.memory.specs.Place.{partStart}
+use Rattle.step.specs.Registers.{valueIn, setIn, valuesWith, marksWith}
+use Rattle.step.specs.Step.{stepOf}
+use Rattle.machine.specs.Placement.{disjointIn, placedIn}
+use Rattle.machine.specs.Run.{runFrom, refusalOf, runOf}
+use Rattle.sets.specs.Sets.{ended, setOk, fitsSet}
+use Rattle.sets.specs.Narrow.{isMember}
+use Rattle.rows.specs.Entry.{sizeIn, entryOk, fits, noteOk, fitsNote, fieldEntry}
+use Rattle.rows.specs.Flaw.{flawFrom}
+use Rattle.rows.specs.Row.{entryAt, entriesWith, entryOf, noteOf, rowOf, formedAt, formFault, fitsAt, misfit}
+use Rattle.rows.specs.Matches.{Host, RowMatches}
+use Rattle.rules.specs.Change.{noteAfter, branchChange, returnChange}
+use Rattle.rules.specs.Narrow.{narrowRow}
+use Rattle.checker.specs.Answer.{accepted, refuse, passOf}
+use Rattle.checker.specs.Passes.{shapeOk, rowPass, readPass, flowPass, entryPass, cross, narrowedEdge, wordPass, answerOf, checkOf}
+use Rattle.guarantee.specs.Guarantee.{hostOf, heldOf, Start}
+use Rattle.claims.proofs.Matching.{below, registers-match, fields-hold}
+use Rattle.editionrows.specs.Elsewhere.{GuaranteedElsewhere, words, policy, entry, rows, result, returns, registers, running, Elsewhere}
+
+abbrev host : Host
+host = hostOf [] returns
+
+accepted-newer : checkOf V9 policy words rows entry result ≡ accepted
+unfolding readingOf format00 format10 operandOf signExtend conditionOf lowest first all any policyOk slotRuns targetOf isSlot isTarget setOk fitsSet sizeIn entryOk fits noteOk fitsNote entryAt entriesWith entryOf noteOf rowOf formedAt flawFrom formFault fitsAt misfit noteAfter branchChange returnChange narrowRow passOf shapeOk rowPass readPass flowPass entryPass cross narrowedEdge wordPass answerOf checkOf
+accepted-newer = refl
+
+refused-older : checkOf V8 policy words rows entry result ≡ refuse 2 0 0
+unfolding readingOf format00 format10 operandOf signExtend lowest first all policyOk setOk sizeIn entryOk noteOk entryOf noteOf rowOf formedAt flawFrom formFault passOf shapeOk rowPass readPass answerOf checkOf
+refused-older = refl
+
+row-matches : RowMatches host (rowOf entry 0) (heldOf registers)
+unfolding all rowOf entryOf noteOf entryAt valueIn setIn isMember
+row-matches =
+    record {
+      entries = registers-match host (rowOf entry 0) registers refl;
+      note = record { coded = λ e. false-true (sym e); compared = λ e. false-true e };
+    }
+
+start-matches : Start policy entry [] returns registers []
+unfolding all disjointIn placedIn partStart
+start-matches =
+    record {
+      words = record { values = refl; marks = refl; small = below 4294967296 (omega arith) (registers .values) refl };
+      bytes = below 256 (omega arith) [] refl;
+      placed = refl;
+      row = row-matches;
+      fields = fields-hold policy host [] refl;
+    }
+
+pub elsewhere : Elsewhere
+unfolding readingOf format00 format10 operandOf signExtend condHolds conditionOf all lowest first policyOk partStart valueIn setIn valuesWith marksWith slotRuns targetOf stepOf disjointIn placedIn runFrom refusalOf runOf
+elsewhere =
+    record {
+      newer = accepted-newer;
+      older = refused-older;
+      matches = start-matches;
+      returned = refl;
+      counted = refl;
+      faulted = refl;
+      none = refl;
+    }
+
+pub not-elsewhere : GuaranteedElsewhere → ⊥
+unfolding readingOf format00 format10 operandOf signExtend condHolds conditionOf all lowest first policyOk partStart valueIn setIn valuesWith marksWith slotRuns targetOf stepOf disjointIn placedIn runFrom refusalOf runOf
+not-elsewhere g = g V9 V8 policy words rows entry result accepted-newer [] returns registers [] start-matches 9 .ends

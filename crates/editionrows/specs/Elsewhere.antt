@@ -1,0 +1,75 @@
+-- The running guarantee is for a run on the terminal that the check was told (document 02, request 5). `GuaranteedElsewhere` says it of a run on
+-- any terminal; it is not so, by the routine here, with its policy and rows, and a start that matches its entry row. The words are those that GNU
+-- as gives.
+use Prim.Native.Nat.{ℕ}
+use mathlib.Core.Path.{_≡_}
+use mathlib.Core.Bool.{true, false}
+use mathlib.Core.List.{List, [], _∷_}
+use lib.ListN.{replicate, set}
+use Rattle.v8.specs.declared.Edition.{Edition}
+use Rattle.v8.specs.declared.Edition.the-variants.{V8, V9}
+use Rattle.policy.specs.declared.Policy.{Policy}
+use Rattle.policy.specs.Build.{emptyPolicy}
+use Rattle.step.specs.declared.Registers.{Registers}
+use Rattle.machine.specs.declared.End.the-variants.{Returned, Fault}
+use Rattle.machine.specs.Run.{Run, settingOf, startState, runOf, traceFrom}
+use Rattle.rows.specs.Row.{entryOf}
+use Rattle.checker.specs.Answer.{accepted, refuse}
+use Rattle.checker.specs.Passes.{checkOf}
+use Rattle.guarantee.specs.Guarantee.{hostOf, Start, Guaranteed}
+use Rattle.trials.specs.Entries.{unset, bytesOf, bytesOfEntry, bytesOfRows}
+use Rattle.trials.specs.CheckRows.{called}
+
+-- the guarantee's RunningGuarantee, but that the check is told e and the run is on f
+abbrev pub GuaranteedElsewhere : Type 0
+GuaranteedElsewhere =
+    (e f : Edition) (p : Policy) (words rows entry result : List ℕ) → checkOf e p words rows entry result ≡ accepted
+    → (bases : List ℕ) (returns : ℕ) (g : Registers) (memory : List ℕ) → Start p entry bases returns g memory
+    → (allowance : ℕ)
+    → Guaranteed p (entryOf result 0) (settingOf f p words bases returns) (hostOf bases returns) (startState g memory) allowance
+    (runOf f p words bases returns g allowance memory)
+    (traceFrom (settingOf f p words bases returns) allowance (startState g memory))
+
+-- ba,pt %icc 2; nop; retl; nop
+abbrev pub words : List ℕ
+words = 0x10480002 ∷ 0x01000000 ∷ 0x81C3E008 ∷ 0x01000000 ∷ []
+
+-- no region, every row that of a call, any result
+abbrev pub policy : Policy
+policy = emptyPolicy
+
+abbrev pub entry : List ℕ
+entry = bytesOf called
+
+abbrev pub rows : List ℕ
+rows = bytesOfRows (called ∷ called ∷ called ∷ called ∷ [])
+
+abbrev pub result : List ℕ
+result = bytesOfEntry unset
+
+-- a start: the return address is 1000 hexadecimal, and there is no memory
+abbrev pub returns : ℕ
+returns = 0x1000
+
+abbrev pub registers : Registers
+registers =
+    record {
+      values = set (replicate 32 0) 15 0x1000;
+      marks = set (replicate 32 false) 15 true;
+      codes = record { value = record { n = false; z = false; v = false; c = false }; set = false };
+    }
+
+-- a run of at most 9 steps
+abbrev pub running : Edition → Run
+running f = runOf f policy words [] returns registers 9 []
+
+-- The check accepts the routine for the newer terminal and not for the older, the start matches; on the newer the run returns, on the older it
+-- faults before its first step is done.
+pub record Elsewhere : Type 0 where
+  pub newer : checkOf V9 policy words rows entry result ≡ accepted
+  pub older : checkOf V8 policy words rows entry result ≡ refuse 2 0 0
+  pub matches : Start policy entry [] returns registers []
+  pub returned : running V9 .outcome .end ≡ Returned
+  pub counted : running V9 .outcome .steps ≡ 4
+  pub faulted : running V8 .outcome .end ≡ Fault 101
+  pub none : running V8 .outcome .steps ≡ 0

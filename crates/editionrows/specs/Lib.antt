@@ -1,0 +1,9 @@
+pub mod Hints
+pub mod WordRows
+pub mod FlowRows
+pub mod PassRows
+pub mod CheckRows
+pub mod RunRows
+pub mod ListRows
+pub mod Elsewhere
+pub mod Table
