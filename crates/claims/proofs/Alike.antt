@@ -15,7 +15,6 @@ use Rattle.v8.specs.declared.Reading.the-variants.{Read, Unread}
 use Rattle.v8.proofs.Choice.{false-true}
 use Rattle.v8.proofs.Alike.{reads-alike}
 use Rattle.v8.proofs.Sound.{reads-sound}
-use Rattle.policy.specs.declared.Policy.{Policy}
 use Rattle.flow.specs.Readings.{readingsOf, readingAt}
 use Rattle.flow.proofs.Fetched.{read-count, fetched}
 use Rattle.checker.specs.Answer.{accepted, passes}
