@@ -11,37 +11,32 @@ use Rattle.v8.proofs.Choice.{false-true}
 use Rattle.alu.specs.Condition.{condHolds, conditionOf}
 use Rattle.flow.specs.Transfer.{slotRuns, targetOf}
 use Rattle.flow.specs.Readings.{isSlot, isTarget}
-use Rattle.policy.specs.Element.{widthOf}
-use Rattle.policy.specs.Policy.{fieldAt, endBefore, fieldFits, fieldAtOk, regionOk, policyOk}
+use Rattle.policy.specs.Policy.{policyOk}
 use Rattle.memory.specs.Place.{partStart}
 use Rattle.step.specs.Registers.{valueIn, setIn, valuesWith, marksWith}
 use Rattle.step.specs.Step.{stepOf}
 use Rattle.machine.specs.Placement.{disjointIn, placedIn}
 use Rattle.machine.specs.Run.{runFrom, refusalOf, runOf}
-use Rattle.sets.specs.Sets.{ended, setOk, fitsSet}
+use Rattle.sets.specs.Sets.{setOk, fitsSet}
 use Rattle.sets.specs.Narrow.{isMember}
-use Rattle.rows.specs.Entry.{sizeIn, entryOk, fits, noteOk, fitsNote, fieldEntry}
+use Rattle.rows.specs.Entry.{sizeIn, entryOk, fits, noteOk, fitsNote}
 use Rattle.rows.specs.Flaw.{flawFrom}
 use Rattle.rows.specs.Row.{entryAt, entriesWith, entryOf, noteOf, rowOf, formedAt, formFault, fitsAt, misfit}
 use Rattle.rows.specs.Matches.{Host, RowMatches}
 use Rattle.rules.specs.Change.{noteAfter, branchChange, returnChange}
 use Rattle.rules.specs.Narrow.{narrowRow}
-use Rattle.checker.specs.Answer.{accepted, refuse, passOf}
+use Rattle.checker.specs.Answer.{accepted, passOf}
 use Rattle.checker.specs.Passes.{shapeOk, rowPass, readPass, flowPass, entryPass, cross, narrowedEdge, wordPass, answerOf, checkOf}
 use Rattle.guarantee.specs.Guarantee.{hostOf, heldOf, Start}
 use Rattle.claims.proofs.Matching.{below, registers-match, fields-hold}
-use Rattle.editionrows.specs.Elsewhere.{GuaranteedElsewhere, words, policy, entry, rows, result, returns, registers, running, Elsewhere}
+use Rattle.editionrows.specs.Elsewhere.{GuaranteedElsewhere, words, policy, entry, rows, result, returns, registers, Elsewhere}
 
 abbrev host : Host
 host = hostOf [] returns
 
-accepted-newer : checkOf V9 policy words rows entry result ≡ accepted
+accepts : checkOf V9 policy words rows entry result ≡ accepted
 unfolding readingOf format00 format10 operandOf signExtend conditionOf lowest first all any policyOk slotRuns targetOf isSlot isTarget setOk fitsSet sizeIn entryOk fits noteOk fitsNote entryAt entriesWith entryOf noteOf rowOf formedAt flawFrom formFault fitsAt misfit noteAfter branchChange returnChange narrowRow passOf shapeOk rowPass readPass flowPass entryPass cross narrowedEdge wordPass answerOf checkOf
-accepted-newer = refl
-
-refused-older : checkOf V8 policy words rows entry result ≡ refuse 2 0 0
-unfolding readingOf format00 format10 operandOf signExtend lowest first all policyOk setOk sizeIn entryOk noteOk entryOf noteOf rowOf formedAt flawFrom formFault passOf shapeOk rowPass readPass answerOf checkOf
-refused-older = refl
+accepts = refl
 
 row-matches : RowMatches host (rowOf entry 0) (heldOf registers)
 unfolding all rowOf entryOf noteOf entryAt valueIn setIn isMember
@@ -66,8 +61,7 @@ pub elsewhere : Elsewhere
 unfolding readingOf format00 format10 operandOf signExtend condHolds conditionOf all lowest first policyOk partStart valueIn setIn valuesWith marksWith slotRuns targetOf stepOf disjointIn placedIn runFrom refusalOf runOf
 elsewhere =
     record {
-      newer = accepted-newer;
-      older = refused-older;
+      checked = accepts;
       matches = start-matches;
       returned = refl;
       counted = refl;
@@ -77,4 +71,4 @@ elsewhere =
 
 pub not-elsewhere : GuaranteedElsewhere → ⊥
 unfolding readingOf format00 format10 operandOf signExtend condHolds conditionOf all lowest first policyOk partStart valueIn setIn valuesWith marksWith slotRuns targetOf stepOf disjointIn placedIn runFrom refusalOf runOf
-not-elsewhere g = g V9 V8 policy words rows entry result accepted-newer [] returns registers [] start-matches 9 .ends
+not-elsewhere g = g V9 V8 policy words rows entry result accepts [] returns registers [] start-matches 9 .ends

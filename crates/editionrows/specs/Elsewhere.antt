@@ -14,7 +14,7 @@ use Rattle.step.specs.declared.Registers.{Registers}
 use Rattle.machine.specs.declared.End.the-variants.{Returned, Fault}
 use Rattle.machine.specs.Run.{Run, settingOf, startState, runOf, traceFrom}
 use Rattle.rows.specs.Row.{entryOf}
-use Rattle.checker.specs.Answer.{accepted, refuse}
+use Rattle.checker.specs.Answer.{accepted}
 use Rattle.checker.specs.Passes.{checkOf}
 use Rattle.guarantee.specs.Guarantee.{hostOf, Start, Guaranteed}
 use Rattle.trials.specs.Entries.{unset, bytesOf, bytesOfEntry, bytesOfRows}
@@ -63,11 +63,10 @@ registers =
 abbrev pub running : Edition → Run
 running f = runOf f policy words [] returns registers 9 []
 
--- The check accepts the routine for the newer terminal and not for the older, the start matches; on the newer the run returns, on the older it
--- faults before its first step is done.
+-- The check accepts the routine for the newer terminal, and the start matches; on the newer terminal the run returns, on the older it faults before
+-- a step is done.
 pub record Elsewhere : Type 0 where
-  pub newer : checkOf V9 policy words rows entry result ≡ accepted
-  pub older : checkOf V8 policy words rows entry result ≡ refuse 2 0 0
+  pub checked : checkOf V9 policy words rows entry result ≡ accepted
   pub matches : Start policy entry [] returns registers []
   pub returned : running V9 .outcome .end ≡ Returned
   pub counted : running V9 .outcome .steps ≡ 4

@@ -2,7 +2,7 @@
 -- whatever its hint. The words are those that GNU as gives, and stand above each row; a branch is told with its distance in words.
 use Prim.Native.Nat.{ℕ, zero, suc, _+_, _*_, _^_}
 use mathlib.Core.Path.{_≡_}
-use mathlib.Core.Bool.{Bool, true, false}
+use mathlib.Core.Bool.{true, false}
 use mathlib.Core.List.{List, [], _∷_, _++_}
 use Rattle.v8.specs.Numbers.{notRead}
 use Rattle.v8.specs.declared.Edition.{Edition}
@@ -11,7 +11,7 @@ use Rattle.v8.specs.declared.Reading.the-variants.{Unread}
 use Rattle.alu.specs.declared.condition.Narrowing.{Narrowing}
 use Rattle.alu.specs.declared.condition.Narrowing.the-variants.{Unrelated, EqualTo, NotEqualTo, LessThan, AtLeast}
 use Rattle.flow.specs.declared.Destination.the-variants.{To}
-use Rattle.trials.specs.Case.{Row, Given, Outcome, _gives_, edge, writing, examining, goes, reads, yields, marks, outcome}
+use Rattle.trials.specs.Case.{Row, Given, Outcome, edge, writing, examining, goes, reads, yields, marks, outcome}
 use Rattle.editionrows.specs.Hints.{eitherHint, allGive}
 
 -- the edge goes to a word, over the slot or not

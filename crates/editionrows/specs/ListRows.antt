@@ -1,7 +1,7 @@
 -- Whole listings of routines with predicted branches, on each terminal (document 02, request 5). The words are those that GNU as gives, and stand
 -- above each row; a branch is told with the word that it lands on.
 use Prim.Native.Nat.{ℕ}
-use mathlib.Core.List.{List, [], _∷_, _++_}
+use mathlib.Core.List.{List, [], _∷_}
 use Rattle.trials.specs.Entries.{bytesOf}
 use Rattle.lister.specs.Table.{tableMarks}
 use Rattle.kindrows.specs.Case.{Row}

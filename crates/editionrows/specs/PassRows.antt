@@ -2,7 +2,7 @@
 -- register. Each is told with the hint clear, and answered alike with it set. The words are those that GNU as gives, and stand above each row; a
 -- branch is told with the word that it lands on.
 use Prim.Native.Nat.{ℕ}
-use mathlib.Core.List.{List, [], _∷_, _++_, map}
+use mathlib.Core.List.{List, [], _∷_, _++_}
 use Rattle.v8.specs.Signed.{bias}
 use Rattle.rows.specs.declared.Entry.{Entry}
 use Rattle.rows.specs.declared.Row as Rows·

@@ -3,7 +3,7 @@
 use Prim.Native.Nat.{ℕ}
 use mathlib.Core.List.{List, [], _∷_, _++_}
 use Rattle.machine.specs.declared.End.the-variants.{Returned, Spent, Fault}
-use Rattle.trials.specs.Case.{Row, Given, _gives_}
+use Rattle.trials.specs.Case.{Row, Given}
 use Rattle.trials.specs.Runs.{sixteenBytes, start, equal, from, code, branching, left, counted, kept, faults}
 use Rattle.editionrows.specs.Hints.{eitherHint, allGive}
 
