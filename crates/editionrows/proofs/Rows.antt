@@ -38,7 +38,7 @@ use Rattle.lister.specs.Table.{marksAt, reached, raisedAt}
 use Rattle.lister.specs.Rules.{entryMarks, sentBy, takenIn, closedAt, closed}
 use Rattle.lister.specs.Listing.{raisedByWords, raisedOnce, raisedUntilClosed, listingOf, listingAnswer, listed}
 use Rattle.trials.specs.Case.{Holds}
-use Rattle.slotrows.specs.Table as Passes·
+use Rattle.slotrows.specs.Table as Slots·
 use Rattle.kindrows.specs.Table as Kinds·
 use Rattle.editionrows.specs.WordRows as Words
 use Rattle.editionrows.specs.FlowRows as Flows
@@ -82,11 +82,11 @@ edges-alike : Flows.EdgesAlike
 unfolding readingOf format00 signExtend conditionOf slotRuns targetOf
 edges-alike = record { clear = refl; hint = refl }
 
-flow-passes : Passes·.Holds V9 Passes.flowRows
+flow-passes : Slots·.Holds V9 Passes.flowRows
 unfolding readingOf format00 format10 format11 operandOf countOf signExtend lowest first any targetOf isSlot isTarget passOf flowPass
 flow-passes = refl
 
-word-passes : Passes·.Holds V9 Passes.wordRows
+word-passes : Slots·.Holds V9 Passes.wordRows
 unfolding readingOf format00 format10 format11 operandOf countOf signExtend conditionOf lowest first any widthOf fieldAt holdsIn stopOf findIn slotRuns targetOf isSlot isTarget ended fitsSet within addSets atMost atLeast lessThan isMember only without fits fitsNote fieldEntry entryAt entriesWith entryOf noteOf rowOf flawFrom fitsAt misfit offsetsGive addressSum aluResult inField inRegion reachOf noteAfter codesNote aluChange accessChange branchChange returnChange narrowEntry narrowRow passOf flowPass cross narrowedEdge wordPass
 word-passes = refl
 

@@ -21,7 +21,7 @@ over w c = goes (record { exists = true; slot = true; to = To (record { 0 = w })
 abbrev past : ℕ → Narrowing → Outcome
 past w c = goes (record { exists = true; slot = false; to = To (record { 0 = w }); narrowing = c })
 
--- there is none to a word
+-- there is no such edge: what it would be otherwise is said too
 abbrev missing : ℕ → Outcome
 missing w = goes (record { exists = false; slot = true; to = To (record { 0 = w }); narrowing = Unrelated })
 

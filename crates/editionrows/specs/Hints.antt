@@ -3,7 +3,7 @@
 use Prim.Native.Nat.{ℕ, _+_, _^_}
 use mathlib.Core.List.{List, [], _∷_, map}
 use Rattle.trials.specs.Case.{Row, Given, Outcome, _gives_, given}
-use Rattle.slotrows.specs.Case as Passes·
+use Rattle.slotrows.specs.Case as Slots·
 
 -- the word of a predicted branch with the hint set, from the word with the hint clear
 abbrev pub hinted : ℕ → ℕ
@@ -14,8 +14,8 @@ abbrev pub eitherHint : (ℕ → Given) → ℕ → Outcome → List Row
 eitherHint case w o = case w gives o ∷ case (hinted w) gives o ∷ []
 
 -- the same of the passes for flow and words
-abbrev pub eitherPass : (ℕ → Passes·.Given) → ℕ → Outcome → List Passes·.Row
-eitherPass case w o = Passes·._gives_ (case w) o ∷ Passes·._gives_ (case (hinted w)) o ∷ []
+abbrev pub eitherPass : (ℕ → Slots·.Given) → ℕ → Outcome → List Slots·.Row
+eitherPass case w o = Slots·._gives_ (case w) o ∷ Slots·._gives_ (case (hinted w)) o ∷ []
 
 -- the same cases, all with this outcome
 abbrev pub allGive : Outcome → List Row → List Row

@@ -36,13 +36,14 @@ flowRows =
 abbrev pub branching : ℕ → ℕ → Rows·.Row → Rows·.Row → ℕ → Given
 branching slot last a c x = routine (x ∷ slot ∷ 0x81C3E008 ∷ last ∷ []) (a ∷ called ∷ c ∷ called ∷ []) unset
 
--- r2 is the address of the word that may be read, r1 is 0 or 4, and its codes are those of the comparison with 0, or of no comparison known
+-- r2 is the address of the word that may be read, and r1 is given
 abbrev pub indexed : Entry → Rows·.Row
 indexed e = put 2 (at 0 0) (first e)
 
 abbrev pub zeroOrFour : Entry
 zeroOrFour = num 4 bias (above 4)
 
+-- r1 is 0 or 4, and was compared with 0; the same with codes that tell nothing of it
 abbrev pub tested : Rows·.Row
 tested = put 2 (at 0 0) (after bias zeroOrFour)
 
@@ -51,9 +52,9 @@ untested = put 2 (at 0 0) (coded zeroOrFour)
 
 abbrev pub wordRows : List Row
 wordRows =
-    -- be,pn %icc 0; nop; retl; nop: "4 with register 32 for unset codes"
+    -- be,pn %icc 0; nop; retl; nop: 4, "32 for codes, which always and never do not read"
     eitherPass (branching 0x01000000 0x01000000 called called) 0x02400000 (answers 4 0 32)
-    -- .. with codes; ba,pn %icc 0 and bn,pn %icc 0 read none
+    -- .. with codes; and ba,pn %icc 0 and bn,pn %icc 0 without
     ++ eitherPass (branching 0x01000000 0x01000000 (coded fours) called) 0x02400000 (answers 0 0 0)
     ++ eitherPass (branching 0x01000000 0x01000000 called called) 0x10400000 (answers 0 0 0)
     ++ eitherPass (branching 0x01000000 0x01000000 called called) 0x00400000 (answers 0 0 0)

@@ -2,7 +2,7 @@
 use Rattle.v8.specs.declared.Edition.{Edition}
 use Rattle.v8.specs.declared.Edition.the-variants.{V8, V9}
 use Rattle.trials.specs.Case.{Holds}
-use Rattle.slotrows.specs.Table as Passes·
+use Rattle.slotrows.specs.Table as Slots·
 use Rattle.kindrows.specs.Table as Kinds·
 use Rattle.editionrows.specs.WordRows as Words
 use Rattle.editionrows.specs.FlowRows as Flows
@@ -18,8 +18,8 @@ pub record NewerHolds : Type 0 where
   pub edges : Holds V9 Flows.edgeRows
   pub written : Holds V9 Flows.writtenRows
   pub slots : Holds V9 Flows.slotRows
-  pub flows : Passes·.Holds V9 Passes.flowRows
-  pub passes : Passes·.Holds V9 Passes.wordRows
+  pub flows : Slots·.Holds V9 Passes.flowRows
+  pub passes : Slots·.Holds V9 Passes.wordRows
   pub checks : Holds V9 Checks.newerRows
   pub runs : Holds V9 Runs.newerRows
   pub lists : Kinds·.Holds V9 Lists.newerRows
