@@ -1,2 +1,3 @@
+mod Form
 mod Elsewhere
 pub mod Rows

@@ -47,6 +47,7 @@ use Rattle.editionrows.specs.CheckRows as Checks
 use Rattle.editionrows.specs.RunRows as Runs
 use Rattle.editionrows.specs.ListRows as Lists
 use Rattle.editionrows.specs.Table.{NewerHolds, OlderHolds, EitherHolds, TableHolds}
+use Rattle.editionrows.proofs.Form.{form-no-effect}
 use Rattle.editionrows.proofs.Elsewhere.{elsewhere, not-elsewhere}
 
 words-newer : Holds V9 Words.newerRows
@@ -146,6 +147,7 @@ table-holds =
       older = older-holds;
       either = either-holds;
       edges = edges-alike;
+      form = form-no-effect;
       elsewhere = elsewhere;
       not-guaranteed = not-elsewhere;
     }

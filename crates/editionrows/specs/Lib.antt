@@ -5,5 +5,6 @@ pub mod PassRows
 pub mod CheckRows
 pub mod RunRows
 pub mod ListRows
+pub mod Form
 pub mod Elsewhere
 pub mod Table

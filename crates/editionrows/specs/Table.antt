@@ -1,4 +1,7 @@
 -- The table of request 5's worked cases, in parts small enough for one proof each.
+use Prim.Native.Nat.{ℕ}
+use mathlib.Core.Bool.{Bool}
+use Rattle.v8.specs.declared.BranchForm.{BranchForm}
 use Rattle.v8.specs.declared.Edition.{Edition}
 use Rattle.v8.specs.declared.Edition.the-variants.{V8, V9}
 use Rattle.trials.specs.Case.{Holds}
@@ -10,6 +13,7 @@ use Rattle.editionrows.specs.PassRows as Passes
 use Rattle.editionrows.specs.CheckRows as Checks
 use Rattle.editionrows.specs.RunRows as Runs
 use Rattle.editionrows.specs.ListRows as Lists
+use Rattle.editionrows.specs.Form.{FormNoEffect}
 use Rattle.editionrows.specs.Elsewhere.{Elsewhere, GuaranteedElsewhere}
 
 -- on the newer terminal
@@ -43,6 +47,8 @@ pub record TableHolds : Type 0 where
   pub either : (e : Edition) → EitherHolds e
   -- predicted branches have the edges of plain ones
   pub edges : Flows.EdgesAlike
+  -- of every branch
+  pub form : (annul : Bool) (cnd distance : ℕ) (f g : BranchForm) → FormNoEffect annul cnd distance f g
   -- a routine that one terminal's check accepts and that faults on the other: the guarantee is not for that run
   pub elsewhere : Elsewhere
   pub not-guaranteed : GuaranteedElsewhere → ⊥
