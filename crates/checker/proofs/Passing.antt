@@ -8,7 +8,8 @@ use lib.ListN.{length, getD}
 use borrow.Author.Tests.{lt-ltb, le-ltb, eq-eqb, ne-eqb}
 use Rattle.v8.specs.Numbers.{badRow, badFlow}
 use Rattle.v8.specs.declared.Reading.{Reading}
-use Rattle.flow.specs.Readings.{readingAt, transfers, isSlot, examined, Examines}
+use Rattle.flow.specs.Readings.{readingAt, transfers, isSlot, examined}
+use Rattle.flow.specs.Lent.{Examines}
 use Rattle.flow.specs.Flow.{flowWith, flowOf}
 use Rattle.flow.proofs.Examined.{slot-next}
 use Rattle.v8.specs.Search.{first}

@@ -4,7 +4,7 @@ ghost use mathlib.Core.Path.{_≡_};
 ghost use Prim.Native.Nat.{_*_, _≤_};
 ghost use lib.ListN.{length};
 ghost use Rattle.v8.specs.Numbers.{mostWords};
-ghost use Rattle.flow.specs.Readings.{codeOf, Formed, Examines};
+ghost use Rattle.flow.specs.Lent.{codeOf, Formed, Examines};
 ghost use Rattle.rows.specs.Geometry.{rowBytes, RowIn};
 ghost use Rattle.checker.specs.Answer.{passOf};
 ghost use Rattle.checker.specs.Passes.{rowPass, ifRead, readPass, flowPass, entryPass};

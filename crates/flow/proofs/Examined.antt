@@ -13,7 +13,8 @@ use borrow.Author.Tests.{eqb-true, eqb-false, ne-eqb, eq-eqb}
 use Rattle.v8.specs.Search.{any}
 use Rattle.v8.specs.declared.Reading.{Reading}
 use Rattle.v8.proofs.Search.{any-none, any-more, any-at}
-use Rattle.flow.specs.Readings.{readingAt, transfers, landsOn, isSlot, isTarget, examined, Outside, Examines, Adds}
+use Rattle.flow.specs.Readings.{readingAt, transfers, landsOn, isSlot, isTarget, examined}
+use Rattle.flow.specs.Lent.{Outside, Examines, Adds}
 
 module _ (readings : List Reading) where
   -- a word that is no slot is examined

@@ -15,7 +15,8 @@ use Rattle.v8.specs.Read.{readingOf}
 use Rattle.v8.specs.declared.Edition.{Edition}
 use Rattle.v8.specs.declared.Reading.{Reading}
 use Rattle.v8.specs.declared.Reading.the-variants.{Unread}
-use Rattle.flow.specs.Readings.{readingsOf, readingAt, codeOf, Formed}
+use Rattle.flow.specs.Readings.{readingsOf, readingAt}
+use Rattle.flow.specs.Lent.{codeOf, Formed}
 
 -- as many words are read as there are
 pub read-count : (e : Edition) (words : List ℕ) → length (readingsOf e words) ≡ length words

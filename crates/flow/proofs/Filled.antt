@@ -14,7 +14,8 @@ use Rattle.v8.specs.declared.Reading.{Reading}
 use Rattle.v8.specs.declared.Reading.the-variants.{Unread}
 use Rattle.v8.specs.Numbers.{notRead, mostWords}
 use Rattle.v8.specs.Read.{readingOf}
-use Rattle.flow.specs.Readings.{readingsOf, readingAt, codeOf, Formed, ReadAs}
+use Rattle.flow.specs.Readings.{readingsOf, readingAt}
+use Rattle.flow.specs.Lent.{codeOf, Formed, ReadAs}
 use Rattle.flow.proofs.Fetched.{read-count, fetched}
 
 -- the first i words are read

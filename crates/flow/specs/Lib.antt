@@ -1,5 +1,6 @@
 pub mod Transfer
 pub mod Edge
 pub mod Readings
+pub mod Lent
 pub mod Flow
 pub mod Laws

@@ -1,11 +1,10 @@
 -- The words of a routine as they are read, which of them are slots, which a taken edge lands on, and which are examined as ordinary words.
-use Prim.Native.Nat.{ℕ, _-_, _≤_, _<_}
-use mathlib.Core.Path.{_≡_}
+use Prim.Native.Nat.{ℕ, _-_}
 use mathlib.Core.Bool.{Bool, true, false, cond, not, _&&_, _||_}
 use mathlib.Core.List.{List, map}
 use lib.Dec.{eqb}
-use lib.ListN.{getD, length, take}
-use Rattle.v8.specs.Numbers.{notRead, mostWords}
+use lib.ListN.{getD, length}
+use Rattle.v8.specs.Numbers.{notRead}
 use Rattle.v8.specs.Search.{any}
 use Rattle.v8.specs.Read.{readingOf}
 use Rattle.v8.specs.declared.Edition.{Edition}
@@ -51,31 +50,3 @@ module _ (readings : List Reading) where
   -- examined as an ordinary word: "each word outside slots"; request 4: "A slot that a taken edge lands on is also examined as an ordinary word"
   abbrev pub examined : ℕ → Bool
   examined w = not (isSlot w) || isTarget w
-
--- The code keeps these in arrays that are filled once. Those of n words are the first n readings of an array ..
-abbrev pub codeOf : List Reading → ℕ → List Reading
-codeOf readings n = take n readings
-
--- .. behind which nothing is read
-pub record Formed (readings : List Reading) (n : ℕ) : Type 0 where
-  pub long : length readings ≡ mostWords
-  pub most : n ≤ mostWords
-  pub behind : (w : ℕ) → n ≤ w → readingAt readings w ≡ Unread notRead
-
--- an array has what n words are read as
-pub record ReadAs (readings : List Reading) (n : ℕ) (code : List Reading) : Type 0 where
-  pub formed : Formed readings n
-  pub is : codeOf readings n ≡ code
-
--- An array has at the index of every word whether it is outside slots ..
-abbrev pub Outside : List Bool → List Reading → Type 0
-Outside marks readings = (w : ℕ) → w < length readings → getD marks w false ≡ not (isSlot readings w)
-
--- .. and one whether it is examined
-abbrev pub Examines : List Bool → List Reading → Type 0
-Examines marks readings = (w : ℕ) → w < length readings → getD marks w false ≡ examined readings w
-
--- Marks are added to an array, wherever a test passes; those that it has stay.
-pub record Adds (before after : List Bool) (f : ℕ → Bool) : Type 0 where
-  pub long : length after ≡ length before
-  pub each : (w : ℕ) → w < length before → getD after w false ≡ getD before w false || f w

@@ -9,7 +9,7 @@ use borrow.Author.Needs.{needs}
 use borrow.Author.Tests.{not-true, not-false, eq-eqb}
 use Rattle.v8.specs.declared.Reading.{Reading}
 use Rattle.policy.specs.Policy.{policyOk}
-use Rattle.flow.specs.Readings.{codeOf}
+use Rattle.flow.specs.Lent.{codeOf}
 use Rattle.checker.specs.Answer.{passes}
 use Rattle.checker.specs.Passes.{readPass, flowPass, wordPass}
 use Rattle.checker.proofs.Parts.{Given, whole, over, over-read}

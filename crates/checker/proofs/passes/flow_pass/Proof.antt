@@ -6,7 +6,8 @@ use native.Mathlib.Omega.{arith}
 use Rattle.v8.specs.declared.Operation.the-variants.{Sethi}
 use Rattle.v8.specs.declared.Instruction.the-variants.{Plain}
 use Rattle.v8.specs.declared.Reading.the-variants.{Read}
-use Rattle.flow.specs.Readings.{isSlot, codeOf}
+use Rattle.flow.specs.Readings.{isSlot}
+use Rattle.flow.specs.Lent.{codeOf}
 use Rattle.flow.proofs.Fetched.{array-has, code-count}
 use Rattle.flow.proofs.Examined.{first-free}
 use Rattle.checker.specs.Answer.{passOf}

@@ -6,7 +6,7 @@ use native.Mathlib.Omega.{arith}
 use Rattle.v8.specs.declared.Operation.the-variants.{Sethi}
 use Rattle.v8.specs.declared.Instruction.the-variants.{Plain}
 use Rattle.v8.specs.declared.Reading.the-variants.{Read}
-use Rattle.flow.specs.Readings.{codeOf}
+use Rattle.flow.specs.Lent.{codeOf}
 use Rattle.flow.proofs.Fetched.{array-has}
 use Rattle.checker.specs.Answer.{passOf}
 use Rattle.checker.specs.Passes.{readPass}

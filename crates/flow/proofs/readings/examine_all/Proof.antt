@@ -8,7 +8,7 @@ use Rattle.v8.specs.Numbers.{mostWords}
 use Rattle.v8.specs.declared.Operation.the-variants.{Sethi}
 use Rattle.v8.specs.declared.Instruction.the-variants.{Plain}
 use Rattle.v8.specs.declared.Reading.the-variants.{Read}
-use Rattle.flow.specs.Readings.{codeOf}
+use Rattle.flow.specs.Lent.{codeOf}
 use Rattle.flow.proofs.Fetched.{array-has, code-count}
 use Rattle.flow.proofs.Examined.{Targeted, none-targeted, one-targeted, all-targeted}
 use Rattle.flow.proofs.readings.examine_all.Statement.{statement}

@@ -9,7 +9,8 @@ use Rattle.v8.specs.Numbers.{mostWords}
 use Rattle.v8.specs.declared.Operation.the-variants.{Sethi}
 use Rattle.v8.specs.declared.Instruction.the-variants.{Plain}
 use Rattle.v8.specs.declared.Reading.the-variants.{Read}
-use Rattle.flow.specs.Readings.{transfers, codeOf}
+use Rattle.flow.specs.Readings.{transfers}
+use Rattle.flow.specs.Lent.{codeOf}
 use Rattle.flow.proofs.Fetched.{array-has, code-count}
 use Rattle.flow.proofs.Examined.{Marked, first-marked, one-marked}
 use Rattle.flow.proofs.readings.outside_slots.Statement.{statement}

@@ -10,7 +10,8 @@ use borrow.Author.Needs.{needs}
 use borrow.Author.Tests.{not-true, not-false}
 use Rattle.policy.specs.Policy.{policyOk}
 use Rattle.v8.specs.declared.Reading.{Reading}
-use Rattle.flow.specs.Readings.{readingsOf, codeOf}
+use Rattle.flow.specs.Readings.{readingsOf}
+use Rattle.flow.specs.Lent.{codeOf}
 use Rattle.flow.proofs.Fetched.{read-count, code-count}
 use Rattle.checker.specs.declared.Answer.{Answer}
 use Rattle.checker.specs.Answer.{passOf}

@@ -11,7 +11,7 @@ use borrow.Author.Needs.{needs}
 use Rattle.v8.specs.declared.Reading.{Reading}
 use Rattle.policy.specs.declared.Policy.{Policy}
 use Rattle.access.specs.Layout.{layoutOf}
-use Rattle.flow.specs.Readings.{codeOf}
+use Rattle.flow.specs.Lent.{codeOf}
 use Rattle.flow.proofs.Fetched.{array-has, past-array}
 use Rattle.step.specs.Setting.{Setting}
 use Rattle.step.specs.Step.{State}
