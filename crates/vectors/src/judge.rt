@@ -6,6 +6,8 @@ use crate::case::case_of;
 use machine::End;
 use machine::Outcome;
 use policy::Policy;
+use records::edition::Told;
+use records::edition::edition_of;
 use states::same_codes;
 use states::same_registers;
 use step::Registers;
@@ -72,10 +74,9 @@ fn judge_on(edition: Edition, fields: &[u32; 25]) -> Verdict {
 }
 
 fn judge_case(fields: &[u32; 25]) -> Verdict {
-    match fields[24] {
-        8 => judge_on(Edition::V8, fields),
-        9 => judge_on(Edition::V9, fields),
-        _ => Verdict::Malformed,
+    match edition_of(fields[24]) {
+        Told::As(edition) => judge_on(edition, fields),
+        Told::Not => Verdict::Malformed,
     }
 }
 
