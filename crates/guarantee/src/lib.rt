@@ -18,7 +18,8 @@ pub struct CheckedRun {
     pub outcome: Outcome,
 }
 
-// Checks a routine and, where the check accepts, runs it, both for a terminal of the edition. Refused, it changes nothing.
+// Checks a routine and, where the check accepts, runs it, both for a terminal of the edition. Refused,
+// it changes nothing.
 pub fn checked_run(
     edition: Edition,
     policy: Policy,

@@ -40,8 +40,8 @@ fn refusal(policy: Policy, words: &[u32], bases: &[u32], returns: u32, memory: &
     ACCEPTED
 }
 
-// Runs a routine, on a terminal of the edition: refused with 20, 21 or 22, or step after step from word 0 until it has returned, has
-// spent the allowance, or stops at a fault. Refused, it changes nothing.
+// Runs a routine, on a terminal of the edition: refused with 20, 21 or 22, or step after step from word
+// 0 until it has returned, has spent the allowance, or stops at a fault. Refused, it changes nothing.
 pub fn run(
     edition: Edition,
     policy: Policy,

@@ -1,6 +1,6 @@
-// SPARC V8 words: the instructions of our subset, and words read as such. The lowest crate:
-// everything above it speaks of these types and rests on the definitions in specs/, never on the
-// code here. (Document 01, "Words we read".)
+// SPARC words: the instructions of our subset, V8's and (request 5) V9's predicted branch, and words
+// read as such. The lowest crate: everything above it speaks of these types and rests on the
+// definitions in specs/, never on the code here. (Document 01, "Words we read".)
 
 // The numbers of document 01.
 pub mod numbers;
