@@ -6,11 +6,12 @@ use mathlib.Core.List.{List}
 use native.Mathlib.Omega.{arith}
 use lib.Dec.{ltb, eqb}
 use borrow.Author.Tests.{ltb-true, ltb-false, not-false}
-use Rattle.v8.specs.Numbers.{badPolicy, badShape, badRow, badFlow, entryMisfit}
+use Rattle.v8.specs.Numbers.{badPolicy, badShape, badRow, badFlow, callersRegister, entryMisfit}
 use Rattle.v8.specs.Search.{first}
 use Rattle.v8.specs.declared.Reading.{Reading}
 use Rattle.v8.proofs.Search.{first-passes, first-least, needed}
 use Rattle.v8.proofs.Choice.{false-true}
+use Rattle.flow.specs.Written.{writtenBy, leavesCallers}
 use Rattle.flow.specs.Readings.{readingAt, examined}
 use Rattle.flow.specs.Flow.{flowOf}
 use Rattle.policy.specs.Policy.{policyOk}
@@ -22,7 +23,7 @@ use Rattle.rows.proofs.LowestFlaw.{flawless-none}
 use Rattle.checker.specs.declared.Answer.{Answer}
 use Rattle.checker.specs.Answer.{accepted, passes, andThen, need, refuses, passOf}
 use Rattle.checker.specs.Routine.{Routine, routineOf, count, rowAt, entryRow}
-use Rattle.checker.specs.Passes.{unlessFault, policyPass, shapeOk, shapePass, rowPass, readPass, flowPass, entryPass, look, wordPass, answerOf, checkOf}
+use Rattle.checker.specs.Passes.{unlessFault, policyPass, shapeOk, shapePass, rowPass, readPass, callersLeft, flowPass, entryPass, look, wordPass, answerOf, checkOf}
 use Rattle.checker.specs.Laws.{Checked, Accepts}
 use Rattle.checker.proofs.Started.{shape-started}
 
@@ -57,10 +58,20 @@ each-passes f n e w l = at (ltb (first (refuses f) 0 n) n) refl e
     at true t e = clash (passes (f (first (refuses f) 0 n))) (first-passes (refuses f) 0 n (ltb-true (first (refuses f) 0 n) n t)) e
     at false t e = not-false (passes (f w)) (first-least (refuses f) 0 n w (omega arith) (omega (arith, ltb-false (first (refuses f) 0 n) n t)))
 
--- a word that pass 3 accepts has its flow
-pub flow-holds : (readings : List Reading) (w : ℕ) → passes (flowPass readings w) ≡ true → flowOf readings w (readingAt readings w) ≡ true
-unfolding flowPass
-flow-holds readings w e = need-holds (flowOf readings w (readingAt readings w)) badFlow w 0 refl e
+-- a word that pass 3 accepts has its flow, and leaves the caller's registers alone
+module _ (readings : List Reading) (w : ℕ) (e : passes (flowPass readings w) ≡ true) where
+  abbrev flows : Bool
+  flows = flowOf readings w (readingAt readings w)
+
+  both-hold : (passes (need flows badFlow w 0) ≡ true) × (passes (callersLeft w (readingAt readings w)) ≡ true)
+  unfolding flowPass
+  both-hold = both-pass (need flows badFlow w 0) (callersLeft w (readingAt readings w)) e
+
+  pub flow-holds : flowOf readings w (readingAt readings w) ≡ true
+  flow-holds = need-holds flows badFlow w 0 refl (both-hold .0)
+
+  pub callers-left : leavesCallers (readingAt readings w) ≡ true
+  callers-left = need-holds (leavesCallers (readingAt readings w)) callersRegister w (writtenBy (readingAt readings w)) refl (both-hold .1)
 
 module _ (t : Routine) where
   row-formed : (w : ℕ) → passes (rowPass (t .policy) (t .rows) w) ≡ true
@@ -105,6 +116,7 @@ module _ (t : Routine) where
         rows-formed = λ w l. row-formed w (each-passes (rowPass (t .policy) (t .rows)) (count t) (c .0) w l);
         reads = each-passes (readPass (t .readings)) (count t) (d .0);
         flows = λ w l. flow-holds (t .readings) w (each-passes (flowPass (t .readings)) (count t) (f .0) w l);
+        leaves = λ w l. callers-left (t .readings) w (each-passes (flowPass (t .readings)) (count t) (f .0) w l);
         entry = entry-fits (g .0);
         words = λ w l x. word-passes w (each-passes words (count t) (g .1) w l) x;
       }

@@ -6,7 +6,7 @@ use mathlib.Core.List.{List}
 use lib.Dec.{ltb}
 use lib.ListN.{length, getD}
 use borrow.Author.Tests.{lt-ltb, le-ltb, eq-eqb, ne-eqb}
-use Rattle.v8.specs.Numbers.{badRow, badFlow}
+use Rattle.v8.specs.Numbers.{badRow}
 use Rattle.v8.specs.declared.Reading.{Reading}
 use Rattle.flow.specs.Readings.{readingAt, transfers, isSlot, examined}
 use Rattle.flow.specs.Lent.{Examines}
@@ -19,8 +19,8 @@ use Rattle.rows.specs.declared.Flaw.the-variants.{None, At}
 use Rattle.rows.specs.Geometry.{rowBytes}
 use Rattle.rows.specs.Row.{formFault}
 use Rattle.checker.specs.declared.Answer.{Answer}
-use Rattle.checker.specs.Answer.{accepted, refuse, need, passes, refuses, passOf}
-use Rattle.checker.specs.Passes.{rowPass, ifRead, readPass, flowPass, look, wordPass}
+use Rattle.checker.specs.Answer.{accepted, refuse, passes, refuses, passOf}
+use Rattle.checker.specs.Passes.{rowPass, ifRead, readPass, flowThen, flowPass, look, wordPass}
 use Rattle.checker.specs.Lent.{ReadingIn}
 use Rattle.checker.proofs.Accepted.{each-passes}
 use Rattle.checker.proofs.Inside.{word-in}
@@ -69,17 +69,15 @@ module _ (code : List Reading) (i : ℕ) (x : Reading) (here : x ≡ readingAt c
   unfolding readPass
   read-here a e = e ∙ ap (ifRead i) here
 
-  pub flow-here : (n : ℕ) (inSlot ordinary t : Bool) (a : Answer) → n ≡ length code → inSlot ≡ isSlot code i → ordinary ≡ examined code i
-      → t ≡ flowWith n inSlot ordinary i x → a ≡ need t badFlow i 0 → a ≡ flowPass code i
+  pub flow-here : (n : ℕ) (inSlot ordinary : Bool) (a : Answer) → n ≡ length code → inSlot ≡ isSlot code i → ordinary ≡ examined code i
+      → a ≡ flowThen (flowWith n inSlot ordinary i x) i x → a ≡ flowPass code i
   unfolding flowPass
-  flow-here n inSlot ordinary t a c p q f e = e ∙ ap (λ (b : Bool). need b badFlow i 0) (f ∙ same)
-    where
-      same : flowWith n inSlot ordinary i x ≡ flowOf code i (readingAt code i)
-      same =
-          ap (λ (m : ℕ). flowWith m inSlot ordinary i x) c
-          ∙ ap (λ (b : Bool). flowWith (length code) b ordinary i x) p
-          ∙ ap (λ (b : Bool). flowWith (length code) (isSlot code i) b i x) q
-          ∙ ap (flowOf code i) here
+  flow-here n inSlot ordinary a c p q e =
+      e
+      ∙ ap (λ (m : ℕ). flowThen (flowWith m inSlot ordinary i x) i x) c
+      ∙ ap (λ (b : Bool). flowThen (flowWith (length code) b ordinary i x) i x) p
+      ∙ ap (λ (b : Bool). flowThen (flowWith (length code) (isSlot code i) b i x) i x) q
+      ∙ ap (λ (y : Reading). flowThen (flowOf code i y) i y) here
 
   -- the next word is a slot exactly if this one is read as a transfer
   pub slot-here : (t : Bool) → t ≡ transfers x → t ≡ isSlot code (i + 1)

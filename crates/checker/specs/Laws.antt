@@ -15,7 +15,7 @@ use Rattle.flow.specs.declared.Destination.the-variants.{To, Caller}
 use Rattle.flow.specs.declared.Edge.{Edge}
 use Rattle.flow.specs.Edge.{edgeOf}
 use Rattle.flow.specs.Readings.{readingAt, examined}
-use Rattle.flow.specs.Laws.{Flowing}
+use Rattle.flow.specs.Laws.{Flowing, Leaving}
 use Rattle.policy.specs.declared.Policy.{Policy}
 use Rattle.policy.specs.Policy.{policyOk}
 use Rattle.rows.specs.declared.Flaw.the-variants.{None}
@@ -45,6 +45,8 @@ pub record Checked (t : Routine) : Type 0 where
   pub reads : (w : ℕ) → w < count t → passes (readPass (t .readings) w) ≡ true
   -- 3
   pub flows : Flowing (t .readings)
+  -- 25
+  pub leaves : Leaving (t .readings)
   -- 15
   pub entry : misfit (entryRow (t .entry)) (rowAt (t .rows) 0) ≡ None
   -- each word that is examined

@@ -4,13 +4,14 @@ use mathlib.Core.Bool.{Bool, true, false, cond, _&&_}
 use mathlib.Core.List.{List}
 use lib.Dec.{leb, eqb}
 use lib.ListN.{length}
-use Rattle.v8.specs.Numbers.{badPolicy, badShape, badRow, badFlow, entryMisfit, edgeMisfit, resultMisfit, mostWords}
+use Rattle.v8.specs.Numbers.{badPolicy, badShape, badRow, badFlow, callersRegister, entryMisfit, edgeMisfit, resultMisfit, mostWords}
 use Rattle.v8.specs.declared.Edition.{Edition}
 use Rattle.v8.specs.declared.Reading.{Reading}
 use Rattle.v8.specs.declared.Reading.the-variants.{Read, Unread}
 use Rattle.flow.specs.declared.Destination.{Destination}
 use Rattle.flow.specs.declared.Destination.the-variants.{To, Caller}
 use Rattle.flow.specs.declared.Edge.{Edge}
+use Rattle.flow.specs.Written.{writtenBy, leavesCallers}
 use Rattle.flow.specs.Edge.{edgeOf}
 use Rattle.flow.specs.Readings.{readingAt, examined}
 use Rattle.flow.specs.Flow.{flowOf}
@@ -70,9 +71,16 @@ ifRead w (Unread number) = refuse number w 0
 unfoldable pub readPass : List Reading → ℕ → Answer
 readPass readings w = ifRead w (readingAt readings w)
 
--- "3 flow, its word"
+-- request 6: "25, with its word and that register", for a word that would write a register of the caller
+abbrev pub callersLeft : ℕ → Reading → Answer
+callersLeft w x = need (leavesCallers x) callersRegister w (writtenBy x)
+
+-- "3 flow, its word"; request 6: "in the flow pass .., after 3 at the same word"
+abbrev pub flowThen : Bool → ℕ → Reading → Answer
+flowThen flows w x = andThen (need flows badFlow w 0) (callersLeft w x)
+
 unfoldable pub flowPass : List Reading → ℕ → Answer
-flowPass readings w = need (flowOf readings w (readingAt readings w)) badFlow w 0
+flowPass readings w = flowThen (flowOf readings w (readingAt readings w)) w (readingAt readings w)
 
 -- "15 the entry row does not fit row 0: lowest register or 32"
 unfoldable pub entryPass : List ℕ → List ℕ → Answer

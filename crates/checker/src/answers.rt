@@ -29,14 +29,14 @@ pub fn refuse(number: u8, at: WordIndex, register: u8) -> Answer
     }
 }
 
-// A condition that holds, or its number and word.
-pub fn need(holds: bool, number: u8, at: WordIndex) -> Answer
-    ensures { λ r. ⌜ r ≡ need holds number (at .0) 0 ⌝ }
+// A condition that holds, or its number, word and register.
+pub fn need(holds: bool, number: u8, at: WordIndex, register: u8) -> Answer
+    ensures { λ r. ⌜ r ≡ need holds number (at .0) register ⌝ }
 {
     if holds {
         return accept();
     }
-    refuse(number, at, 0)
+    refuse(number, at, register)
 }
 
 // A row's lowest place that has a flaw is named.

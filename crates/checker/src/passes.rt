@@ -1,13 +1,14 @@
 // The passes over the words, each to the first word that breaks its condition (specs/Passes.antt). Handed
 // over is what the words are read as, and which of them are examined.
 ghost use mathlib.Core.Path.{_≡_};
-ghost use Prim.Native.Nat.{_*_, _≤_};
+ghost use Prim.Native.Nat.{_*_, _<_, _≤_};
 ghost use lib.ListN.{length};
 ghost use Rattle.v8.specs.Numbers.{mostWords};
 ghost use Rattle.flow.specs.Lent.{codeOf, Formed, Examines};
+ghost use Rattle.flow.specs.Flow.{flowWith};
 ghost use Rattle.rows.specs.Geometry.{rowBytes, RowIn};
 ghost use Rattle.checker.specs.Answer.{passOf};
-ghost use Rattle.checker.specs.Passes.{rowPass, ifRead, readPass, flowPass, entryPass};
+ghost use Rattle.checker.specs.Passes.{rowPass, ifRead, readPass, flowThen, flowPass, entryPass};
 use crate::Answer;
 use crate::answers::accept;
 use crate::answers::need;
@@ -15,6 +16,8 @@ use crate::answers::refuse;
 use crate::answers::unless_fault;
 use flow::flows::flows;
 use flow::readings::transfers;
+use flow::written::is_callers;
+use flow::written::written_by;
 use policy::Policy;
 use rows::formed_at;
 use rows::geometry::PLACES;
@@ -26,6 +29,7 @@ use v8::WordIndex;
 use v8::numbers::ACCEPTED;
 use v8::numbers::BAD_FLOW;
 use v8::numbers::BAD_ROW;
+use v8::numbers::CALLERS_REGISTER;
 use v8::numbers::ENTRY_MISFIT;
 use v8::numbers::MOST_WORDS;
 
@@ -85,7 +89,20 @@ pub fn read_pass(readings: [Reading; MOST_WORDS], count: usize) -> Answer
     accept()
 }
 
-// Pass 3: the words' flow.
+// Pass 3 at a word, in a slot or not, examined as an ordinary word or not, read as x: its flow, and then
+// that it writes no register of the caller.
+fn flow_at(count: usize, at: WordIndex, in_slot: bool, ordinary: bool, x: Reading) -> Answer
+    requires { ⌜ at .0 < mostWords ⌝ }
+    ensures { λ r. ⌜ r ≡ flowThen (flowWith count in_slot ordinary (at .0) x) (at .0) x ⌝ }
+{
+    if !flows(count, at, in_slot, ordinary, x) {
+        return refuse(BAD_FLOW, at, 0);
+    }
+    let register = written_by(x);
+    need(!is_callers(register), CALLERS_REGISTER, at, register)
+}
+
+// Pass 3: the words' flow, and the registers that they write.
 pub fn flow_pass(
     readings: [Reading; MOST_WORDS],
     count: usize,
@@ -99,7 +116,7 @@ pub fn flow_pass(
     while i < count {
         let x = readings[i];
         let at = WordIndex(i as u32);
-        let found = need(flows(count, at, in_slot, marks[i], x), BAD_FLOW, at);
+        let found = flow_at(count, at, in_slot, marks[i], x);
         if found.number != ACCEPTED {
             return found;
         }

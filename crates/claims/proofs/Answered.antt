@@ -8,7 +8,7 @@ use mathlib.Core.List.{List, [], _∷_}
 use native.Mathlib.Omega.{arith}
 use lib.ListN.{length}
 use Rattle.v8.specs.Search.{any, first, lowest}
-use Rattle.v8.specs.Numbers.{badRow, badFlow, entryMisfit}
+use Rattle.v8.specs.Numbers.{badRow, entryMisfit}
 use Rattle.v8.specs.Read.{readingOf}
 use Rattle.v8.specs.declared.Edition.{Edition}
 use Rattle.v8.specs.declared.Reading.{Reading}
@@ -27,9 +27,9 @@ use Rattle.rows.specs.Row.{entryAt, entryOf, rowOf, formFault, misfit}
 use Rattle.rows.proofs.Tests.{other-kind}
 use Rattle.rules.specs.Change.{branchChange, returnChange}
 use Rattle.rules.specs.Narrow.{narrowRow}
-use Rattle.checker.specs.Answer.{accepted, refuse, need, passes, passOf}
+use Rattle.checker.specs.Answer.{accepted, refuse, passes, passOf}
 use Rattle.checker.specs.Routine.{Routine, routineOf}
-use Rattle.checker.specs.Passes.{shapeOk, rowPass, readPass, flowPass, entryPass, cross, narrowedEdge, wordPass, checkOf}
+use Rattle.checker.specs.Passes.{shapeOk, rowPass, readPass, flowThen, flowPass, entryPass, cross, narrowedEdge, wordPass, checkOf}
 use Rattle.claims.specs.Claims.{nop, returnWord, alwaysHere, WellFormedEntry, AllRowsEqual, ReturnThenNop, OneNop, LoopAccepted}
 use Rattle.claims.proofs.Agreeing.{Agree, same-row}
 use Rattle.claims.proofs.Passing.{unless-none, formed-too, all-pass, flow-answers, all-accept}
@@ -120,7 +120,7 @@ module _ (v : Edition) (p : Policy) (rows entry result : List ℕ) (f : WellForm
 
       slot-flows : passes (flowPass (pair .readings) 1) ≡ true
       unfolding flowPass isSlot
-      slot-flows = subst (λ (x : Reading). passes (need (flowOf (pair .readings) 1 x) badFlow 1 0) ≡ true) (sym (nop-read v)) (rw (off, slot))
+      slot-flows = subst (λ (x : Reading). passes (flowThen (flowOf (pair .readings) 1 x) 1 x) ≡ true) (sym (nop-read v)) (rw (off, slot))
 
       slot-accepts : passes (wordPass p (pair .readings) rows result 1) ≡ true
       unfolding wordPass isSlot

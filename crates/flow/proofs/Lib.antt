@@ -2,3 +2,4 @@ pub mod Fetched
 pub mod Filled
 pub mod Examined
 pub mod Onward
+pub mod Leaving

@@ -1,4 +1,5 @@
--- Where control goes in words that each pass 3. Later parts use these and not the definition. The proofs are in proofs/Onward.antt.
+-- Where control goes in words that each pass 3, and what they write where each passes 25. Later parts use these and not the definition. The proofs
+-- are in proofs/Onward.antt and proofs/Leaving.antt.
 use Prim.Native.Nat.{ℕ, _+_, _<_}
 use mathlib.Core.Path.{_≡_}
 use mathlib.Core.Bool.{Bool, true, false}
@@ -10,6 +11,7 @@ use Rattle.v8.specs.declared.Reading.the-variants.{Read}
 use Rattle.flow.specs.declared.Destination.{Destination}
 use Rattle.flow.specs.declared.Destination.the-variants.{To, Caller}
 use Rattle.flow.specs.Transfer.{isTransfer}
+use Rattle.flow.specs.Written.{writtenBy, isCallers, leavesCallers}
 use Rattle.flow.specs.Edge.{edgeOf}
 use Rattle.flow.specs.Readings.{readingAt, transfers, isSlot, examined}
 use Rattle.flow.specs.Flow.{flowOf}
@@ -50,3 +52,11 @@ abbrev pub SlotNoTransfer : Type 0
 SlotNoTransfer =
     (readings : List Reading) → Flowing readings → (w : ℕ) → w + 1 < length readings → transfers (readingAt readings w) ≡ true
     → transfers (readingAt readings (w + 1)) ≡ false
+
+-- each word leaves the caller's registers alone
+abbrev pub Leaving : List Reading → Type 0
+Leaving readings = (w : ℕ) → w < length readings → leavesCallers (readingAt readings w) ≡ true
+
+-- What then stands at an index, whichever it is, writes no register of the caller: a word outside the code is not read, and writes none.
+abbrev pub LeavesEverywhere : Type 0
+LeavesEverywhere = (readings : List Reading) → Leaving readings → (w : ℕ) → isCallers (writtenBy (readingAt readings w)) ≡ false

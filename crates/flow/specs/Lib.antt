@@ -1,4 +1,5 @@
 pub mod Transfer
+pub mod Written
 pub mod Edge
 pub mod Readings
 pub mod Lent

@@ -6,10 +6,6 @@ use mathlib.Core.Bool.{Bool, true, false, cond, not, _&&_, _||_}
 use lib.Dec.{eqb}
 use Rattle.v8.specs.Numbers.{never, always}
 use Rattle.v8.specs.declared.Bicc.{Bicc}
-use Rattle.v8.specs.declared.Access.{Access}
-use Rattle.v8.specs.declared.Access.the-variants.{Loads, Stores}
-use Rattle.v8.specs.declared.Operation.{Operation}
-use Rattle.v8.specs.declared.Operation.the-variants.{Sethi, Alu, Shift, Memory}
 use Rattle.v8.specs.declared.Instruction.{Instruction}
 use Rattle.v8.specs.declared.Instruction.the-variants.{Plain, Branch, Return}
 
@@ -44,19 +40,3 @@ landing at b taken = cond taken (targetOf at b) (at + 2)
 -- r15, where the leaf return finds the return address
 abbrev pub link : ℕ
 link = 15
-
--- the register that an instruction writes; r0, where writes vanish, for one that writes none
-abbrev pub accessWrites : Access → ℕ → ℕ
-accessWrites (Loads op) rd = rd
-accessWrites (Stores op) rd = 0
-
-abbrev pub operationWrites : Operation → ℕ
-operationWrites (Sethi rd imm22) = rd
-operationWrites (Alu op cc rd rs1 x) = rd
-operationWrites (Shift op rd rs1 x) = rd
-operationWrites (Memory a rd rs1 d) = accessWrites a rd
-
-abbrev pub registerWritten : Instruction → ℕ
-registerWritten (Plain x) = operationWrites x
-registerWritten (Branch b) = 0
-registerWritten Return = 0

@@ -4,6 +4,8 @@
 
 // Transfers, slots and targets.
 pub mod transfer;
+// The register that an instruction writes.
+pub mod written;
 // The edges of a word.
 pub mod edges;
 // The words as they are read.

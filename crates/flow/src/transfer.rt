@@ -3,11 +3,9 @@
 ghost use mathlib.Core.Path.{_≡_};
 ghost use Prim.Native.Nat.{_<_};
 ghost use Rattle.v8.specs.Numbers.{mostWords};
-ghost use Rattle.flow.specs.Transfer.{isTransfer, readsCodes, hasEdge, slotRuns, targetOf, landing, accessWrites, operationWrites, registerWritten};
-use v8::Access;
+ghost use Rattle.flow.specs.Transfer.{isTransfer, readsCodes, hasEdge, slotRuns, targetOf, landing};
 use v8::Bicc;
 use v8::Instruction;
-use v8::Operation;
 use v8::WordIndex;
 use v8::numbers::ALWAYS;
 use v8::numbers::NEVER;
@@ -68,37 +66,4 @@ pub fn landing_of(at: WordIndex, b: Bicc, taken: bool) -> WordIndex
         return target(at, b);
     }
     WordIndex(at.0 + 2)
-}
-
-// The register that an access with rd writes; r0 where it writes none.
-fn access_writes(a: Access, rd: u8) -> u8
-    ensures { λ r. ⌜ r ≡ accessWrites a rd ⌝ }
-{
-    match a {
-        Access::Loads(_) => rd,
-        Access::Stores(_) => 0,
-    }
-}
-
-// The register that an operation writes; r0 where it writes none.
-fn operation_writes(x: Operation) -> u8
-    ensures { λ r. ⌜ r ≡ operationWrites x ⌝ }
-{
-    match x {
-        Operation::Sethi { rd, .. } => rd,
-        Operation::Alu { rd, .. } => rd,
-        Operation::Shift { rd, .. } => rd,
-        Operation::Memory { access, rd, .. } => access_writes(access, rd),
-    }
-}
-
-// The register that an instruction writes; r0, where writes vanish, for one that writes none.
-pub fn register_written(x: Instruction) -> u8
-    ensures { λ r. ⌜ r ≡ registerWritten x ⌝ }
-{
-    match x {
-        Instruction::Plain(operation) => operation_writes(operation),
-        Instruction::Branch(_) => 0,
-        Instruction::Return => 0,
-    }
 }

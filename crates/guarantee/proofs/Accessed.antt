@@ -15,6 +15,7 @@ use Rattle.v8.specs.declared.Displacement.{Displacement}
 use Rattle.v8.specs.declared.Operation.the-variants.{Memory}
 use Rattle.v8.specs.Laws.{OperandSmall}
 use Rattle.alu.specs.Result.{add32}
+use Rattle.flow.specs.Written.{accessWrites}
 use Rattle.policy.specs.declared.Policy.{Policy}
 use Rattle.policy.specs.declared.Field.{Field}
 use Rattle.policy.specs.declared.Found.the-variants as Found·
@@ -206,7 +207,7 @@ module _ (p : Policy) (bases : List ℕ) (returns : ℕ) (wf : WellFormed p) (la
 
       -- a load gives what the field holds; a store's value fits it, or the store breaks a condition
       field-covers : (a : Access) (rd : ℕ) → (stores a && isUnset (entryAt row rd)) ≡ false → (place : ℕ) (q : Reached p host a x y place)
-          → Covering a rd (accessed (row .note) a rd (entryAt row rd) (fieldEntry (fieldOf p (q .region) (q .field))))
+          → Covering a rd (accessed (row .note) a (accessWrites a rd) rd (entryAt row rd) (fieldEntry (fieldOf p (q .region) (q .field))))
       field-covers (Loads op) rd ud place q =
           let held = fieldEntry (fieldOf p (q .region) (q .field)) in
           let there = byteOf p (q .region) (q .offset) in
@@ -227,7 +228,7 @@ module _ (p : Policy) (bases : List ℕ) (returns : ℕ) (wf : WellFormed p) (la
 
       reach-covers : (a : Access) (rd : ℕ) → (stores a && isUnset (entryAt row rd)) ≡ false
           → (r : Reach) → reachOf (p .regions .fields) (p .fields) a rs1 (entryAt row rs1) (operandName (addend d)) (operandEntry row (addend d)) ≡ r
-          → Covering a rd (accessedAt p (row .note) a rd (entryAt row rd) r)
+          → Covering a rd (accessedAt p (row .note) a (accessWrites a rd) rd (entryAt row rd) r)
       reach-covers a rd ud (Outside n r) e = tt
       reach-covers a rd ud (Inside place) e =
           let q : Reached p host a x y place =
@@ -235,7 +236,7 @@ module _ (p : Policy) (bases : List ℕ) (returns : ℕ) (wf : WellFormed p) (la
           (f .rules .entries rs1) (operand-rules p host row c ck f (addend d))
           (read-small (c .registers) (ck .words) rs1) (operand-word p host row c ck f (addend d) l)
           (register-held p host row c ck f rs1 ua .1) (operand-held p host row c ck f (addend d) ub .1) e in
-          subst (λ (n : ℕ). Covering a rd (accessed (row .note) a rd (entryAt row rd) (fieldEntry (fieldAt p n)))) (sym (q .here))
+          subst (λ (n : ℕ). Covering a rd (accessed (row .note) a (accessWrites a rd) rd (entryAt row rd) (fieldEntry (fieldAt p n)))) (sym (q .here))
           (field-covers a rd ud place q)
 
     pub access-covers : (a : Access) (rd : ℕ) → Covering a rd (operationChange p row (Memory a rd rs1 d))

@@ -7,6 +7,7 @@ pub mod Stored
 pub mod Accessed
 pub mod Covered
 pub mod Stepping
+pub mod Callers
 pub mod Running
 pub mod Whole
 pub mod Accepted

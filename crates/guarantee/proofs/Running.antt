@@ -10,6 +10,7 @@ use Rattle.policy.specs.declared.Policy.{Policy}
 use Rattle.policy.specs.Laws.{WellFormed}
 use Rattle.access.specs.Layout.{layoutOf}
 use Rattle.flow.specs.Readings.{readingAt}
+use Rattle.flow.proofs.Leaving.{leaves-everywhere}
 use Rattle.step.specs.Setting.{Setting}
 use Rattle.step.specs.Step.{State, Step, stopped, next, returned, stepOf}
 use Rattle.machine.specs.Run.{Run, afterStep, tracedStep, runFrom, traceFrom}
@@ -23,6 +24,7 @@ use Rattle.guarantee.specs.Fields.{Declared, Framed}
 use Rattle.guarantee.specs.Guarantee.{hostOf, EndsWell, Follows, halts, goes, leaves, coreLeft, Each, StepSafe, Guaranteed}
 use Rattle.guarantee.specs.Invariant.{Invariant, StepGood}
 use Rattle.guarantee.proofs.Computed.{framed-self}
+use Rattle.guarantee.proofs.Callers.{untouched}
 use Rattle.guarantee.proofs.Stepping.{step-sound}
 
 framed-on : (p : Policy) (a b c : List ℕ) → Framed p a b → Framed p b c → Framed p a c
@@ -75,6 +77,7 @@ module _ (t : Routine) (bases : List ℕ) (returns : ℕ) (wf : WellFormed (t .p
   pub guaranteed : (n : ℕ) (st : State) → Invariant t h st → Guaranteed (t .policy) (resultEntry (t .result)) s h st n (runFrom s n 0 st) (traceFrom s n st)
   guaranteed n st i =
       let r = claimed n 0 st i in
+      let c = untouched s (leaves-everywhere (t .readings) (ch .leaves)) n 0 st in
       record {
         ends = r .ends;
         steps = counts-trace s n 0 st ∙ zero-add (length (traceFrom s n st));
@@ -83,4 +86,6 @@ module _ (t : Routine) (bases : List ℕ) (returns : ℕ) (wf : WellFormed (t .p
         safe = r .safe;
         declared = r .declared;
         framed = r .framed;
+        callers = c .ended;
+        callers-throughout = c .throughout;
       }

@@ -12,9 +12,11 @@ use Rattle.memory.specs.Memory.{Bytes}
 use Rattle.step.specs.declared.Registers.{Registers}
 use Rattle.step.specs.Registers.{markCount, valueOf, isSet}
 use Rattle.flow.specs.Readings.{readingAt}
+use Rattle.flow.specs.Written.{isCallers}
 use Rattle.step.specs.Setting.{Setting}
 use Rattle.step.specs.Effect.{Core}
 use Rattle.step.specs.Step.{State, next, returned, stepOf}
+use Rattle.step.specs.Laws.{Unchanged}
 use Rattle.machine.specs.declared.End.{End}
 use Rattle.machine.specs.declared.End.the-variants.{Returned, Spent, Fault, Refused}
 use Rattle.machine.specs.Placement.{placedIn}
@@ -80,6 +82,10 @@ Each P (st ∷ rest) = P st × Each P rest
 abbrev pub StepSafe : Policy → Host → Setting → State → Type 0
 StepSafe p h s st = ReadingSafe p h (st .core .registers) (readingAt (s .readings) (st .control .at .0))
 
+-- the registers of the caller are as they were, values and marks
+abbrev pub CallersUnchanged : Registers → Registers → Type 0
+CallersUnchanged before after = (r : ℕ) → isCallers r ≡ true → Unchanged before after r
+
 -- one claim about a whole run from a state with an allowance, and the states whose steps were run
 pub record Guaranteed (p : Policy) (result : Entry) (s : Setting) (h : Host) (start : State) (allowance : ℕ) (run : Run) (trace : List State) : Type 0 where
   -- not refused, at no fault, and the result matches if it returned
@@ -96,6 +102,10 @@ pub record Guaranteed (p : Policy) (result : Entry) (s : Setting) (h : Host) (st
   pub declared : Declared p h (run .memory)
   -- "every byte of the lent memory outside writable fields is as it was at the start"
   pub framed : Framed p (start .core .memory) (run .memory)
+  -- request 6: "The running guarantee adds that these never change.": r14 and r16 to r31 are at the end, however it ends, as at the start ..
+  pub callers : CallersUnchanged (start .core .registers) (run .outcome .registers)
+  -- .. and so in every state of the trace
+  pub callers-throughout : Each (λ (st : State). CallersUnchanged (start .core .registers) (st .core .registers)) trace
 
 -- the running guarantee; request 5: "the guarantee being for a run on the one the check was told", which check and run share as e
 abbrev pub RunningGuarantee : Type 0

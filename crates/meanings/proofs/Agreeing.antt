@@ -36,7 +36,7 @@ use Rattle.step.specs.declared.Aim.the-variants.{Address, Missed}
 use Rattle.step.specs.Registers as Registers·
 use Rattle.step.specs.Registers.{valueIn, setIn, valuesWith, valueOf, isSet, written, withCodes, operandValue, operandSet}
 use Rattle.step.specs.Effect.{Core, Effect, fault, done, aluRegisters, aimOf, movedSet, touching, accessAt, accessAimed, effectOf}
-use Rattle.flow.specs.Transfer.{accessWrites}
+use Rattle.flow.specs.Written.{accessWrites}
 use Rattle.rows.specs.Matches.{Host}
 use Rattle.marks.specs.Marks.{notReached, registerCount, markOf, marksWith}
 use Rattle.marks.specs.Effect.{operandMark, isR0, ofNumbers, orMark, aluMark, accessMark, marksAfter}

@@ -16,6 +16,7 @@ use Rattle.v8.specs.declared.Operation.the-variants.{Sethi, Alu, Shift, Memory}
 use Rattle.v8.specs.declared.Instruction.{Instruction}
 use Rattle.v8.specs.declared.Instruction.the-variants.{Plain, Branch, Return}
 use Rattle.flow.specs.Transfer.{readsCodes, link}
+use Rattle.flow.specs.Written.{accessWrites}
 use Rattle.policy.specs.declared.Policy.{Policy}
 use Rattle.policy.specs.declared.Found.{Found}
 use Rattle.policy.specs.declared.Found.the-variants as Found·
@@ -125,41 +126,41 @@ writing-numbered : (rd rs1 : ℕ) (n : Note) (r : Result) → Failing r → Numb
 writing-numbered rd rs1 n (Gives e) f = tt
 writing-numbered rd rs1 n (Fails k) f = f
 
-accessed-numbered : (n : Note) (a : Access) (rd : ℕ) (e held : Entry) → Numbered (accessed n a rd e held)
-accessed-numbered n (Loads op) rd e held = tt
-accessed-numbered n (Stores op) rd e held = cond-both Numbered (fits e held) (λ _. tt) (λ _. refl)
+accessed-numbered : (n : Note) (a : Access) (to rd : ℕ) (e held : Entry) → Numbered (accessed n a to rd e held)
+accessed-numbered n (Loads op) to rd e held = tt
+accessed-numbered n (Stores op) to rd e held = cond-both Numbered (fits e held) (λ _. tt) (λ _. refl)
 
-reached-numbered : (p : Policy) (n : Note) (a : Access) (rd : ℕ) (e : Entry) (r : Reach) → Outlying r → Numbered (accessedAt p n a rd e r)
-reached-numbered p n a rd e (Inside place) o = accessed-numbered n a rd e (fieldEntry (fieldAt p place))
-reached-numbered p n a rd e (Outside k r) o = o
+reached-numbered : (p : Policy) (n : Note) (a : Access) (to rd : ℕ) (e : Entry) (r : Reach) → Outlying r → Numbered (accessedAt p n a to rd e r)
+reached-numbered p n a to rd e (Inside place) o = accessed-numbered n a to rd e (fieldEntry (fieldAt p place))
+reached-numbered p n a to rd e (Outside k r) o = o
 
 if-set : (r : ℕ) (e : Entry) (rest : Change) → Numbered rest → Numbered (ifSet r e rest)
 if-set r e rest n = cond-both Numbered (isUnset e) (λ _. refl) (λ _. n)
 
-module _ (n : Note) (rd : ℕ) (o : Operands) where
+module _ (n : Note) (to : ℕ) (o : Operands) where
   if-both : (rest : Change) → Numbered rest → Numbered (ifSet (o .rs1) (o .first) (ifSet (o .rs2) (o .second) rest))
   if-both rest k = if-set (o .rs1) (o .first) _ (if-set (o .rs2) (o .second) rest k)
 
-  alu-numbered : (sizes : List ℕ) (op : AluOp) (cc : Bool) → Numbered (aluChange sizes n op cc rd o)
+  alu-numbered : (sizes : List ℕ) (op : AluOp) (cc : Bool) → Numbered (aluChange sizes n op cc to o)
   unfolding aluChange
-  alu-numbered sizes op cc = if-both _ (writing-numbered rd (o .rs1) _ (aluResult sizes op (o .first) (o .second)) (alu-fails sizes (o .first) (o .second) op))
+  alu-numbered sizes op cc = if-both _ (writing-numbered to (o .rs1) _ (aluResult sizes op (o .first) (o .second)) (alu-fails sizes (o .first) (o .second) op))
 
-  shift-numbered : (op : ShiftOp) → Numbered (shiftChange n op rd o)
+  shift-numbered : (op : ShiftOp) → Numbered (shiftChange n op to o)
   unfolding shiftChange
-  shift-numbered op = if-both _ (writing-numbered rd (o .rs1) _ (shiftResult op (o .first) (o .second)) (shift-fails [] (o .first) (o .second) op))
+  shift-numbered op = if-both _ (writing-numbered to (o .rs1) _ (shiftResult op (o .first) (o .second)) (shift-fails [] (o .first) (o .second) op))
 
-  access-numbered : (p : Policy) (a : Access) (e : Entry) → Numbered (accessChange p n a rd e o)
+  access-numbered : (p : Policy) (a : Access) (rd : ℕ) (e : Entry) → Numbered (accessChange p n a to rd e o)
   unfolding accessChange
-  access-numbered p a e =
+  access-numbered p a rd e =
       if-both _
       (cond-both Numbered (stores a && isUnset e) (λ _. refl)
-      λ _. reached-numbered p n a rd e (reachOf (p .regions .fields) (p .fields) a (o .rs1) (o .first) (o .rs2) (o .second)) (reach-outlies p a (o .rs1) (o .rs2) (o .first) (o .second)))
+      λ _. reached-numbered p n a to rd e (reachOf (p .regions .fields) (p .fields) a (o .rs1) (o .first) (o .rs2) (o .second)) (reach-outlies p a (o .rs1) (o .rs2) (o .first) (o .second)))
 
 pub operation-numbered : (p : Policy) (row : Row) (x : Operation) → Numbered (operationChange p row x)
 operation-numbered p row (Sethi rd imm22) = tt
 operation-numbered p row (Alu op cc rd rs1 x) = alu-numbered (row .note) rd (operandsOf row rs1 x) (p .regions .sizes) op cc
 operation-numbered p row (Shift op rd rs1 x) = shift-numbered (row .note) rd (operandsOf row rs1 x) op
-operation-numbered p row (Memory a rd rs1 d) = access-numbered (row .note) rd (operandsOf row rs1 (addend d)) p a (entryAt row rd)
+operation-numbered p row (Memory a rd rs1 d) = access-numbered (row .note) (accessWrites a rd) (operandsOf row rs1 (addend d)) p a rd (entryAt row rd)
 
 pub change-numbered : (p : Policy) (row : Row) (x : Instruction) → Numbered (changeOf p row x)
 unfolding branchChange returnChange

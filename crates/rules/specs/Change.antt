@@ -17,6 +17,7 @@ use Rattle.v8.specs.declared.Instruction.{Instruction}
 use Rattle.v8.specs.declared.Instruction.the-variants.{Plain, Branch, Return}
 use Rattle.alu.specs.Result.{sethiOf}
 use Rattle.flow.specs.Transfer.{readsCodes, link}
+use Rattle.flow.specs.Written.{operationWrites}
 use Rattle.policy.specs.declared.Policy.{Policy}
 use Rattle.policy.specs.Policy.{fieldAt}
 use Rattle.access.specs.Serve.{addend}
@@ -62,7 +63,7 @@ codesNote op rd rs1 b = cond (isSub op && leb 1 rs1 && isConstant b && not (eqb 
 abbrev pub ifSet : ℕ → Entry → Change → Change
 ifSet r e rest = cond (isUnset e) (Breaks unsetOperand r) rest
 
--- rd is written with a result; "the others name rs1"
+-- a register is written with a result; "the others name rs1"
 abbrev pub writing : ℕ → Note → ℕ → Result → Change
 writing rd n rs1 (Gives e) = Writes rd e n
 writing rd n rs1 (Fails number) = Breaks number rs1
@@ -84,30 +85,34 @@ abbrev pub stores : Access → Bool
 stores (Loads op) = false
 stores (Stores op) = true
 
--- an access of rd, whose entry is e, to an element that holds an entry: "A load: the field's lo to hi, step 1; or start of the target; or
--- kind 3."; "11 stored entry does not fit the element, register rd"
-abbrev pub accessed : Note → Access → ℕ → Entry → Entry → Change
-accessed n (Loads op) rd e held = Writes rd held (noteAfter n rd)
-accessed n (Stores op) rd e held = cond (fits e held) Keeps (Breaks wrongValue rd)
+-- an access of rd, whose entry is e, to an element that holds an entry; `to` is the register that it writes: "A load: the field's lo to hi, step
+-- 1; or start of the target; or kind 3."; "11 stored entry does not fit the element, register rd"
+abbrev pub accessed : Note → Access → ℕ → ℕ → Entry → Entry → Change
+accessed n (Loads op) to rd e held = Writes to held (noteAfter n to)
+accessed n (Stores op) to rd e held = cond (fits e held) Keeps (Breaks wrongValue rd)
 
 -- the same, by where the access lies
-abbrev pub accessedAt : Policy → Note → Access → ℕ → Entry → Reach → Change
-accessedAt p n a rd e (Inside place) = accessed n a rd e (fieldEntry (fieldAt p place))
-accessedAt p n a rd e (Outside number r) = Breaks number r
+abbrev pub accessedAt : Policy → Note → Access → ℕ → ℕ → Entry → Reach → Change
+accessedAt p n a to rd e (Inside place) = accessed n a to rd e (fieldEntry (fieldAt p place))
+accessedAt p n a to rd e (Outside number r) = Breaks number r
 
--- a load to rd, or a store of its entry e, at the sum of a word's operands
-unfoldable pub accessChange : Policy → Note → Access → ℕ → Entry → Operands → Change
-accessChange p n a rd e o =
+-- a load, or a store of rd, whose entry is e, at the sum of a word's operands
+unfoldable pub accessChange : Policy → Note → Access → ℕ → ℕ → Entry → Operands → Change
+accessChange p n a to rd e o =
     ifSet (o .rs1) (o .first) (ifSet (o .rs2) (o .second)
     (cond (stores a && isUnset e) (Breaks unsetOperand rd)
-    (accessedAt p n a rd e (reachOf (p .regions .fields) (p .fields) a (o .rs1) (o .first) (o .rs2) (o .second)))))
+    (accessedAt p n a to rd e (reachOf (p .regions .fields) (p .fields) a (o .rs1) (o .first) (o .rs2) (o .second)))))
 
--- what an operation does to a row
+-- what an operation that writes a register does to a row
+abbrev pub changeTo : Policy → Row → ℕ → Operation → Change
+changeTo p row to (Sethi rd imm22) = Writes to (constant (sethiOf imm22)) (noteAfter (row .note) to)
+changeTo p row to (Alu op cc rd rs1 x) = aluChange (p .regions .sizes) (row .note) op cc to (operandsOf row rs1 x)
+changeTo p row to (Shift op rd rs1 x) = shiftChange (row .note) op to (operandsOf row rs1 x)
+changeTo p row to (Memory a rd rs1 d) = accessChange p (row .note) a to rd (entryAt row rd) (operandsOf row rs1 (addend d))
+
+-- .. by the one definition of which that is
 abbrev pub operationChange : Policy → Row → Operation → Change
-operationChange p row (Sethi rd imm22) = Writes rd (constant (sethiOf imm22)) (noteAfter (row .note) rd)
-operationChange p row (Alu op cc rd rs1 x) = aluChange (p .regions .sizes) (row .note) op cc rd (operandsOf row rs1 x)
-operationChange p row (Shift op rd rs1 x) = shiftChange (row .note) op rd (operandsOf row rs1 x)
-operationChange p row (Memory a rd rs1 d) = accessChange p (row .note) a rd (entryAt row rd) (operandsOf row rs1 (addend d))
+operationChange p row x = changeTo p row (operationWrites x) x
 
 -- a branch reads the codes: "32 for codes, which always and never do not read"
 unfoldable pub branchChange : Note → ℕ → Change

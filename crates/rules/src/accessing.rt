@@ -17,13 +17,13 @@ use v8::Access;
 use v8::numbers::UNSET_OPERAND;
 use v8::numbers::WRONG_VALUE;
 
-// An access of rd, whose entry is `e`, to an element that holds `held`: a load gives it, and a store
-// asks that `e` fits it.
-fn accessed(n: Note, a: Access, rd: u8, e: Entry, held: Entry) -> Change
-    ensures { λ r. ⌜ r ≡ accessed n a rd e held ⌝ }
+// An access of rd, whose entry is `e`, to an element that holds `held`: a load writes that to its
+// register, `to`, and a store asks that `e` fits it.
+fn accessed(n: Note, a: Access, to: u8, rd: u8, e: Entry, held: Entry) -> Change
+    ensures { λ r. ⌜ r ≡ accessed n a to rd e held ⌝ }
 {
     match a {
-        Access::Loads(_) => Change::Writes(rd, held, note_after(n, rd)),
+        Access::Loads(_) => Change::Writes(to, held, note_after(n, to)),
         Access::Stores(_) => {
             if fits(e, held) {
                 return Change::Keeps;
@@ -43,9 +43,17 @@ fn stores(a: Access) -> bool
     }
 }
 
-// A load to rd or a store of it, whose entry is `e`, at the sum of a word's operands.
-pub fn access_change(policy: Policy, n: Note, a: Access, rd: u8, e: Entry, o: Operands) -> Change
-    ensures { λ r. ⌜ r ≡ accessChange policy n a rd e o ⌝ }
+// A load to the register `to`, or a store of rd, whose entry is `e`, at the sum of a word's operands.
+pub fn access_change(
+    policy: Policy,
+    n: Note,
+    a: Access,
+    to: u8,
+    rd: u8,
+    e: Entry,
+    o: Operands,
+) -> Change
+    ensures { λ r. ⌜ r ≡ accessChange policy n a to rd e o ⌝ }
 {
     if o.first.kind == UNSET {
         return Change::Breaks(UNSET_OPERAND, o.rs1);
@@ -76,7 +84,7 @@ pub fn access_change(policy: Policy, n: Note, a: Access, rd: u8, e: Entry, o: Op
                 &policy.values.highs,
                 place,
             );
-            accessed(n, a, rd, e, field_entry(f))
+            accessed(n, a, to, rd, e, field_entry(f))
         }
         Reach::Outside(number, named) => Change::Breaks(number, named),
     }

@@ -15,6 +15,7 @@ use access::addend_of;
 use alu::sethi;
 use flow::transfer::LINK;
 use flow::transfer::reads_codes;
+use flow::written::operation_writes;
 use policy::Policy;
 use rows::Entry;
 use rows::Note;
@@ -32,7 +33,7 @@ use v8::ShiftOp;
 use v8::numbers::NO_RULE;
 use v8::numbers::UNSET_OPERAND;
 
-// A write of rd with a result, if there is one.
+// A write of a register with a result, if there is one.
 fn writing(rd: u8, n: Note, rs1: u8, result: Result) -> Change
     ensures { λ r. ⌜ r ≡ writing rd n rs1 result ⌝ }
 {
@@ -74,22 +75,23 @@ fn shift_change(n: Note, op: ShiftOp, rd: u8, o: Operands) -> Change
 fn operation_change(policy: Policy, row: Row, x: Operation) -> Change
     ensures { λ r. ⌜ r ≡ operationChange policy row x ⌝ }
 {
+    let to = operation_writes(x);
     match x {
-        Operation::Sethi { rd, imm22 } => {
-            Change::Writes(rd, constant(sethi(imm22)), note_after(row.note, rd))
+        Operation::Sethi { imm22, .. } => {
+            Change::Writes(to, constant(sethi(imm22)), note_after(row.note, to))
         }
         Operation::Alu {
             op,
             cc,
-            rd,
             rs1,
             operand,
+            ..
         } => {
             let o = operands_of(row, rs1, operand);
-            alu_change(&policy.regions.sizes, row.note, op, cc, rd, o)
+            alu_change(&policy.regions.sizes, row.note, op, cc, to, o)
         }
-        Operation::Shift { op, rd, rs1, count } => {
-            shift_change(row.note, op, rd, operands_of(row, rs1, count))
+        Operation::Shift { op, rs1, count, .. } => {
+            shift_change(row.note, op, to, operands_of(row, rs1, count))
         }
         Operation::Memory {
             access,
@@ -98,7 +100,7 @@ fn operation_change(policy: Policy, row: Row, x: Operation) -> Change
             displacement,
         } => {
             let o = operands_of(row, rs1, addend_of(displacement));
-            access_change(policy, row.note, access, rd, entry_at(row, rd), o)
+            access_change(policy, row.note, access, to, rd, entry_at(row, rd), o)
         }
     }
 }

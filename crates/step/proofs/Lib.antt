@@ -1,1 +1,3 @@
 pub mod Arrived
+pub mod Writing
+pub mod NoOther

@@ -4,3 +4,4 @@ pub mod Control
 pub mod Effect
 pub mod Step
 pub mod Lent
+pub mod Laws

@@ -22,7 +22,7 @@ use Rattle.alu.specs.Result.{aluOf, shiftOf}
 use Rattle.alu.specs.Codes.{codesOf}
 use Rattle.alu.specs.Condition.{condHolds, conditionOf}
 use Rattle.flow.specs.declared.Edge.{Edge}
-use Rattle.flow.specs.Transfer.{registerWritten}
+use Rattle.flow.specs.Written.{registerWritten}
 use Rattle.flow.specs.Edge.{edgeOf}
 use Rattle.flow.specs.Readings.{readingsOf, examined}
 use Rattle.policy.specs.declared.Field.{Field}

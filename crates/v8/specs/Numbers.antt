@@ -103,6 +103,10 @@ badBundle = 23
 abbrev pub privileged : ℕ
 privileged = 24
 
+-- request 6: "25, with its word and that register", for a word that would write a register of the caller
+abbrev pub callersRegister : ℕ
+callersRegister = 25
+
 -- the machine's faults
 
 -- "101 word outside, unread, or a transfer in a slot"

@@ -77,6 +77,9 @@ pub const BAD_BUNDLE: u8 = 23;
 // A word is privileged, and for that not read.
 pub const PRIVILEGED: u8 = 24;
 
+// A word would write a register that is the caller's.
+pub const CALLERS_REGISTER: u8 = 25;
+
 // The machine's faults.
 
 // The word is outside the code, not read, or a transfer in a slot.

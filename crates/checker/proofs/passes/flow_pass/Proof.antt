@@ -37,24 +37,21 @@ array-copy-out-x c = let s = c .before .before in omega (arith, c .loop-test .ta
 cast-t15 : tie.Need-cast-t15 Inv-loop μ-loop
 cast-t15 c = record { fits = omega (arith, c .before .loop-test .taken, c .before .before .before .pre .0 .most) }
 
-element-copy-out-flows : tie.Need-element-copy-out-flows Inv-loop μ-loop
-element-copy-out-flows c = search needs
+element-copy-out-flow-at : tie.Need-element-copy-out-flow-at Inv-loop μ-loop
+element-copy-out-flow-at c = search needs
 
-flows-requires : tie.Need-flows-requires Inv-loop μ-loop
-flows-requires c κs = omega (arith, c .before .before .loop-test .taken, c .before .before .before .before .pre .0 .most)
-
-need-requires : tie.Need-need-requires Inv-loop μ-loop
-need-requires c κs = search needs
+flow-at-requires : tie.Need-flow-at-requires Inv-loop μ-loop
+flow-at-requires c κs = omega (arith, c .before .before .loop-test .taken, c .before .before .before .before .pre .0 .most)
 
 returns : tie.Need-returns Inv-loop μ-loop
 returns c =
-    let t = c .before .before .before .before .before .before in
+    let t = c .before .before .before .before .before in
     let s = t .before .before in
     let more = t .loop-test .taken in
     let count = code-count (s .args .t1) (s .args .count) (s .pre .0) in
     let x = array-has (s .args .t1) (s .args .count) (s .pre .0) (t .before .loop .i) (Read (Plain (Sethi 0 0))) (omega (arith, t .loop-test .taken, s .pre .0 .most)) in
-    let here = flow-here _ (t .before .loop .i) _ x _ _ _ _ _ (sym count) (t .before .loop .inv .1) (s .pre .1 _ (omega (arith, more, count)))
-    (c .before .before .before .flows .ensures) (c .before .before .need .ensures) in
+    let here = flow-here _ (t .before .loop .i) _ x _ _ _ _ (sym count) (t .before .loop .inv .1) (s .pre .1 _ (omega (arith, more, count)))
+    (c .before .before .flow-at .ensures) in
     sym (t .before .loop .inv .2 ∙ pass-here _ _ _ _ here more (c .if1 .taken))
 
 transfers-requires : tie.Need-transfers-requires Inv-loop μ-loop
@@ -68,13 +65,13 @@ loop-less c = search needs
 
 loop-again : tie.Need-loop-again Inv-loop μ-loop
 loop-again c =
-    let t = c .before .before .before .before .before .before .before in
+    let t = c .before .before .before .before .before .before in
     let s = t .before .before in
     let more = t .loop-test .taken in
     let count = code-count (s .args .t1) (s .args .count) (s .pre .0) in
     let x = array-has (s .args .t1) (s .args .count) (s .pre .0) (t .before .loop .i) (Read (Plain (Sethi 0 0))) (omega (arith, t .loop-test .taken, s .pre .0 .most)) in
-    let here = flow-here _ (t .before .loop .i) _ x _ _ _ _ _ (sym count) (t .before .loop .inv .1) (s .pre .1 _ (omega (arith, more, count)))
-    (c .before .before .before .before .flows .ensures) (c .before .before .before .need .ensures) in (
+    let here = flow-here _ (t .before .loop .i) _ x _ _ _ _ (sym count) (t .before .loop .inv .1) (s .pre .1 _ (omega (arith, more, count)))
+    (c .before .before .before .flow-at .ensures) in (
       omega (arith, more),
       slot-here _ (t .before .loop .i) _ x _ (c .transfers .ensures),
       t .before .loop .inv .2 ∙ pass-next _ _ _ _ here more (c .before .if1 .left),
@@ -96,9 +93,8 @@ flow-pass-spec =
     mul-x
     array-copy-out-x
     cast-t15
-    element-copy-out-flows
-    flows-requires
-    need-requires
+    element-copy-out-flow-at
+    flow-at-requires
     returns
     transfers-requires
     add-i

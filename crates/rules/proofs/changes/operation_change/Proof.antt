@@ -3,6 +3,9 @@ use borrow.Author.Needs.{needs}
 use Rattle.rules.proofs.changes.operation_change.Statement.{statement}
 use Rattle.rules.proofs.changes.operation_change.Tie as tie
 
+operation-writes-requires : tie.Need-operation-writes-requires
+operation-writes-requires c κs = search needs
+
 enum-known-x : tie.Need-enum-known-x
 enum-known-x c = search needs
 
@@ -49,25 +52,32 @@ access-change-requires : tie.Need-access-change-requires
 access-change-requires c κs = search needs
 
 returns : tie.Need-returns
-returns c = rw (c .before .before .before .before .x .given .1, c .note-after .ensures, c .before .constant .ensures, c .before .before .sethi .ensures)
+returns c =
+    let at-x = c .before .before .before .before in
+    rw (← at-x .before .before .operation-writes .ensures, at-x .x .given .1, c .note-after .ensures, c .before .constant .ensures, c .before .before .sethi .ensures)
 
 returns-2 : tie.Need-returns-2
 returns-2 c =
-    let at-x2 = c .before .before .before .before .before in
-    rw (at-x2 .x2 .given .1, ← c .before .before .before .operands-of .ensures) (c .alu-change .ensures)
+    let at-x = c .before .before .before .before .before in
+    rw (← at-x .before .before .operation-writes .ensures, at-x .x2 .given .1, ← c .before .before .before .operands-of .ensures) (c .alu-change .ensures)
 
 returns-3 : tie.Need-returns-3
-returns-3 c = rw (c .before .before .before .x3 .given .1, ← c .before .operands-of2 .ensures) (c .shift-change .ensures)
+returns-3 c =
+    let at-x = c .before .before .before in
+    rw (← at-x .before .before .operation-writes .ensures, at-x .x3 .given .1, ← c .before .operands-of2 .ensures) (c .shift-change .ensures)
 
 returns-4 : tie.Need-returns-4
 returns-4 c =
-    let at-x4 = c .before .before .before .before .before in
-    rw (at-x4 .x4 .given .1, ← c .before .entry-at .ensures, ← c .before .before .before .addend-of .ensures, ← c .before .before .operands-of3 .ensures) (c .access-change .ensures)
+    let at-x = c .before .before .before .before .before in
+    rw
+    (← at-x .before .before .operation-writes .ensures, at-x .x4 .given .1, ← c .before .entry-at .ensures, ← c .before .before .before .addend-of .ensures, ← c .before .before .operands-of3 .ensures)
+    (c .access-change .ensures)
 
 pub operation-change-spec : {M : Type 1} → statement M
 operation-change-spec =
     tie.close
     (tie.spec
+    operation-writes-requires
     enum-known-x
     sethi-requires
     constant-requires

@@ -1,7 +1,7 @@
 -- Each operation names its register.
 use borrow.Author.Needs.{needs}
-use Rattle.flow.proofs.transfer.operation_writes.Statement.{statement}
-use Rattle.flow.proofs.transfer.operation_writes.Tie as tie
+use Rattle.flow.proofs.written.operation_writes.Statement.{statement}
+use Rattle.flow.proofs.written.operation_writes.Tie as tie
 
 enum-known-x : tie.Need-enum-known-x
 enum-known-x c = search needs
