@@ -417,6 +417,13 @@ def unread_reason(said):
     return f"this is a predicted branch on {name}: write it without prediction (or, for the newer terminal, on %icc)"
 
 
+def writes_reason(said):
+    """Why the register that a word would write is refused."""
+    register = said.answer[2]
+    sort = "the stack pointer" if register == 14 else "a local register" if register < 24 else "an in register"
+    return f"it would write r{register}, {bundle.REGISTERS[register]}, {sort}, which the caller keeps: write %g1 to %g7, %o0 to %o5 or %o7"
+
+
 # What is badly formed
 
 def raw_text(raw):
@@ -478,6 +485,8 @@ def detail_lines(data, names, said):
         return lines + [f"wrong: this is {name}, which only the supervisor may run"]
     if number == 3:
         return lines + ["wrong: " + flow_reason(data, said)]
+    if number == 25:
+        return lines + ["wrong: " + writes_reason(said)]
     if number == 15:
         return lines + start_lines(names, said)
     return lines + (edge_lines if number in (12, 14) else word_lines)(data, names, said)

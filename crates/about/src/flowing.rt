@@ -1,4 +1,5 @@
-// A broken flow: the edges of the word, and what stands where they end.
+// What the flow pass refuses: a broken flow, with the edges of the word and what stands where they end; a
+// word that would write a register of the caller, with the word whose slot it is.
 use crate::items::single;
 use crate::ways::show_edge;
 use crate::ways::show_slot;
@@ -30,5 +31,13 @@ pub fn show_flow(at: usize, words: usize, readings: [Reading; MOST_WORDS]) {
     match x {
         Reading::Read(i) => show_edges(at, i, words, readings),
         Reading::Unread(_) => {}
+    }
+}
+
+// A word that would write a register of the caller: it is refused in a slot too, also in one that never
+// runs.
+pub fn show_written(at: usize, readings: [Reading; MOST_WORDS]) {
+    if slot_at(readings, at) {
+        show_slot(at, false);
     }
 }

@@ -2,6 +2,7 @@
 ghost use Prim.Native.Nat.{_≤_};
 use crate::adding::show_adds;
 use crate::flowing::show_flow;
+use crate::flowing::show_written;
 use crate::form::show_broken_row;
 use crate::form::show_shape;
 use crate::items::done;
@@ -32,6 +33,7 @@ use v8::numbers::BAD_BUNDLE;
 use v8::numbers::BAD_FLOW;
 use v8::numbers::BAD_ROW;
 use v8::numbers::BAD_SHAPE;
+use v8::numbers::CALLERS_REGISTER;
 use v8::numbers::EDGE_MISFIT;
 use v8::numbers::ENTRY_MISFIT;
 use v8::numbers::MOST_WORDS;
@@ -143,6 +145,9 @@ fn show_named(
     show_reading(x);
     if a.number == BAD_FLOW {
         return show_flow(at, count, readings);
+    }
+    if a.number == CALLERS_REGISTER {
+        return show_written(at, readings);
     }
     if a.number == ENTRY_MISFIT {
         if ROW_BYTES <= entry.len() {
