@@ -421,7 +421,7 @@ def writes_reason(said):
     """Why the register that a word would write is refused."""
     register = said.answer[2]
     sort = "the stack pointer" if register == 14 else "a local register" if register < 24 else "an in register"
-    return f"it would write r{register}, {bundle.REGISTERS[register]}, {sort}, which the caller keeps: write %g1 to %g7, %o0 to %o5 or %o7"
+    return f"it would write r{register}, {bundle.REGISTERS[register]}, {sort}, which is the caller's: write one of %g1 to %g7 or %o0 to %o5"
 
 
 # What is badly formed

@@ -23,7 +23,7 @@ reached. A slot has the kinds of its branch or return, before that runs; a slot 
 these and on the ways into it. With --table the letters of %g0 to %g7, %o0 to %o7, %l0 to %l7 and %i0 to %i7 follow each
 other: `.` not reached, `n` number, `a` address, `z` address or null, `r` return, `-` unset.
 
-A routine that cannot be listed (23, 18 to 21, 2, 24 and 3, as in the check) is explained as by explain.py.
+A routine that cannot be listed (23, 18 to 21, 2, 24, 3 and 25, as in the check) is explained as by explain.py.
 
 The kinds are found by the program `kinds` (target/bin/kinds, made by `rt check kinds`), the reason of a refusal by the
 program `explain` (made by `rt check explain`), or by `kinds9` and `explain9` for edition 9; this script has the names and the
