@@ -1,4 +1,4 @@
-"""cases.py: bundles made for the program crates/corpus, each with the answer that document 01, with requests 1 to 5, gives it.
+"""cases.py: bundles made for the program crates/corpus, each with the answer that document 01, with requests 1 to 6, gives it.
 
 They are what the wrong versions of tools/plain/mutants.txt need beside the bundles of the independent implementation.
 Each case has a name that says what it is about. Most are a few words long: what is tried stands at word 0 or 1,
@@ -636,7 +636,7 @@ def words():
     for one in READ_TOO:
         yield Case(f"read-{one:08x}", then_return([one], [known, {}], regions=BYTES), "0 0 0")
     high = {30: number(5, 5), 29: number(2, 2)}
-    yield from made("reads-r31-r30-r29", word("sub", 31, 30, "r29"), high, 31, number(3, 3))
+    yield from made("reads-r13-r30-r29", word("sub", 13, 30, "r29"), high, 13, number(3, 3))
     yield Case("reads-number-4095", then_return([word("or", 3, 0, 4095)], [{}, {3: number(4095, 4095)}]), "0 0 0")
     yield Case("reads-number-minus-4096", then_return([word("or", 3, 0, -4096)], [{}, {3: number(-4096, -4096)}]), "0 0 0")
 
@@ -859,6 +859,182 @@ def returns():
     yield Case("result-inside", routine([RETURN, NOP], [{8: number(1, 2)}, {}], result=few), "0 0 0")
 
 
+# The caller's registers, r14 and r16 to r31: no word may write them, any word may read them. TAKES writes r16.
+
+TAKES, TAKES_POINTER, TAKES_LAST = sethi(16, 0), sethi(14, 0), sethi(31, 0)
+
+
+def writers(rd):
+    """A word of each sort that writes a register, with its name."""
+    yield "sethi", sethi(rd, 5)
+    for name, (form, _) in OPCODES.items():
+        if form == 2:
+            yield name, word(name, rd, 1, 5)
+            yield name + "-registers", word(name, rd, 1, "r2")
+    for name, offset, _ in LOADS[:5]:
+        yield name, word(name, rd, 8, offset)
+
+
+def written():
+    """A word of each sort to registers that are the caller's and to some beside these, and then a branch to itself."""
+    known = {1: number(0, 9), 2: number(1, 1), 8: start()}
+    for rd, answer in WRITTEN.items():
+        for name, one in writers(rd):
+            yield Case(f"{name}-to-r{rd}", routine([one, branch(ALWAYS, 0), NOP], [known, {15: NONE}, {}], FIELD_KINDS), answer)
+    for name, one, before, answer in TAKEN:
+        yield Case("caller-" + name, then_return([one], [before, {}], regions=FIELD_KINDS), answer)
+    for name, one, before, after, answer in READ_ALONE:
+        yield Case("caller-" + name, then_return([one], [before, after], regions=FIELD_KINDS), answer)
+    for name, code, rows, answer in BEFORE_AND_AFTER:
+        yield Case("caller-" + name, routine(code, rows, first={}, result=number(0, 9)), answer)
+
+
+# A register as destination, and the answer.
+WRITTEN = {
+    0: "0 0 0", 8: "0 0 0", 13: "0 0 0", 14: "25 0 14", 15: "0 0 0", 16: "25 0 16", 17: "25 0 17", 23: "25 0 23", 24: "25 0 24",
+    30: "25 0 30", 31: "25 0 31",
+}
+# A word that takes a register of the caller, before any other condition of it; what it does to that register does not matter.
+TAKEN = [
+    ("copied-to-itself", word("or", 16, 16, 0), {16: number(3, 3)}, "25 0 16"),
+    ("copied-to-itself-from-r0", word("or", 31, 0, "r31"), {31: start()}, "25 0 31"),
+    ("given-what-it-has", sethi(16, 0), {16: number(0, 0)}, "25 0 16"),
+    ("set", word("add", 20, 20, 1), {20: number(0, 9)}, "25 0 20"),
+    ("pointer-moved", word("add", 14, 14, -96), {14: at(0, 8)}, "25 0 14"),
+    ("from-another-of-the-caller", word("add", 17, 30, "r24"), {30: number(0, 9), 24: number(0, 9)}, "25 0 17"),
+    ("from-r16-to-r31", word("or", 31, 16, "r0"), {16: number(0, 9)}, "25 0 31"),
+    ("from-unset", word("add", 16, 1, 1), {}, "25 0 16"),
+    ("from-unset-second", word("sub", 14, 0, "r2"), {}, "25 0 14"),
+    ("without-a-rule", word("add", 16, 1, "r1"), {1: start()}, "25 0 16"),
+    ("leaving-its-region", word("sub", 16, 1, 1), {1: start()}, "25 0 16"),
+    ("loaded-from-or-null", word("ld", 16, 1, 0), {1: null_or()}, "25 0 16"),
+    ("loaded-from-a-number", word("ldub", 16, 1, 0), {1: number(0, 9)}, "25 0 16"),
+    ("loaded-from-outside", word("ldub", 31, 8, 32), FIRST, "25 0 31"),
+    ("loaded-from-another-element", word("ldub", 16, 8, 8), FIRST, "25 0 16"),
+    ("loaded-off-grid", word("ld", 16, 8, 2), SECOND, "25 0 16"),
+    ("loaded-without-permission", word("ld", 14, 8, 8), SECOND, "25 0 14"),
+    ("loaded-through-itself", word("ldub", 16, 16, 0), {16: start()}, "25 0 16"),
+    ("loaded-with-an-index", word("ldsh", 24, 8, "r2"), {**FIRST, 2: number(12, 14, 2)}, "25 0 24"),
+]
+# A word that reads a register of the caller, or says less or more of one; the row before it and the row after it.
+READ_ALONE = [
+    ("compared", word("subcc", 0, 16, 5), {16: number(0, 9)}, {16: number(0, 9), "note": note(2, 16, 5)}, "0 0 0"),
+    ("pointer-compared", word("subcc", 0, 14, 0), {14: start()}, {14: start(), "note": note(2, 14, 0)}, "0 0 0"),
+    ("added-to-r0", word("addcc", 0, 31, "r17"), {31: number(0, 9), 17: number(1, 1)}, {"note": SET}, "0 0 0"),
+    ("added", word("add", 3, 16, "r31"), {16: number(0, 9), 31: number(1, 1)}, {3: number(1, 10), 16: number(0, 9)}, "0 0 0"),
+    ("second", word("sub", 3, 1, "r24"), {1: number(9, 9), 24: number(0, 9)}, {3: number(0, 9), 24: number(0, 9)}, "0 0 0"),
+    ("moved", word("or", 8, 0, "r30"), {30: BACK}, {8: BACK, 30: BACK}, "0 0 0"),
+    ("pointer-moved-to-r1", word("add", 1, 14, 8), {14: start()}, {1: at(8, 8), 14: start()}, "0 0 0"),
+    ("shifted", word("sll", 13, 17, "r23"), {17: number(3, 3), 23: number(2, 2)}, {13: number(12, 12)}, "0 0 0"),
+    ("unset", word("add", 3, 16, 1), {}, {}, "4 0 16"),
+    ("unset-second", word("add", 3, 0, "r14"), {}, {}, "4 0 14"),
+    ("loaded-through", word("ldub", 3, 16, 0), {16: start()}, {3: number(0, 9), 16: start()}, "0 0 0"),
+    ("loaded-with-index", word("ld", 3, 8, "r31"), {**FIRST, 31: number(16, 20, 4)}, {3: number(-5, 5)}, "0 0 0"),
+    ("loaded-through-outside", word("ldub", 3, 14, 32), {14: start()}, {}, "7 0 14"),
+    ("st", word("st", 16, 8, 16), {**FIRST, 16: number(0, 1)}, {16: number(0, 1)}, "0 0 0"),
+    ("stb", word("stb", 14, 8, 0), {**FIRST, 14: number(0, 9)}, {14: number(0, 9)}, "0 0 0"),
+    ("sth", word("sth", 31, 8, 8), {**FIRST, 31: number(0, 9)}, {31: number(0, 9)}, "0 0 0"),
+    ("st-start", word("st", 24, 8, 24), {**FIRST, 24: start(1)}, {24: start(1)}, "0 0 0"),
+    ("st-unset", word("st", 16, 8, 16), FIRST, {}, "4 0 16"),
+    ("stb-unset-pointer", word("stb", 14, 8, 0), FIRST, {}, "4 0 14"),
+    ("stb-too-much", word("stb", 31, 8, 0), {**FIRST, 31: number(0, 10)}, {}, "11 0 31"),
+    ("stb-then-misfit", word("stb", 16, 8, 0), {**FIRST, 16: number(0, 9)}, {16: number(0, 8)}, "12 0 16"),
+    ("stored-through", word("stb", 3, 16, 0), {16: start(), 3: number(0, 9)}, {16: start()}, "0 0 0"),
+    ("stored-through-pointer", word("stb", 3, 14, "r0"), {14: start(), 3: number(0, 9)}, {14: start()}, "0 0 0"),
+    ("stored-with-index", word("stb", 3, 8, "r20"), {**FIRST, 20: number(0, 3), 3: number(0, 9)}, {20: number(0, 3)}, "0 0 0"),
+    ("stored-through-itself", word("st", 16, 16, 24), {16: start()}, {}, "11 0 16"),
+    ("kept", NOP, {14: start(), 16: number(0, 9), 31: BACK}, {14: start(), 16: number(0, 9), 31: BACK}, "0 0 0"),
+    ("said-less", NOP, {16: number(0, 9)}, {16: number(0, 12)}, "0 0 0"),
+    ("said-unset", NOP, {14: start(), 16: number(0, 9), 31: BACK}, {}, "0 0 0"),
+    ("said-more", NOP, {16: number(0, 9)}, {16: number(0, 3)}, "12 0 16"),
+    ("said-set", NOP, {}, {31: FULL}, "12 0 31"),
+    ("pointer-said-set", NOP, {}, {14: start(), 16: FULL}, "12 0 14"),
+]
+# The entry row is of nothing but the return address, and the result a number from 0 to 9.
+BAD = entry(5)
+BEFORE_AND_AFTER = [
+    ("before-entry", [TAKES, *ONWARD], [{3: BACK}, {}, {}], "25 0 16"),
+    ("in-the-last-slot-before-entry", [RETURN, TAKES], [{3: BACK}, {}], "25 1 16"),
+    ("before-the-row-of-its-own", [TAKES, *ONWARD], [{}, {16: FULL}, {}], "25 0 16"),
+    ("in-the-last-slot-before-result", [RETURN, TAKES_POINTER], [{}, {}], "25 1 14"),
+    ("in-the-last-slot-before-misfit", [NOP, RETURN, TAKES], [{}, {3: BACK}, {}], "25 2 16"),
+    ("in-the-last-slot-before-unset", [UNSET_ADD, RETURN, TAKES_LAST], [{}, {}, {}], "25 2 31"),
+    ("in-the-last-slot-before-codes", [branch(EQUAL, 2), NOP, RETURN, TAKES], [{}] * 4, "25 3 16"),
+    ("in-the-last-slot-before-return", [RETURN, TAKES], [{15: NONE}, {}], "25 1 16"),
+    ("before-unset-of-another", [UNSET_ADD, TAKES, *ONWARD], [{}] * 4, "25 1 16"),
+    ("after-form-of-its-row", [TAKES, *ONWARD], [{16: BAD}, {}, {}], "1 0 16"),
+    ("after-form-of-another-row", [TAKES, *ONWARD], [{}, {}, {5: BAD}], "1 2 5"),
+    ("after-form-of-the-note", [RETURN, TAKES], [{}, {"note": note(3)}], "1 1 32"),
+    ("after-not-read", [TAKES, 0], [{}, {}], "2 1 0"),
+    ("after-not-read-before-it", [0, TAKES], [{}, {}], "2 0 0"),
+    ("after-not-read-and-flow", [TAKES_POINTER, branch(ALWAYS, 99), NOP, 0], [{}] * 4, "2 3 0"),
+    ("after-privileged", [TAKES, *ONWARD, LOADS_SPACE], [{}] * 4, "24 3 0"),
+    ("after-privileged-before-it", [READS_STATE, TAKES_LAST], [{}, {}], "24 0 0"),
+    ("privileged-with-rd", [word("ld", 16, 8, 0) | 0x10 << 19], [{}], "24 0 0"),
+    ("not-read-with-rd", [16 << 25], [{}], "2 0 0"),
+]
+
+
+def taking():
+    """Words that take a register of the caller, beside flow: at each word comes 3, and then 25."""
+    ready = {"note": SET}
+    for name, code, answer in TAKING:
+        yield Case("taking-" + name, routine(code, [ready] * len(code)), answer)
+
+
+TAKING = [
+    ("alone", [TAKES], "3 0 0"),
+    ("last", [NOP, TAKES], "3 1 0"),
+    ("pointer-last", [NOP, TAKES_POINTER], "3 1 0"),
+    ("last-unreached", [*ONWARD, TAKES], "3 2 0"),
+    ("last-by-a-load", [NOP, word("ldub", 31, 8, 0)], "3 1 0"),
+    ("last-slot-landed-on", [branch(ALWAYS, 1), TAKES], "3 1 0"),
+    ("last-slot-of-return-landed-on", [NOP, branch(ALWAYS, 3), NOP, RETURN, TAKES], "3 4 0"),
+    ("last-slot-of-return", [RETURN, TAKES], "25 1 16"),
+    ("last-slot-of-always", [branch(ALWAYS, 0), TAKES_LAST], "25 1 31"),
+    ("twice", [TAKES_LAST, TAKES, *ONWARD], "25 0 31"),
+    ("twice-first-in-slot", [branch(ALWAYS, 2), TAKES, TAKES_LAST, *ONWARD], "25 1 16"),
+    ("twice-and-the-pointer", [NOP, TAKES, TAKES_POINTER, *ONWARD], "25 1 16"),
+    ("before-a-goes-on", [TAKES, NOP], "25 0 16"),
+    ("before-taking-last", [TAKES_POINTER, TAKES], "25 0 14"),
+    ("at-word-2-before-flow-at-5", [NOP, NOP, TAKES, NOP, NOP, branch(ALWAYS, 99), NOP], "25 2 16"),
+    ("before-return-in-slot", [TAKES, RETURN, RETURN, NOP], "25 0 16"),
+    ("before-a-far-branch", [TAKES, branch(EQUAL, 99), NOP, *ONWARD], "25 0 16"),
+    ("before-a-branch-last", [NOP, TAKES_POINTER, branch(ALWAYS, -1)], "25 1 14"),
+    ("in-slot-before-a-far-branch", [branch(ALWAYS, 2), TAKES, branch(ALWAYS, 99), NOP], "25 1 16"),
+    ("in-slot-before-last-slot-landed-on", [branch(ALWAYS, 3), TAKES, RETURN, NOP], "25 1 16"),
+    ("after-a-far-branch", [branch(EQUAL, 99), NOP, TAKES, *ONWARD], "3 0 0"),
+    ("in-the-slot-of-a-far-branch", [branch(ALWAYS, 99), TAKES, *ONWARD], "3 0 0"),
+    ("in-the-slot-of-a-branch-that-goes-out", [branch(EQUAL, 0), TAKES], "3 0 0"),
+    ("after-return-in-slot", [RETURN, RETURN, TAKES, *ONWARD], "3 1 0"),
+    ("after-flow-at-2", [NOP, NOP, branch(ALWAYS, -3), NOP, NOP, TAKES, *ONWARD], "3 2 0"),
+    ("in-slot-of-always", [branch(ALWAYS, 2), TAKES, *ONWARD], "25 1 16"),
+    ("in-slot-of-equal", [branch(EQUAL, 2), TAKES_LAST, *ONWARD], "25 1 31"),
+    ("in-slot-of-never", [branch(NEVER, 2), TAKES, *ONWARD], "25 1 16"),
+    ("in-slot-of-annulled-always", [branch(ALWAYS, 2, True), TAKES, *ONWARD], "25 1 16"),
+    ("in-slot-of-annulled-equal", [branch(EQUAL, 2, True), TAKES_POINTER, *ONWARD], "25 1 14"),
+    ("in-slot-of-annulled-never", [branch(NEVER, 2, True), TAKES, *ONWARD], "25 1 16"),
+    ("in-slot-of-return", [NOP, RETURN, TAKES, *ONWARD], "25 2 16"),
+    ("by-an-addition-in-slot", [branch(EQUAL, 2), word("add", 16, 16, 1), *ONWARD], "25 1 16"),
+    ("by-a-load-in-skipped-slot", [branch(ALWAYS, 2, True), word("ldsb", 30, 8, 4), *ONWARD], "25 1 30"),
+    ("by-a-shift-in-slot-of-return", [RETURN, word("sra", 23, 1, 1)], "25 1 23"),
+    ("by-a-comparison-in-skipped-slot", [branch(NEVER, 9, True), word("subcc", 24, 1, 1), *ONWARD], "25 1 24"),
+    ("unreached", [*ONWARD, TAKES, *ONWARD], "25 2 16"),
+    ("unreached-after-always", [branch(ALWAYS, 3), NOP, TAKES_POINTER, *ONWARD], "25 2 14"),
+    ("in-an-unreached-slot", [*ONWARD, branch(ALWAYS, 2), TAKES, *ONWARD], "25 3 16"),
+    ("in-an-unreached-skipped-slot", [*ONWARD, branch(ALWAYS, 2, True), TAKES_LAST, *ONWARD], "25 3 31"),
+    ("in-slot-landed-on", [branch(ALWAYS, 3), NOP, branch(ALWAYS, 2), TAKES, *ONWARD], "25 3 16"),
+    ("in-skipped-slot-landed-on", [branch(ALWAYS, 3), NOP, branch(ALWAYS, 2, True), TAKES, *ONWARD], "25 3 16"),
+    ("in-slot-of-return-landed-on", [branch(EQUAL, 3), NOP, RETURN, TAKES, *ONWARD], "25 3 16"),
+    ("in-own-slot-landed-on", [branch(ALWAYS, 1, True), TAKES, *ONWARD], "25 1 16"),
+    ("landed-on", [branch(EQUAL, 2), NOP, TAKES_POINTER, *ONWARD], "25 2 14"),
+    ("in-a-loop", [NOP, TAKES, branch(EQUAL, -2), NOP, *ONWARD], "25 1 16"),
+    ("not-by-annulled-always", [branch(ALWAYS, 2, True), NOP, *ONWARD], "0 0 0"),
+    ("not-by-the-highest-condition", [branch(15, 2, True), NOP, *ONWARD], "0 0 0"),
+    ("not-by-condition-14", [branch(14, 2), NOP, *ONWARD], "0 0 0"),
+]
+
+
 # Narrowing
 
 def narrowed(name, condition, before, noted, taken, other, answer="0 0 0", slot=NOP):
@@ -890,6 +1066,8 @@ def narrowing():
     yield narrowed("or-null-and-keeps-note", EQUAL, null_or(), 0, {"note": note(2, 1, 0)}, {"note": note(2, 1, 0)})
     yield narrowed("before-slot", EQUAL, number(0, 36, 4), 4, {3: number(4, 12, 8)}, {}, slot=word("add", 3, 1, "r2"))
     yield narrowed("and-not-after-slot", LESS, few, 5, {1: number(1, 5)}, {1: number(6, 10)}, slot=word("add", 1, 1, 1))
+    high = [branch(LESS, 4), *SPLIT], [{16: few, "note": note(2, 16, 5)}, {}, {16: number(5, 9)}, {}, {16: number(0, 4)}, {}]
+    yield Case("narrows-of-the-caller", routine(*high), "0 0 0")
     unnoted = {1: few, "note": SET}
     yield Case("narrows-only-compared", routine([branch(LESS, 4), *SPLIT], [unnoted, {}, {1: few}, {}, {1: few}, {}]), "0 0 0")
 
@@ -943,7 +1121,7 @@ ONE_LEFT = [
 
 def in_place_of_others():
     """Cases with predicted branches in the place of others."""
-    for case in [*flows(), *edges(), *landings(), *narrowing()]:
+    for case in [*flows(), *edges(), *landings(), *taking(), *narrowing()]:
         policy, first, result, code, rows = layout.open_bundle(case.bundle)
         for hint in False, True:
             other = [as_predicted(one, hint) for one in code]
@@ -1007,7 +1185,7 @@ PREDICTED = [
     ("as-in-another-with-a-long-distance", [NOP, branch(ALWAYS, 0x7FFFF), NOP], "3 1 0", "3 1 0"),
 ]
 
-GROUPS = [layouts, long_ones, adds, forms, fitting, results, conditions, accesses, words, flows, edges, landings, returns, narrowing]
+GROUPS = [layouts, long_ones, adds, forms, fitting, results, conditions, accesses, words, flows, edges, landings, returns, written, taking, narrowing]
 
 
 def cases():

@@ -13,7 +13,12 @@ data has of the first two stays there. Else only those are taken that are needed
 tools/plain/mutants.txt is told apart by a record, and every number is on each terminal the answer to EACH bundles of the
 independent implementation with a word of the predicted branch's form, and to EACH without, if it has so many. Beside them
 EACH that are accepted have a branch into a slot, and every number from the pass of flow on is once the answer at such a
-slot. The choice is the same at each run. It takes some minutes: each version is compiled and answers every bundle.
+slot; 25 is the answer to EACH in other slots with the annul bit and to EACH without; and EACH that are refused with 3 have a
+word there or behind that writes a register of the caller. The choice is the same at each run. It takes some minutes: each version is
+compiled and answers every bundle.
+
+A request may change the answer to a bundle that stands in the data. Then the run ends with a line that names it. If it was made it
+is answered anew in cases.py; if it is the independent implementation's it is to be taken out of the data first.
 
 The records stand in the order of the sources. The first made bundle is that of the program crates/answer, so that what
 stands before it is the independent implementation's. A record: edition (a byte), number (a byte), register (a byte), word
@@ -35,8 +40,10 @@ TOOLS = os.path.dirname(os.path.abspath(__file__))
 EXAMPLES = os.path.join(TOOLS, "..", "examples")
 CRATE = os.path.join(TOOLS, "..", "crates", "corpus")
 EACH = 3
-# The numbers that name a word before the pass of flow.
-BEFORE_FLOW = ["1", "2", "24"]
+# The numbers that name a word before the pass of flow, and those of that pass.
+BEFORE_FLOW, FLOW, CALLERS_REGISTER = ["1", "2", "24"], "3", "25"
+# The opcodes of format 11 that store, and the caller's registers.
+STORES, CALLERS = (4, 5, 6), (14, *range(16, layout.REGISTERS))
 # What a record costs beside its bytes, in bytes.
 BEGINNING = 400
 
@@ -99,16 +106,28 @@ def standing(first_made):
     return there[:at], there[at:]
 
 
+def takes(word):
+    """Whether a word that is read would write a register of the caller."""
+    form, opcode = assembly.opcode_of(word)
+    writes = {0: word >> 22 & 7 == 4, 2: word != assembly.RETURN, 3: opcode not in STORES}
+    return writes.get(form, False) and word >> 25 & 31 in CALLERS
+
+
 def sort_of(edition, words, answer, accepted, refused):
     """What one of the independent implementation's records counts as, and how many of these there are to be: so many that are accepted
     with a branch into a slot, so many that are refused at such a slot."""
-    number, word, _ = answer.split()
+    number, word = answer.split()[0], int(answer.split()[1])
     slots = assembly.landings(words, edition)
     kind = f"edition {edition}" + ", predicted" * any(assembly.predicted_codes(one) is not None for one in words)
     if number == "0" and slots:
         return f"{kind}, branch into a slot", accepted
-    if number not in BEFORE_FLOW and int(word) in slots:
+    if number not in BEFORE_FLOW and word in slots:
         return f"{kind}, slot, number {number}", refused
+    if number == CALLERS_REGISTER and word > 0 and assembly.is_transfer(words[word - 1], edition):
+        annulled = words[word - 1] != assembly.RETURN and words[word - 1] >> 29 & 1
+        return f"{kind}, number {number} in a slot" + ", annulled" * annulled, EACH
+    if number == FLOW and any(map(takes, words[word:])):
+        return f"{kind}, number {number} before {CALLERS_REGISTER}", EACH
     return f"{kind}, number {number}", EACH
 
 

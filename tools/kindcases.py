@@ -1,6 +1,6 @@
 """kindcases.py: routines made for the program crates/tables, each for one rule of the listing of kinds.
 
-Each case has a name that says what it is about. Those that are short have what requests 2, 4 and 5 of document 02 give, written
+Each case has a name that says what it is about. Those that are short have what requests 2, 4, 5 and 6 of document 02 give, written
 down here: the answer, or a text of marks. This has for each word the marks of r0 to r7 as digits, or `-` if the word is not
 reached; r8 to r31 are at each word that is reached as in the entry row. A longer one has None, and what it gives is what
 tools/plain/kinds.c gives.
@@ -91,7 +91,7 @@ def numbers():
     yield one_after_another("shifts", [
         (5, operation, *operands) for operation in shifts for operands in ((2, 0), (2, "r0"), (1, "r2"), (3, "r0"), (4, 0))])
     yield listed("sethi", [sethi(7, 5)] + END, f"{FIRST} 11234511 11234511")
-    yield listed("sethi-r31", [sethi(31, 5)] + END, None)
+    yield listed("sethi-r15", [sethi(15, 5)] + END, None)
 
 
 def accesses():
@@ -129,8 +129,9 @@ def flows():
                  f"{FIRST} {FIRST} {FIRST} {FIRST} 11234522 11234522")
     yield listed("be-to-the-word-after-its-slot", [branch(EQUAL, 2, True), copy] + END, f"{FIRST} {FIRST} 11234552 11234552")
     for annul in False, True:
-        each = [[branch(condition, 3, annul), word("or", 8 + condition, 0, "r2"), NOP] for condition in range(16)]
-        yield listed(f"conditions-{annul:d}", [one for three in each for one in three] + END, None)
+        for first in 0, 8:
+            each = [[branch(first + k, 3, annul), word("or", register, 0, "r2"), NOP] for k, register in enumerate(EIGHT)]
+            yield listed(f"conditions-{annul:d}-from-{first}", [one for three in each for one in three] + END, None)
     yield listed("return-without-return-mark", [word("or", 15, 0, 1)] + END, None)
     yield listed("store-in-slot", [branch(ALWAYS, 2), word("st", 6, 2, 0)] + END, " ".join([FIRST] * 4))
 
@@ -164,27 +165,31 @@ def landings():
                  f"{FIRST} 11234555 11234555 11234555 11234535 11234535 11234511 11234511")
     # Each slot makes a register unset, if its branch can be taken.
     for annul in False, True:
-        each = [[branch(condition, 3, annul), NOP, branch(ALWAYS, 2, True), word("or", 8 + condition, 0, "r1")] for condition in range(16)]
-        yield listed(f"conditions-that-land-{annul:d}", [one for four in each for one in four] + END, None, NUMBERS)
+        for first in 0, 8:
+            each = [[branch(first + k, 3, annul), NOP, branch(ALWAYS, 2, True), word("or", register, 0, "r1")] for k, register in enumerate(EIGHT)]
+            yield listed(f"conditions-that-land-{annul:d}-from-{first}", [one for four in each for one in four] + END, None, NUMBERS)
     longest = [branch(EQUAL, WORDS - 3, True), give] + [NOP] * (WORDS - 6) + [RETURN, copy] + END
     yield listed("last-slot-that-may-be-landed-on", longest, f"{' '.join([FIRST] * (WORDS - 3))} {met}")
 
 
 NUMBERS = {register: cases.FULL for register in range(2, MARKS)}
+# Eight registers that a word may write; and all of these but r1, each with the one before it.
+EIGHT = [6, 8, 9, 10, 11, 12, 13, 15]
+CHAIN = [*zip([*range(2, 14), 15], range(1, 14))]
 
 
 def many_rounds():
-    """As many words as there may be, in a loop that is passed through 31 times: with r1 unset and all others numbers, each round
+    """As many words as there may be, in a loop that is passed through 14 times: with r1 unset and all others numbers, each round
     makes one register more unset."""
-    copies = [word("or", register, 0, f"r{register - 1}") for register in range(MARKS - 1, 1, -1)]
+    copies = [word("or", register, 0, f"r{before}") for register, before in reversed(CHAIN)]
     body = copies + [NOP] * (WORDS - len(copies) - 4)
     return body + [branch(EQUAL, -len(body)), NOP] + END
 
 
 def backward_blocks():
-    """Blocks that are run from the last to the first, in a loop: each has a copy, and each round makes one register more unset."""
+    """Blocks that are run from the last to the first, in a loop: each has a copy, and each round makes more registers unset."""
     most = (WORDS - 4) // 3
-    copies = [word("or", 2 + k % 30, 0, f"r{1 + k % 30}") for k in range(most)]
+    copies = [word("or", register, 0, f"r{before}") for register, before in (CHAIN * 4)[:most]]
     into_last = branch(ALWAYS, 3 * most - 1)
     blocks = [one for k in range(1, most) for one in (copies[k], branch(ALWAYS, -4), NOP)]
     return [into_last, NOP, copies[0], branch(EQUAL, 3 * most - 4), NOP] + blocks + END
@@ -193,7 +198,7 @@ def backward_blocks():
 def branches_back():
     """Many branches back to the first words, each over a slot that makes another register unset."""
     most, first = 45, 30
-    back = [one for k in range(most) for one in (branch(EQUAL, k % first - first - 2 * k), word("or", 2 + k % 30, 0, "r1"))]
+    back = [one for k in range(most) for one in (branch(EQUAL, k % first - first - 2 * k), word("or", CHAIN[k % len(CHAIN)][0], 0, "r1"))]
     return [NOP] * first + back + END
 
 
@@ -205,7 +210,7 @@ def ordinary():
 
 def measured():
     """Routines that the listing is measured on. The first has nearly the most raises that there can be."""
-    yield listed("listing, 128 words, 31 rounds", many_rounds(), None, NUMBERS)
+    yield listed("listing, 128 words, 14 rounds", many_rounds(), None, NUMBERS)
     yield listed("listing, 41 blocks from the last to the first", backward_blocks(), None, NUMBERS)
     yield listed("listing, 45 branches back", branches_back(), None, NUMBERS)
     yield listed("listing, a loop of 12 words", ordinary(), None)
@@ -219,8 +224,9 @@ def loops():
     yield listed("same-mark-meets", [branch(EQUAL, 0), word("add", 2, 2, 4)] + END, " ".join([FIRST] * 4))
     yield listed("many-rounds", many_rounds(), None, NUMBERS)
     # Each loop inside raises the one around it, which is passed again.
-    nest = [NOP] * 20 + [one for k in range(20) for one in (branch(EQUAL, -(20 + k)), word("or", 8 + k, 0, f"r{7 + k}"))]
-    yield listed("nested-loops", nest + END, None)
+    deep = len(CHAIN)
+    nest = [NOP] * deep + [one for k, (register, before) in enumerate(CHAIN) for one in (branch(EQUAL, -(deep + k)), word("or", register, 0, f"r{before}"))]
+    yield listed("nested-loops", nest + END, None, NUMBERS)
     behind = [branch(EQUAL, 6), NOP, word("or", 7, 0, "r3"), branch(ALWAYS, 3), NOP, NOP, NOP]
     yield listed("meeting-behind-an-unreached-word", behind + END, f"{FIRST} {FIRST} {FIRST} 11234513 11234513 - 11234515 11234515 11234515")
     # On each way the sum is an address, but its operands meet before it is made.
@@ -232,11 +238,13 @@ def loops():
 def meetings():
     """Any two marks meet, each pair in a register of its own."""
     pairs = [(first, second) for first in range(1, 6) for second in range(first, 6)]
-    before, after = ([word("or", 8 + k, 0, f"r{pair[way]}") for k, pair in enumerate(pairs)] for way in (0, 1))
-    forth = before + [branch(EQUAL, 2 + len(after)), NOP] + after + END
-    back = after + [branch(EQUAL, 2 + len(before)), NOP] + before + END
-    yield listed("meetings", forth, None)
-    yield listed("meetings-the-other-way", back, None)
+    for part in 0, 8:
+        held = list(zip(EIGHT, pairs[part:]))
+        before, after = ([word("or", register, 0, f"r{pair[way]}") for register, pair in held] for way in (0, 1))
+        forth = before + [branch(EQUAL, 2 + len(after)), NOP] + after + END
+        back = after + [branch(EQUAL, 2 + len(before)), NOP] + before + END
+        yield listed(f"meetings-{part}", forth, None)
+        yield listed(f"meetings-the-other-way-{part}", back, None)
     for first, second in (1, 2), (2, 3), (4, 1):
         words = [word("or", 6, 0, f"r{first}"), word("or", 7, 0, f"r{second}"), branch(EQUAL, 4), NOP,
                  word("or", 6, 0, f"r{second}"), word("or", 7, 0, f"r{first}")]
@@ -315,6 +323,66 @@ def policies():
         yield refused(f"policy-{name}", "20 0 0", policy=policy, entry=cases.spell({}))
 
 
+# The caller's registers
+
+def callers():
+    """A word that writes one of them refuses the listing, where it is and whatever else it does. Others may be written, and all read."""
+    some = "sethi", "subcc", "or-registers", "srl", "ldsb"
+    for register in 14, 16, 17, 23, 24, 30, 31:
+        for sort, one in cases.writers(register):
+            if sort in some or register == 16 and not sort.endswith("-registers"):
+                yield refused(f"{sort}-to-r{register}", f"25 0 {register}", [one] + END)
+    for register in 13, 15:
+        yield listed(f"each-to-r{register}", [one for _, one in cases.writers(register)] + END, None)
+    stores = [word(operation, register, 2, 0) for operation in ("st", "stb", "sth") for register in (14, 16, 24, 31)]
+    yield listed("stores-of-the-callers", stores + END, " ".join([FIRST] * 14))
+    reads = [word("or", 6, 0, "r14"), word("or", 7, 16, "r0"), word("add", 6, 31, 8), word("subcc", 0, 16, "r24"), word("ldub", 7, 14, "r31"),
+             word("stb", 7, 16, 0)]
+    known = {14: cases.start(), 16: cases.null_or(1), 31: cases.FULL}
+    marks = ["11234512", "11234522", "11234523", "11234513", "11234513", "11234511", "11234511", "11234511"]
+    yield listed("reads-of-the-callers", reads + END, " ".join(marks), {**KNOWN, **known})
+    for name, answer, words in TAKING:
+        yield refused("taking-" + name, answer, words)
+    yield refused("policy-before-taking", "20 0 0", [cases.TAKES] + END, policy=POLICY._replace(count=9))
+    yield refused("table-before-taking", "21 0 0", [cases.TAKES] + END, length=4095)
+    yield refused("entry-before-taking", "21 0 0", [cases.TAKES] + END, entry=cases.spell({16: cases.entry(5)}))
+    yield refused("taking-with-the-register-known", "25 0 16", [cases.TAKES] + END, entry=cases.spell({16: cases.number(0, 0)}))
+    for hint in False, True:
+        code = [predicted(ALWAYS, 2, True, hint), cases.TAKES] + END
+        yield refused("taking-in-skipped-slot-of-predicted" + "-with-hint" * hint, "25 1 16", code)._replace(edition=NEWER)
+        yield refused("taking-in-skipped-slot-of-predicted-on-the-older" + "-with-hint" * hint, "2 0 0", code)
+    for name, answer, words in PREDICTED_TAKING:
+        yield refused("taking-" + name, answer, words)._replace(edition=NEWER)
+
+
+TAKES, TAKES_POINTER, TAKES_LAST = cases.TAKES, cases.TAKES_POINTER, cases.TAKES_LAST
+TAKING = [
+    ("alone", "3 0 0", [TAKES]), ("last", "3 2 0", END + [TAKES]), ("last-slot-landed-on", "3 1 0", [branch(ALWAYS, 1), TAKES]),
+    ("last-slot-of-return", "25 1 16", [RETURN, TAKES]), ("twice", "25 0 31", [TAKES_LAST, TAKES_POINTER] + END),
+    ("twice-first-in-slot", "25 1 31", [branch(ALWAYS, 2), TAKES_LAST, TAKES] + END),
+    ("second", "25 1 14", [NOP, TAKES_POINTER, TAKES_LAST] + END), ("before-flow", "25 0 16", [TAKES, NOP]),
+    ("at-word-2-before-flow-at-5", "25 2 16", [NOP, NOP, TAKES, NOP, NOP, branch(EQUAL, 99), NOP] + END),
+    ("in-slot-before-flow", "25 1 16", [branch(ALWAYS, 2), TAKES, RETURN, RETURN]),
+    ("after-flow", "3 0 0", [branch(EQUAL, 99), NOP, TAKES] + END), ("in-the-slot-after-flow", "3 0 0", [branch(EQUAL, 99), TAKES] + END),
+    ("in-slot-of-ba", "25 1 16", [branch(ALWAYS, 2), TAKES] + END), ("in-slot-of-ba-a", "25 1 16", [branch(ALWAYS, 2, True), TAKES] + END),
+    ("in-slot-of-be", "25 1 31", [branch(EQUAL, 2), TAKES_LAST] + END), ("in-slot-of-be-a", "25 1 14", [branch(EQUAL, 2, True), TAKES_POINTER] + END),
+    ("in-slot-of-bn", "25 1 16", [branch(NEVER, 2), TAKES] + END), ("in-slot-of-bn-a", "25 1 16", [branch(NEVER, 2, True), TAKES] + END),
+    ("in-slot-of-return", "25 1 16", [RETURN, TAKES] + END), ("unreached", "25 2 16", END + [TAKES] + END),
+    ("unreached-after-ba", "25 2 31", [branch(ALWAYS, 3), NOP, TAKES_LAST] + END),
+    ("in-an-unreached-slot", "25 3 16", END + [branch(ALWAYS, 2, True), TAKES] + END),
+    ("in-slot-landed-on", "25 3 16", [branch(EQUAL, 3), NOP, branch(ALWAYS, 2), TAKES] + END),
+    ("in-skipped-slot-landed-on", "25 3 14", [branch(EQUAL, 3), NOP, branch(ALWAYS, 2, True), TAKES_POINTER] + END),
+    ("in-slot-of-return-landed-on", "25 3 16", [branch(EQUAL, 3), NOP, RETURN, TAKES] + END),
+    ("copied-to-itself", "25 0 16", [word("or", 16, 0, "r16")] + END), ("unset-copied-to-itself", "25 0 14", [word("or", 14, 14, "r0")] + END),
+    ("word-not-read-behind", "2 3 0", [TAKES] + END + [CALL]), ("word-privileged-behind", "24 3 0", [TAKES] + END + [LD_ALTERNATE]),
+]
+PREDICTED_TAKING = [
+    ("in-slot-of-predicted", "25 1 31", [predicted(EQUAL, 2), TAKES_LAST] + END),
+    ("before-a-far-predicted", "25 0 14", [TAKES_POINTER, predicted(EQUAL, 99), NOP] + END),
+    ("after-a-far-predicted", "3 0 0", [predicted(ALWAYS, 99), TAKES] + END), ("behind-predicted", "25 2 16", [predicted(ALWAYS, 3), NOP, TAKES] + END),
+]
+
+
 # The predicted branch
 
 def predictions():
@@ -356,5 +424,5 @@ def predictions():
 
 def made():
     """All cases; the first is that by which they are known from others."""
-    for several in (flows, landings, loops, meetings, copies, sums, numbers, accesses, every_pair, lengths, forms, orders, policies, predictions):
+    for several in (flows, landings, loops, meetings, copies, sums, numbers, accesses, every_pair, lengths, forms, orders, policies, callers, predictions):
         yield from several()

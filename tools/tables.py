@@ -17,7 +17,8 @@ Other lines are passed over.
 There are two sources: the independent implementation's listings, and those of kindcases.py, all of which are taken. Of the
 first those that stand in the data stay there. Of others only those are taken that are needed: every wrong version of
 tools/plain/kinds-mutants.txt that is told apart by one of them is told apart by one that is taken, and every number is the
-answer to several, with a branch into a slot and without. The plain program (tools/plain/kinds.c) must give what is expected of
+answer to several, with a branch into a slot and without, 25 also in slots. What a later request lists otherwise is to be taken out of
+the data first. The plain program (tools/plain/kinds.c) must give what is expected of
 every listing, and every version must be told apart by the data, but those that the list shows to be no wrong versions. It takes
 some minutes: each version is compiled and makes every listing.
 

@@ -574,12 +574,15 @@ def kinds_of(files, data=OBJECT, *options):
 def kinds_of_examples():
     yield "crates/kinds/stdin is an example", read(ROOT, "crates", "kinds", "stdin") == read(EXAMPLES, "name", "bundle.bin"), ""
     for name in of_edition(8):
-        data = read(EXAMPLES, name, "bundle.bin")
+        data, answer = read(EXAMPLES, name, "bundle.bin"), read(EXAMPLES, name, "answer.txt").decode()
         with example(name) as folder:
             path = os.path.join(folder, "bundle.bin")
             status, out, said = called("kinds.py", path)
-            lines = [line for line in out.splitlines() if re.match(r" *\d+  [0-9A-F]{8}  ", line)]
-            yield f"kinds.py lists {name}", (status, said, len(lines)) == (0, "", len(words_of(name))), out + said
+            if answer.startswith("25 "):
+                yield f"kinds.py refuses {name}", (status, said) == (0, "") and out.startswith(answer), out + said
+            else:
+                lines = [line for line in out.splitlines() if re.match(r" *\d+  [0-9A-F]{8}  ", line)]
+                yield f"kinds.py lists {name}", (status, said, len(lines)) == (0, "", len(words_of(name))), out + said
             write(noisy(data), folder, "bundle.bin")
             yield f"kinds.py looks at no row of {name}", called("kinds.py", path) == (status, out, said), ""
 
@@ -991,6 +994,113 @@ def plain_program_is_told_the_edition():
             yield f"plain answer {edition} -s", mutants.answers(program, edition, [branch] * 2) == expected, ""
         held = [mutants.Record(edition, branch, "2 0 0") for edition in (OLDER, NEWER, OLDER)]
         yield "a record with the answer of the other terminal", mutants.wrong(read(mutants.SOURCE).decode(), held, folder) == [1], ""
+
+
+# The caller's registers
+
+def keeping_in(register):
+    """The words of example `name` with its byte in another register than r2, and the rows that say so."""
+    words = list(WORDS)
+    for k in 1, 6:
+        words[k] = words[k] & ~(31 << 25) | register << 25
+    return object_file(words, [("next", 1)]), TEXTS[ROWS].replace(b"r2 ", b"r%d " % register)
+
+
+def kept_in(register):
+    """The bundle of these."""
+    data, rows = keeping_in(register)
+    return made({ROWS: rows}, data)
+
+
+KEPT = [(register, b"0 0 0\n" if register in (3, 13) else b"25 1 %d\n" % register) for register in (3, 13, 14, 16, 23, 24, 31)]
+
+
+@cases("gcc")
+def registers_of_the_caller_in_the_plain_program():
+    with tempfile.TemporaryDirectory() as folder:
+        program = mutants.compiled(read(mutants.SOURCE).decode(), folder)
+        for register, expected in KEPT:
+            for edition in OLDER, NEWER:
+                given = mutants.answer(program, edition, kept_in(register))
+                yield f"plain answer {edition}: a byte in r{register}", given == expected.decode().strip(), given
+
+
+@cases(ANSWER)
+def registers_of_the_caller():
+    for register, expected in KEPT:
+        out = subprocess.run([ANSWER], input=kept_in(register), capture_output=True).stdout
+        yield f"the bundle program: a byte in r{register}", out == expected, out.decode()
+
+
+@cases(ANSWER_9)
+def registers_of_the_caller_on_the_newer():
+    for register, expected in KEPT:
+        out = subprocess.run([ANSWER_9], input=kept_in(register), capture_output=True).stdout
+        yield f"the newer terminal's bundle program: a byte in r{register}", out == expected, out.decode()
+
+
+@cases(AS, ANSWER)
+def a_routine_with_locals():
+    for name, expected in ("%g3", b"0 0 0\n"), ("%o5", b"0 0 0\n"), ("%o6", b"25 1 14\n"), ("%l0", b"25 1 16\n"), ("%i7", b"25 1 31\n"):
+        with routine() as folder:
+            write(TEXTS[ROUTINE].replace(b"%g2", name.encode()), folder, ROUTINE)
+            write(TEXTS[ROWS].replace(b"r2 ", b"r%d " % bundle.REGISTERS.index(name)), folder, ROWS)
+            said = problem_of(folder)
+            out = b"" if said else subprocess.run([ANSWER], input=read(folder, "bundle.bin"), capture_output=True).stdout
+        yield f"a routine that keeps a byte in {name}", out == expected, said + out.decode()
+
+
+@cases(KINDS)
+def registers_of_the_caller_before_rows():
+    for register, expected in KEPT:
+        data, _ = keeping_in(register)
+        status, out, said = kinds_of({ROWS: ENTRY}, data)
+        right = out.startswith(expected.decode()) if expected[:1] != b"0" else out.count("\n") == len(WORDS)
+        yield f"kinds.py with a byte in r{register}", status == 0 and right and not said, out + said
+
+
+@cases(EXPLAIN)
+def registers_of_the_caller_explained():
+    for register, expected in KEPT:
+        status, out, said = explained_bundle(kept_in(register), "--edition", "8")
+        right = expected[:1] == b"0" or f"wrong: it would write r{register}, " in out
+        yield f"explain.py with a byte in r{register}", status == 0 and out.startswith(expected.decode()) and right and not said, out + said
+
+
+@cases()
+def sorts_of_refusals():
+    take, pointer, back = bundles.TAKES, bundles.TAKES_POINTER, parts.RETURN
+    for what, word, expected in [
+            ("sethi to r16", take, True), ("sethi to r14", pointer, True), ("sethi to r15", bundles.sethi(15, 0), False), ("a nop", parts.NOP, False),
+            ("add to r31", bundles.word("add", 31, 1, 1), True), ("subcc to r0", bundles.word("subcc", 0, 16, 1), False),
+            ("srl to r17", bundles.word("srl", 17, 1, 1), True), ("ldsh to r30", bundles.word("ldsh", 30, 1, 0), True),
+            ("a store of r16", bundles.word("stb", 16, 1, 0), False), ("an annulled branch", bundles.branch(15, 2, True), False),
+            ("an annulled predicted branch", predicted(15, 2, True), False), ("the return", back, False), ("a call", 0x7FFFFFFF, False)]:
+        yield f"a word that takes a register of the caller: {what}", corpus.takes(word) == expected, ""
+    into = [bundles.branch(bundles.ALWAYS, 3), parts.NOP, back, take, back, parts.NOP]
+    for edition, words, answer, expected in [
+            (8, [take, back, parts.NOP], "25 0 16", ("edition 8, number 25", corpus.EACH)),
+            (8, [back, take], "25 1 16", ("edition 8, number 25 in a slot", corpus.EACH)),
+            (9, [predicted(8, 2, True), take, back, parts.NOP], "25 1 16", ("edition 9, predicted, number 25 in a slot, annulled", corpus.EACH)),
+            (8, into, "25 3 16", ("edition 8, slot, number 25", 1)), (8, [parts.NOP, take], "3 1 0", ("edition 8, number 3 before 25", corpus.EACH)),
+            (8, [back, back, take, back, parts.NOP], "3 1 0", ("edition 8, number 3 before 25", corpus.EACH)),
+            (8, [parts.NOP], "3 0 0", ("edition 8, number 3", corpus.EACH)), (8, [take, 0], "2 1 0", ("edition 8, number 2", corpus.EACH))]:
+        given = corpus.sort_of(edition, words, answer, 7, 1)
+        yield f"the sort of {answer} with {len(words)} words on {edition}", given == expected, repr(given)
+
+
+@cases()
+def registers_of_the_caller_in_the_data():
+    held = [(one.edition, corpus.words_in(one.bundle), one.answer) for one in mutants.records(read(ROOT, "crates", "corpus", "stdin"))]
+    listed = [(*tables.words_of(one), tables.expected(one)[0]) for one in tables.records(read(ROOT, "crates", "tables", "stdin"))]
+    for name, records in ("corpus", held), ("tables", listed):
+        given = {(edition, int(answer.split()[2])) for edition, _, answer in records if answer.startswith("25 ")}
+        wanted = {(edition, register) for edition in (OLDER, NEWER) for register in (14, 16, 31)}
+        yield f"crates/{name} has 25 with the first and the last register on both terminals", wanted <= given, repr(given)
+        wrong = [answer for _, words, answer in records if answer.startswith("25 ") and not corpus.takes(words[int(answer.split()[1])])]
+        yield f"crates/{name} has 25 only at words that take a register", wrong == [], repr(wrong)
+        late = [answer for _, words, answer in records if int(answer.split()[0]) in (0, *range(4, 18)) and any(map(corpus.takes, words))]
+        yield f"crates/{name} has no later number where a word takes a register", late == [], repr(late)
 
 
 # How the tools are called, and where

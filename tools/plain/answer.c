@@ -29,7 +29,9 @@ enum {
     REGISTERS = 32,
     NOTE = 32,              /* the register named for the note or the codes */
     RESULT_REGISTER = 8,
+    STACK_POINTER = 14,
     RETURN_REGISTER = 15,
+    FIRST_LOCAL = 16,       /* it and all above it are locals and ins */
 
     HEAD_BYTES = 8,
     REGION_BYTES = 4,
@@ -64,7 +66,8 @@ enum {
     BAD_POLICY = 20,
     BAD_INPUT = 21,
     BAD_BUNDLE = 23,
-    PRIVILEGED = 24
+    PRIVILEGED = 24,
+    CALLERS_REGISTER = 25
 };
 
 struct answer {
@@ -395,6 +398,20 @@ struct insn {
 static bool is_transfer(const struct insn *in)
 {
     return in->form == BICC || in->form == RETURN;
+}
+
+/* The register that a word writes; r0, where writes vanish, for none. */
+static int register_written(const struct insn *in)
+{
+    bool writes = in->form == SETHI || in->form == ALU || in->form == LOAD;
+
+    return writes ? in->rd : 0;
+}
+
+/* Is the register the caller's, so that a routine may not write it? */
+static bool is_callers(int reg)
+{
+    return reg == STACK_POINTER || reg >= FIRST_LOCAL;
 }
 
 /* The low bits of the word as a signed number. */
@@ -1032,9 +1049,14 @@ static struct answer check_code(const struct code *c)
     for (int w = 0; w < c->words; w++)
         if (c->insn[w].form == UNREAD)
             return refuse(c->insn[w].refusal, w, 0);
-    for (int w = 0; w < c->words; w++)
+    for (int w = 0; w < c->words; w++) {
+        int written = register_written(&c->insn[w]);
+
         if (!flow_well_formed(c, w))
             return refuse(BAD_FLOW, w, 0);
+        if (is_callers(written))
+            return refuse(CALLERS_REGISTER, w, written);
+    }
 
     int reg = row_misfit(&c->entry, &c->row[0]);
 

@@ -254,9 +254,14 @@ static struct answer list_record(struct record *record, struct code *c)
             return refuse(c->insn[w].refusal, w, 0);
     }
     find_targets(c);
-    for (int w = 0; w < c->words; w++)
+    for (int w = 0; w < c->words; w++) {
+        int written = register_written(&c->insn[w]);
+
         if (!flow_well_formed(c, w))
             return refuse(BAD_FLOW, w, 0);
+        if (is_callers(written))
+            return refuse(CALLERS_REGISTER, w, written);
+    }
 
     struct listing l;
 

@@ -4,8 +4,8 @@
 //   2        its register
 //   3 and 4  its word
 //   5 to 8   the bundle's length
-use checker::Answer;
 use libc::STDIN_FILENO;
+use passes::Answer;
 use records::edition::Told;
 use records::edition::edition_of;
 use v8::Edition;

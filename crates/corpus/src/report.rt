@@ -2,12 +2,12 @@
 use crate::record::Answers;
 use crate::record::Record;
 use crate::record::next_record;
-use checker::Answer;
 use output::line_of;
 use output::print;
 use output::print_line;
 use output::print_number;
 use output::print_wrong;
+use passes::Answer;
 ghost use Prim.Native.Nat.{_≤_};
 
 // The most bundles that are read.
