@@ -10,8 +10,8 @@ use Rattle.v8.proofs.Choice.{cond-both}
 use Rattle.v8.specs.Numbers.{badBundle}
 use Rattle.v8.specs.declared.Edition.{Edition}
 use Rattle.policy.specs.declared.Policy.{Policy}
-use Rattle.checker.specs.declared.Answer.{Answer}
-use Rattle.checker.specs.Answer.{refuse}
+use Rattle.passes.specs.declared.Answer.{Answer}
+use Rattle.passes.specs.Answer.{refuse}
 use Rattle.checker.specs.Passes.{checkOf}
 use Rattle.bundle.specs.declared.Opened.{Opened}
 use Rattle.bundle.specs.Layout.{mostGiven, wordCount, wordsPlace, bundleOk}

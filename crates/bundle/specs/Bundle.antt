@@ -12,8 +12,8 @@ use Rattle.policy.specs.declared.Field.{Field}
 use Rattle.policy.specs.declared.Built.{Built}
 use Rattle.policy.specs.Build.{emptyPolicy, addRegionOf, addFieldOf}
 use Rattle.rows.specs.Geometry.{rowBytes, entryBytes}
-use Rattle.checker.specs.declared.Answer.{Answer}
-use Rattle.checker.specs.Answer.{refuse}
+use Rattle.passes.specs.declared.Answer.{Answer}
+use Rattle.passes.specs.Answer.{refuse}
 use Rattle.checker.specs.Passes.{checkOf}
 use Rattle.bundle.specs.Layout.{regionCount, wordCount, regionSize, fieldCount, fieldsBefore, fieldRead, entryPlace, resultPlace, wordsPlace, rowsPlace, bundleOk, wordBytes}
 

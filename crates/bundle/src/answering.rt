@@ -1,10 +1,10 @@
 // The answer to a bundle: its refusal, that of an add, or the check's answer (specs/Bundle.antt).
 ghost use mathlib.Core.Path.{_≡_};
-ghost use Rattle.checker.specs.Answer.{refuse};
+ghost use Rattle.passes.specs.Answer.{refuse};
 ghost use Rattle.bundle.specs.Bundle.{bundleAnswer};
 use crate::opening::open;
-use checker::Answer;
 use checker::check;
+use passes::Answer;
 use v8::Edition;
 use v8::WordIndex;
 use v8::numbers::ACCEPTED;

@@ -21,8 +21,9 @@ use Rattle.rows.specs.Row.{entryAt, entriesWith, entryOf, noteOf, rowOf, formed
 use Rattle.rules.specs.Result.{aluResult}
 use Rattle.rules.specs.Change.{noteAfter, aluChange, returnChange}
 use Rattle.rules.specs.Narrow.{narrowRow}
-use Rattle.checker.specs.Answer.{passOf}
-use Rattle.checker.specs.Passes.{shapeOk, rowPass, readPass, flowPass, entryPass, cross, narrowedEdge, wordPass, answerOf, checkOf}
+use Rattle.passes.specs.Answer.{passOf}
+use Rattle.passes.specs.Passes.{shapeOk, rowPass, readPass, flowPass, entryPass}
+use Rattle.checker.specs.Passes.{cross, narrowedEdge, wordPass, answerOf, checkOf}
 use Rattle.marks.specs.Marks as Marks·
 use Rattle.marks.specs.Effect.{ofNumbers, orMark}
 use Rattle.lister.specs.Table.{marksAt, reached, raisedAt}

@@ -5,9 +5,9 @@ use mathlib.Core.List.{List, map}
 use lib.ListN.{length}
 use Rattle.v8.specs.declared.Edition.{Edition}
 use Rattle.flow.specs.Readings.{readingsOf}
-use Rattle.checker.specs.declared.Answer.{Answer}
-use Rattle.checker.specs.Answer.{refuse, passOf}
-use Rattle.checker.specs.Passes.{flowPass}
+use Rattle.passes.specs.declared.Answer.{Answer}
+use Rattle.passes.specs.Answer.{refuse, passOf}
+use Rattle.passes.specs.Passes.{flowPass}
 
 -- words, and the answer that the pass must have for them
 pub record Row : Type 0 where

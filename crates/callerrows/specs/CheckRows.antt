@@ -4,7 +4,7 @@ use mathlib.Core.List.{List, [], _∷_}
 use Rattle.v8.specs.Signed.{bias}
 use Rattle.trials.specs.Case.{Row, _gives_, answers}
 use Rattle.trials.specs.Entries.{above, num, just, unset, put}
-use Rattle.trials.specs.CheckRows.{routine, called, first, rowed, flow}
+use Rattle.trials.specs.CheckRows.{routine, called, first, flow}
 use Rattle.rows.specs.declared.Row as Rows·
 
 -- at a call, r16 is 0 to 9

@@ -15,10 +15,10 @@ use Rattle.flow.specs.Flow.{flowOf}
 use Rattle.flow.specs.Laws.{InCode}
 use Rattle.flow.proofs.Onward.{instruction-flows}
 use Rattle.rows.specs.Geometry.{rowBytes}
-use Rattle.checker.specs.Answer.{passes}
-use Rattle.checker.specs.Passes.{flowPass}
+use Rattle.passes.specs.Answer.{passes}
+use Rattle.passes.specs.Passes.{flowPass}
 use Rattle.checker.specs.Lent.{EndIn, ReadingIn}
-use Rattle.checker.proofs.Accepted.{flow-holds}
+use Rattle.passes.proofs.Accepting.{flow-holds}
 
 module _ (code : List Reading) (n : ℕ) (rows : rowBytes * length code ≡ n) where
   end-in : (d : Destination) → InCode code d → EndIn d n

@@ -1,4 +1,3 @@
-pub mod Started
 pub mod Accepted
 pub mod Looked
 pub mod Inside

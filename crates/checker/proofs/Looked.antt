@@ -19,12 +19,13 @@ use Rattle.rules.specs.declared.Change.{Change}
 use Rattle.rules.specs.declared.Change.the-variants.{Writes, Keeps, Breaks}
 use Rattle.rules.specs.Narrow.{RowLeft, left, narrows, narrowRow}
 use Rattle.rules.proofs.Numbered.{Numbered, change-numbered}
-use Rattle.checker.specs.declared.Answer.{Answer}
-use Rattle.checker.specs.Answer.{accepted, passes}
-use Rattle.checker.specs.Routine.{rowAt, resultEntry}
+use Rattle.passes.specs.declared.Answer.{Answer}
+use Rattle.passes.specs.Answer.{accepted, passes}
+use Rattle.passes.specs.Passes.{rowAt}
+use Rattle.checker.specs.Routine.{resultEntry}
 use Rattle.checker.specs.Passes.{made, changeBy, arrive, cross, ifLeft, narrowedEdge, edgePass, resultRegister}
 use Rattle.checker.specs.Laws.{After, WordMakes, EdgesLooked, SlotApplied, SlotSkipped, Arrives}
-use Rattle.checker.proofs.Accepted.{both-pass, need-holds, no-fault}
+use Rattle.passes.proofs.Accepting.{both-pass, need-holds, no-fault}
 
 -- what breaks a condition has a number
 numbered-by : (p : Policy) (row : Row) (x : Reading) → ReadingSound x → Numbered (changeBy p row x)

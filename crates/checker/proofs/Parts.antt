@@ -7,8 +7,8 @@ use Rattle.v8.specs.declared.Edition.{Edition}
 use Rattle.v8.specs.declared.Reading.{Reading}
 use Rattle.flow.proofs.Fetched.{read-count}
 use Rattle.policy.specs.declared.Policy.{Policy}
-use Rattle.checker.specs.declared.Answer.{Answer}
-use Rattle.checker.specs.Answer.{passOf}
+use Rattle.passes.specs.declared.Answer.{Answer}
+use Rattle.passes.specs.Answer.{passOf}
 use Rattle.checker.specs.Routine.{Routine, routineOf, count}
 
 pub record Given : Type 0 where

@@ -3,25 +3,18 @@ use Prim.Native.Nat.{ℕ, _*_, _≤_}
 use mathlib.Core.Path.{_≡_, ap, _∙_}
 use mathlib.Core.Bool.{Bool, true, false, and-false}
 use lib.ListN.{length}
-use borrow.Author.Tests.{eq-eqb, ne-eqb}
 use Rattle.v8.specs.Numbers.{badPolicy, badShape, mostWords}
 use Rattle.flow.proofs.Fetched.{read-count}
 use Rattle.v8.proofs.Search.{needed-eq}
 use Rattle.policy.specs.Policy.{policyOk}
 use Rattle.rows.specs.Geometry.{rowBytes, entryBytes}
-use Rattle.checker.specs.declared.Answer.{Answer}
-use Rattle.checker.specs.Answer.{refuse, andThen, passOf}
+use Rattle.passes.specs.declared.Answer.{Answer}
+use Rattle.passes.specs.Answer.{refuse, andThen, passOf}
 use Rattle.checker.specs.Routine.{count}
-use Rattle.checker.specs.Passes.{shapeOk, rowPass, readPass, flowPass, entryPass, wordPass, answerOf, checkOf}
-use Rattle.checker.proofs.Started.{shape-started}
+use Rattle.passes.specs.Passes.{shapeOk, rowPass, readPass, flowPass, entryPass}
+use Rattle.checker.specs.Passes.{wordPass, answerOf, checkOf}
+use Rattle.passes.proofs.Started.{shape-started}
 use Rattle.checker.proofs.Parts.{Given, whole}
-
--- a pass that accepts, and one that does not, with what follows it
-pub goes : (a x y : Answer) → a ≡ x → a .number ≡ 0 → andThen x y ≡ y
-goes a x y e h = rw (← e, eq-eqb (a .number) 0 h)
-
-pub stops : (a x y : Answer) → a ≡ x → (a .number ≡ 0 → ⊥) → andThen x y ≡ a
-stops a x y e h = rw (← e, ne-eqb (a .number) 0 h)
 
 -- what a right shape tells of the lengths
 pub record Shaped (g : Given) : Type 0 where

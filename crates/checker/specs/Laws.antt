@@ -26,10 +26,11 @@ use Rattle.rows.specs.Row.{entryAt, rowWith, entryFormed, formFault, misfit}
 use Rattle.rules.specs.declared.Change.{Change}
 use Rattle.rules.specs.declared.Change.the-variants.{Writes, Keeps, Breaks}
 use Rattle.rules.specs.Narrow.{left, narrowRow}
-use Rattle.checker.specs.declared.Answer.{Answer}
-use Rattle.checker.specs.Answer.{accepted, passes}
-use Rattle.checker.specs.Routine.{Routine, routineOf, count, rowAt, entryRow, resultEntry}
-use Rattle.checker.specs.Passes.{readPass, arrive, changeBy, applied, cross, edges, look, resultRegister, checkOf}
+use Rattle.passes.specs.declared.Answer.{Answer}
+use Rattle.passes.specs.Answer.{accepted, passes}
+use Rattle.passes.specs.Passes.{rowAt, entryRow, readPass}
+use Rattle.checker.specs.Routine.{Routine, routineOf, count, resultEntry}
+use Rattle.checker.specs.Passes.{arrive, changeBy, applied, cross, edges, look, resultRegister, checkOf}
 
 pub record Checked (t : Routine) : Type 0 where
   -- 20

@@ -1,4 +1,3 @@
-pub mod Answer
 pub mod Routine
 pub mod Passes
 pub mod Laws

@@ -1,5 +1,5 @@
 -- A routine as the check sees it: the policy, the words as they are read, their rows, the entry row and the result entry.
-use Prim.Native.Nat.{ℕ, _*_}
+use Prim.Native.Nat.{ℕ}
 use mathlib.Core.List.{List}
 use lib.ListN.{length}
 use Rattle.v8.specs.declared.Edition.{Edition}
@@ -7,9 +7,7 @@ use Rattle.v8.specs.declared.Reading.{Reading}
 use Rattle.policy.specs.declared.Policy.{Policy}
 use Rattle.flow.specs.Readings.{readingsOf}
 use Rattle.rows.specs.declared.Entry.{Entry}
-use Rattle.rows.specs.declared.Row.{Row}
-use Rattle.rows.specs.Geometry.{rowBytes}
-use Rattle.rows.specs.Row.{entryOf, rowOf}
+use Rattle.rows.specs.Row.{entryOf}
 
 -- what is handed in, the words as they are read
 pub record Routine : Type 0 where
@@ -26,14 +24,6 @@ routineOf e p words rows entry result = record { policy = p; readings = readings
 -- how many words there are
 abbrev pub count : Routine → ℕ
 count t = length (t .readings)
-
--- word w's row
-abbrev pub rowAt : List ℕ → ℕ → Row
-rowAt rows w = rowOf rows (rowBytes * w)
-
--- the entry row
-abbrev pub entryRow : List ℕ → Row
-entryRow entry = rowOf entry 0
 
 -- the result entry
 abbrev pub resultEntry : List ℕ → Entry

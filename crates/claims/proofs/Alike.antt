@@ -17,8 +17,9 @@ use Rattle.v8.proofs.Alike.{reads-alike}
 use Rattle.v8.proofs.Sound.{reads-sound}
 use Rattle.flow.specs.Readings.{readingsOf, readingAt}
 use Rattle.flow.proofs.Fetched.{read-count, fetched}
-use Rattle.checker.specs.Answer.{accepted, passes}
-use Rattle.checker.specs.Passes.{ifRead, readPass, answerOf, checkOf}
+use Rattle.passes.specs.Answer.{accepted, passes}
+use Rattle.passes.specs.Passes.{ifRead, readPass}
+use Rattle.checker.specs.Passes.{answerOf, checkOf}
 use Rattle.checker.proofs.Accepted.{accepts}
 use Rattle.claims.specs.Claims.{AcceptedToo}
 

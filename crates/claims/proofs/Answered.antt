@@ -27,9 +27,10 @@ use Rattle.rows.specs.Row.{entryAt, entryOf, rowOf, formFault, misfit}
 use Rattle.rows.proofs.Tests.{other-kind}
 use Rattle.rules.specs.Change.{branchChange, returnChange}
 use Rattle.rules.specs.Narrow.{narrowRow}
-use Rattle.checker.specs.Answer.{accepted, refuse, passes, passOf}
+use Rattle.passes.specs.Answer.{accepted, refuse, passes, passOf}
 use Rattle.checker.specs.Routine.{Routine, routineOf}
-use Rattle.checker.specs.Passes.{shapeOk, rowPass, readPass, flowThen, flowPass, entryPass, cross, narrowedEdge, wordPass, checkOf}
+use Rattle.passes.specs.Passes.{shapeOk, rowPass, readPass, flowThen, flowPass, entryPass}
+use Rattle.checker.specs.Passes.{cross, narrowedEdge, wordPass, checkOf}
 use Rattle.claims.specs.Claims.{nop, returnWord, alwaysHere, WellFormedEntry, AllRowsEqual, ReturnThenNop, OneNop, LoopAccepted}
 use Rattle.claims.proofs.Agreeing.{Agree, same-row}
 use Rattle.claims.proofs.Passing.{unless-none, formed-too, all-pass, flow-answers, all-accept}

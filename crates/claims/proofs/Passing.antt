@@ -15,10 +15,11 @@ use Rattle.rows.specs.declared.Flaw.the-variants.{None}
 use Rattle.rows.specs.Geometry.{rowBytes}
 use Rattle.rows.specs.Row.{brokenAt, formFault}
 use Rattle.rows.proofs.LowestFlaw.{none-broken, no-flaw}
-use Rattle.checker.specs.declared.Answer.{Answer}
-use Rattle.checker.specs.Answer.{accepted, passes, refuses, passOf}
+use Rattle.passes.specs.declared.Answer.{Answer}
+use Rattle.passes.specs.Answer.{accepted, passes, refuses, passOf}
 use Rattle.checker.specs.Routine.{Routine, count}
-use Rattle.checker.specs.Passes.{unlessFault, shapeOk, rowPass, readPass, flowPass, entryPass, wordPass, answerOf}
+use Rattle.passes.specs.Passes.{unlessFault, shapeOk, rowPass, readPass, flowPass, entryPass}
+use Rattle.checker.specs.Passes.{wordPass, answerOf}
 use Rattle.claims.proofs.Agreeing.{Agree, same-form}
 
 -- a search finds none below its bound if none there passes

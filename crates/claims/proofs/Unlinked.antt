@@ -32,8 +32,9 @@ use Rattle.rules.specs.Result.{offsetsGive, addressSum, addressDifference, aluR
 use Rattle.rules.specs.Reach.{inField, inRegion, reachOf}
 use Rattle.rules.specs.Change.{noteAfter, codesNote, aluChange, accessChange, branchChange, returnChange}
 use Rattle.rules.specs.Narrow.{narrowEntry, narrowRow}
-use Rattle.checker.specs.Answer.{accepted, passOf}
-use Rattle.checker.specs.Passes.{shapeOk, rowPass, readPass, flowPass, entryPass, cross, narrowedEdge, wordPass, answerOf, checkOf}
+use Rattle.passes.specs.Answer.{accepted, passOf}
+use Rattle.passes.specs.Passes.{shapeOk, rowPass, readPass, flowPass, entryPass}
+use Rattle.checker.specs.Passes.{cross, narrowedEdge, wordPass, answerOf, checkOf}
 use Rattle.guarantee.specs.Fields.{Declared}
 use Rattle.guarantee.specs.Guarantee.{hostOf, heldOf, Start}
 use Rattle.claims.specs.Unlink.{policy, words, digits, entry, rows, bases, returns, registers, memory}

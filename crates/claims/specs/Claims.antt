@@ -20,7 +20,7 @@ use Rattle.rows.specs.Entry.{isReturn, fits}
 use Rattle.rows.specs.declared.Flaw.the-variants.{None}
 use Rattle.rows.specs.Geometry.{rowBytes, entryBytes}
 use Rattle.rows.specs.Row.{entryAt, entryOf, entryFormed, rowOf, formFault}
-use Rattle.checker.specs.Answer.{accepted, refuse}
+use Rattle.passes.specs.Answer.{accepted, refuse}
 use Rattle.checker.specs.Passes.{checkOf, resultRegister}
 use Rattle.guarantee.specs.Guarantee.{Start}
 use Rattle.claims.specs.Unlink as Unlink

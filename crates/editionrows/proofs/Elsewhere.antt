@@ -25,8 +25,9 @@ use Rattle.rows.specs.Row.{entryAt, entriesWith, entryOf, noteOf, rowOf, formed
 use Rattle.rows.specs.Matches.{Host, RowMatches}
 use Rattle.rules.specs.Change.{noteAfter, branchChange, returnChange}
 use Rattle.rules.specs.Narrow.{narrowRow}
-use Rattle.checker.specs.Answer.{accepted, passOf}
-use Rattle.checker.specs.Passes.{shapeOk, rowPass, readPass, flowPass, entryPass, cross, narrowedEdge, wordPass, answerOf, checkOf}
+use Rattle.passes.specs.Answer.{accepted, passOf}
+use Rattle.passes.specs.Passes.{shapeOk, rowPass, readPass, flowPass, entryPass}
+use Rattle.checker.specs.Passes.{cross, narrowedEdge, wordPass, answerOf, checkOf}
 use Rattle.guarantee.specs.Guarantee.{hostOf, heldOf, Start}
 use Rattle.claims.proofs.Matching.{below, registers-match, fields-hold}
 use Rattle.editionrows.specs.Elsewhere.{GuaranteedElsewhere, words, policy, entry, rows, result, returns, registers, Elsewhere}

@@ -14,7 +14,7 @@ use Rattle.step.specs.declared.Registers.{Registers}
 use Rattle.machine.specs.declared.End.the-variants.{Returned, Fault}
 use Rattle.machine.specs.Run.{Run, settingOf, startState, runOf, traceFrom}
 use Rattle.rows.specs.Row.{entryOf}
-use Rattle.checker.specs.Answer.{accepted}
+use Rattle.passes.specs.Answer.{accepted}
 use Rattle.checker.specs.Passes.{checkOf}
 use Rattle.guarantee.specs.Guarantee.{hostOf, Start, Guaranteed}
 use Rattle.trials.specs.Entries.{unset, bytesOf, bytesOfEntry, bytesOfRows}

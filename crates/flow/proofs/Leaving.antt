@@ -1,15 +1,13 @@
 -- Where each word leaves the caller's registers alone, so does what stands at any index: inside the code by that, outside it nothing is read.
-use Prim.Native.Nat.{ℕ}
-use mathlib.Core.Path.{_≡_, refl, ap, _∙_}
+use mathlib.Core.Path.{_≡_, refl, ap}
 use mathlib.Core.Bool.{Bool, true, false}
-use mathlib.Core.List.{List}
 use lib.Dec.{ltb}
 use lib.ListN.{length}
 use borrow.Author.Tests.{ltb-true, ltb-false, not-true}
 use Rattle.v8.specs.declared.Reading.{Reading}
 use Rattle.flow.specs.Readings.{readingAt}
 use Rattle.flow.specs.Written.{writtenBy, isCallers}
-use Rattle.flow.specs.Laws.{Leaving, LeavesEverywhere}
+use Rattle.flow.specs.Laws.{LeavesEverywhere}
 use Rattle.flow.proofs.Fetched.{outside}
 
 pub leaves-everywhere : LeavesEverywhere

@@ -8,8 +8,8 @@ use Rattle.policy.specs.declared.Policy.{Policy}
 use Rattle.step.specs.declared.Registers.{Registers}
 use Rattle.machine.specs.Run.{Run, settingOf, startState, runOf, traceFrom, refused}
 use Rattle.rows.specs.Row.{entryOf}
-use Rattle.checker.specs.declared.Answer.{Answer}
-use Rattle.checker.specs.Answer.{accepted}
+use Rattle.passes.specs.declared.Answer.{Answer}
+use Rattle.passes.specs.Answer.{accepted}
 use Rattle.checker.specs.Passes.{checkOf}
 use Rattle.guarantee.specs.Guarantee.{hostOf, Guaranteed}
 use Rattle.guarantee.specs.Checked.{Checked, checkedWith, checkedRunOf, HoldsTo}

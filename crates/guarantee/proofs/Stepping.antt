@@ -54,9 +54,10 @@ use Rattle.rules.specs.Narrow.{RowLeft, left, nothing, narrowRow}
 use Rattle.rules.specs.Laws.{Laid, LeftMatches}
 use Rattle.rows.proofs.ByKind.{held-return}
 use Rattle.rules.proofs.Narrowed.{narrows-row}
-use Rattle.checker.specs.Answer.{passes}
-use Rattle.checker.specs.Routine.{Routine, count, rowAt, resultEntry}
-use Rattle.checker.specs.Passes.{ifRead, readPass, arrive, changeBy, applied, cross, edges, resultRegister}
+use Rattle.passes.specs.Answer.{passes}
+use Rattle.passes.specs.Passes.{rowAt, ifRead, readPass}
+use Rattle.checker.specs.Routine.{Routine, count, resultEntry}
+use Rattle.checker.specs.Passes.{arrive, changeBy, applied, cross, edges, resultRegister}
 use Rattle.checker.specs.Laws.{Checked, After}
 use Rattle.checker.proofs.Looked.{word-makes, edges-looked, slot-applied, slot-skipped, arrives}
 use Rattle.guarantee.specs.Safe.{OperationSafe, ReadingSafe}

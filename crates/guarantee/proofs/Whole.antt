@@ -30,8 +30,9 @@ use Rattle.rows.proofs.RowFitting.{row-fits}
 use Rattle.rows.proofs.Obeying.{entry-obeys, row-obeys}
 use Rattle.rules.specs.Laws.{Laid}
 use Rattle.memory.specs.Memory.{byteAt}
-use Rattle.checker.specs.Answer.{accepted}
-use Rattle.checker.specs.Routine.{Routine, routineOf, rowAt, entryRow}
+use Rattle.passes.specs.Answer.{accepted}
+use Rattle.passes.specs.Passes.{rowAt, entryRow}
+use Rattle.checker.specs.Routine.{Routine, routineOf}
 use Rattle.checker.specs.Passes.{checkOf}
 use Rattle.checker.specs.Laws.{Checked}
 use Rattle.checker.proofs.Accepted.{accepts}

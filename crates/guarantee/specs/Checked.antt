@@ -9,8 +9,8 @@ use Rattle.step.specs.declared.Registers.{Registers}
 use Rattle.machine.specs.Run.{Run, settingOf, startState, runOf, traceFrom, refused}
 use Rattle.machine.specs.Ended.{leftBy}
 use Rattle.rows.specs.Row.{entryOf}
-use Rattle.checker.specs.declared.Answer.{Answer}
-use Rattle.checker.specs.Answer.{accepted, passes}
+use Rattle.passes.specs.declared.Answer.{Answer}
+use Rattle.passes.specs.Answer.{accepted, passes}
 use Rattle.checker.specs.Passes.{checkOf}
 use Rattle.guarantee.specs.declared.CheckedRun.{CheckedRun}
 use Rattle.guarantee.specs.Guarantee.{hostOf, Start, Guaranteed}

@@ -24,7 +24,7 @@ use Rattle.machine.specs.Run.{Run, settingOf, startState, runOf, traceFrom}
 use Rattle.rows.specs.declared.Entry.{Entry}
 use Rattle.rows.specs.Row.{entryOf, rowOf}
 use Rattle.rows.specs.Matches.{Host, Matches, Held, RowMatches}
-use Rattle.checker.specs.Answer.{accepted}
+use Rattle.passes.specs.Answer.{accepted}
 use Rattle.checker.specs.Passes.{checkOf, resultRegister}
 use Rattle.guarantee.specs.Fields.{Declared, Framed}
 use Rattle.guarantee.specs.Safe.{ReadingSafe}

@@ -2,11 +2,11 @@
 // runs. (Document 01, "Demand 3, the running guarantee".)
 ghost use mathlib.Core.Path.{_≡_};
 ghost use Rattle.guarantee.specs.Checked.{checkedLeft, checkedRunOf, HoldsTo};
-use checker::Answer;
 use checker::check;
 use machine::End;
 use machine::Outcome;
 use machine::run;
+use passes::Answer;
 use policy::Policy;
 use step::Registers;
 use v8::Edition;

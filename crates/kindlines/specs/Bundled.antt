@@ -10,7 +10,7 @@ use Rattle.v8.specs.Numbers.{acceptance, badBundle}
 use Rattle.policy.specs.declared.Policy.{Policy}
 use Rattle.policy.specs.declared.Built.{Built}
 use Rattle.rows.specs.Geometry.{rowBytes}
-use Rattle.checker.specs.Answer.{refuse}
+use Rattle.passes.specs.Answer.{refuse}
 use Rattle.lister.specs.Listing.{Listed, listed}
 use Rattle.bundle.specs.Layout.{wordCount, entryPlace, wordsPlace, bundleOk}
 use Rattle.bundle.specs.Bundle.{wordsFrom, part, builtOf}

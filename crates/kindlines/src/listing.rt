@@ -2,9 +2,9 @@
 ghost use mathlib.Core.Path.{_≡_};
 ghost use Rattle.kindlines.specs.Bundled.{bundleListed};
 use bundle::open;
-use checker::Answer;
-use checker::answers::refuse;
 use lister::list_kinds;
+use passes::Answer;
+use passes::answers::refuse;
 use v8::Edition;
 use v8::WordIndex;
 use v8::numbers::ACCEPTED;

@@ -12,8 +12,8 @@ use Rattle.sets.specs.Sets.{setOk}
 use Rattle.rows.specs.Entry.{sizeIn, entryOk, noteOk}
 use Rattle.rows.specs.Row.{entryOf, noteOf, formedAt, formFault}
 use Rattle.rows.specs.Flaw.{flawFrom}
-use Rattle.checker.specs.Answer.{passOf}
-use Rattle.checker.specs.Passes.{readPass, flowPass}
+use Rattle.passes.specs.Answer.{passOf}
+use Rattle.passes.specs.Passes.{readPass, flowPass}
 use Rattle.marks.specs.Marks.{meet, markOf, marksWith}
 use Rattle.marks.specs.Effect.{ofNumbers, sumMark, differenceMark, orMark}
 use Rattle.lister.specs.Table.{marksAt, reached, raisedAt}

@@ -9,7 +9,7 @@ use Rattle.v8.specs.declared.Edition.{Edition}
 use Rattle.v8.specs.Table.{every}
 use Rattle.v8.specs.Read.{readingOf}
 use Rattle.policy.specs.declared.Policy.{Policy}
-use Rattle.checker.specs.Answer.{passes}
+use Rattle.passes.specs.Answer.{passes}
 use Rattle.marks.specs.Marks.{meet, registerCount}
 use Rattle.marks.specs.Effect.{marksAfterWord}
 use Rattle.lister.specs.Listing.{Listed, listed}

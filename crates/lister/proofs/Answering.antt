@@ -15,10 +15,10 @@ use Rattle.flow.proofs.Fetched.{read-count}
 use Rattle.v8.specs.declared.Edition.{Edition}
 use Rattle.policy.specs.declared.Policy.{Policy}
 use Rattle.policy.specs.Policy.{policyOk}
-use Rattle.checker.specs.declared.Answer.{Answer}
-use Rattle.checker.specs.Answer.{accepted, refuse, passes, refuses, andThen, passOf}
-use Rattle.checker.specs.Passes.{startOk, readPass, flowPass}
-use Rattle.checker.proofs.Started.{Started, started}
+use Rattle.passes.specs.declared.Answer.{Answer}
+use Rattle.passes.specs.Answer.{accepted, refuse, passes, refuses, andThen, passOf}
+use Rattle.passes.specs.Passes.{startOk, readPass, flowPass}
+use Rattle.passes.proofs.Started.{Started, started}
 use Rattle.lister.specs.Table.{tableMarks}
 use Rattle.lister.specs.Listing.{listingOf, wholeTable, listable, listingAnswer, listed}
 

@@ -10,9 +10,9 @@ use Rattle.v8.specs.declared.Edition.{Edition}
 use Rattle.v8.specs.declared.Reading.{Reading}
 use Rattle.flow.specs.Readings.{readingsOf}
 use Rattle.policy.specs.declared.Policy.{Policy}
-use Rattle.checker.specs.declared.Answer.{Answer}
-use Rattle.checker.specs.Answer.{passes, andThen, need, passOf}
-use Rattle.checker.specs.Passes.{policyPass, startOk, readPass, flowPass}
+use Rattle.passes.specs.declared.Answer.{Answer}
+use Rattle.passes.specs.Answer.{passes, andThen, need, passOf}
+use Rattle.passes.specs.Passes.{policyPass, startOk, readPass, flowPass}
 use Rattle.marks.specs.Marks.{notReached, registerCount}
 use Rattle.lister.specs.Table.{tableMarks, raisedAt}
 use Rattle.lister.specs.Rules.{Sent, nowhere, arriving, entrySent, sentBy, closed}

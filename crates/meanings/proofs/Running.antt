@@ -28,9 +28,9 @@ use Rattle.rows.specs.Row.{entryOf, rowOf}
 use Rattle.rows.specs.Matches.{Host, Matches, RowMatches}
 use Rattle.rows.proofs.ReadRows.{entry-read}
 use Rattle.rows.proofs.ByKind.{held-start, held-return}
-use Rattle.checker.specs.Answer.{passes, passOf}
-use Rattle.checker.specs.Passes.{flowPass}
-use Rattle.checker.proofs.Accepted.{each-passes, flow-holds}
+use Rattle.passes.specs.Answer.{passes, passOf}
+use Rattle.passes.specs.Passes.{flowPass}
+use Rattle.passes.proofs.Accepting.{each-passes, flow-holds}
 use Rattle.guarantee.specs.Guarantee.{hostOf, heldOf, Words, Each}
 use Rattle.guarantee.proofs.Whole.{zero-words, zero-matches}
 use Rattle.marks.specs.Marks.{registerCount, markOfKind, markOf}

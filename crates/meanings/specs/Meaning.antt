@@ -16,8 +16,8 @@ use Rattle.machine.specs.Run.{settingOf, startState, traceFrom, going, walkFrom
 use Rattle.rows.specs.Geometry.{entryStart}
 use Rattle.rows.specs.Row.{entryOf, rowOf}
 use Rattle.rows.specs.Matches.{Host, baseOf, RowMatches}
-use Rattle.checker.specs.Answer.{passes, passOf}
-use Rattle.checker.specs.Passes.{flowPass}
+use Rattle.passes.specs.Answer.{passes, passOf}
+use Rattle.passes.specs.Passes.{flowPass}
 use Rattle.guarantee.specs.Guarantee.{hostOf, heldOf, Words, Each}
 use Rattle.marks.specs.Marks.{notReached, addressOrNull, returnAddress, unset, registerCount}
 use Rattle.lister.specs.Table.{placeOf, markAt}

@@ -10,7 +10,7 @@ use Rattle.policy.specs.declared.Policy.{Policy}
 use Rattle.rows.specs.Geometry.{rowBytes}
 use Rattle.rows.specs.Flaw.{flawless}
 use Rattle.rows.specs.Row.{formFault}
-use Rattle.checker.specs.Passes.{startOk, shapeOk}
+use Rattle.passes.specs.Passes.{startOk, shapeOk}
 
 pub record Started (regions : ℕ) (sizes : List ℕ) (n : ℕ) (entry : List ℕ) : Type 0 where
   pub some : 1 ≤ n

@@ -5,7 +5,7 @@ use mathlib.Core.Bool.{Bool, cond, not}
 use lib.Dec.{ltb, eqb}
 use Rattle.v8.specs.Numbers.{acceptance}
 use Rattle.v8.specs.Search.{first}
-use Rattle.checker.specs.declared.Answer.{Answer}
+use Rattle.passes.specs.declared.Answer.{Answer}
 
 -- "acceptance is 0 0 0"
 abbrev pub accepted : Answer

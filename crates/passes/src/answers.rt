@@ -1,7 +1,7 @@
 // Answers (specs/Answer.antt).
 ghost use mathlib.Core.Path.{_≡_};
-ghost use Rattle.checker.specs.Answer.{accepted, refuse, need};
-ghost use Rattle.checker.specs.Passes.{unlessFault};
+ghost use Rattle.passes.specs.Answer.{accepted, refuse, need};
+ghost use Rattle.passes.specs.Passes.{unlessFault};
 use crate::Answer;
 use rows::Flaw;
 use v8::WordIndex;

@@ -1,5 +1,5 @@
 -- The line that answers a bundle (document 01, "Bundle": "prints number, word, register in decimal, one space between, newline").
-use Rattle.checker.specs.declared.Answer.{Answer}
+use Rattle.passes.specs.declared.Answer.{Answer}
 use Rattle.output.specs.declared.line.Line.{Line}
 use Rattle.output.specs.Line.{LineOf}
 

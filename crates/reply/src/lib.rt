@@ -3,11 +3,11 @@
 ghost use Rattle.bundle.specs.Bundle.{bundleAnswer};
 ghost use Rattle.reply.specs.Reply.{LineFor};
 use bundle::answer;
-use checker::Answer;
 use libc::STDIN_FILENO;
 use output::Line;
 use output::line_of;
 use output::print_line;
+use passes::Answer;
 use v8::Edition;
 
 // One byte more than a bundle has at most, so that a longer input is seen to be longer.

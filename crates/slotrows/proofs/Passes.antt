@@ -1,9 +1,10 @@
 -- Where the other passes accept, the check answers as the flow pass and the pass over the words do.
 use mathlib.Core.Path.{_≡_, ap, _∙_}
-use Rattle.checker.specs.declared.Answer.{Answer}
-use Rattle.checker.specs.Answer.{accepted, andThen, passOf}
+use Rattle.passes.specs.declared.Answer.{Answer}
+use Rattle.passes.specs.Answer.{accepted, andThen, passOf}
 use Rattle.checker.specs.Routine.{Routine, count}
-use Rattle.checker.specs.Passes.{policyPass, shapePass, rowPass, readPass, flowPass, entryPass, wordPass, answerOf}
+use Rattle.passes.specs.Passes.{policyPass, shapePass, rowPass, readPass, flowPass, entryPass}
+use Rattle.checker.specs.Passes.{wordPass, answerOf}
 use Rattle.slotrows.specs.Case.{twoPasses, OthersAccept}
 
 -- a pass that accepts is passed by

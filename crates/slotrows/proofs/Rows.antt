@@ -25,8 +25,9 @@ use Rattle.rules.specs.Result.{offsetsGive, addressSum, aluResult}
 use Rattle.rules.specs.Reach.{inField, inRegion, reachOf}
 use Rattle.rules.specs.Change.{noteAfter, codesNote, aluChange, accessChange, branchChange, returnChange}
 use Rattle.rules.specs.Narrow.{narrowEntry, narrowRow}
-use Rattle.checker.specs.Answer.{passOf}
-use Rattle.checker.specs.Passes.{shapeOk, rowPass, readPass, flowPass, entryPass, cross, narrowedEdge, wordPass, answerOf, checkOf}
+use Rattle.passes.specs.Answer.{passOf}
+use Rattle.passes.specs.Passes.{shapeOk, rowPass, readPass, flowPass, entryPass}
+use Rattle.checker.specs.Passes.{cross, narrowedEdge, wordPass, answerOf, checkOf}
 use Rattle.marks.specs.Marks as Marks·
 use Rattle.marks.specs.Effect.{ofNumbers, orMark}
 use Rattle.lister.specs.Table.{marksAt, reached, raisedAt}

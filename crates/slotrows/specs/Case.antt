@@ -6,10 +6,11 @@ use mathlib.Core.List.{List}
 use Rattle.v8.specs.declared.Edition.{Edition}
 use Rattle.rows.specs.declared.Entry.{Entry}
 use Rattle.rows.specs.declared.Row as Rows·
-use Rattle.checker.specs.declared.Answer.{Answer}
-use Rattle.checker.specs.Answer.{accepted, andThen, passOf}
+use Rattle.passes.specs.declared.Answer.{Answer}
+use Rattle.passes.specs.Answer.{accepted, andThen, passOf}
 use Rattle.checker.specs.Routine.{Routine, routineOf, count}
-use Rattle.checker.specs.Passes.{policyPass, shapePass, rowPass, readPass, flowPass, entryPass, wordPass}
+use Rattle.passes.specs.Passes.{policyPass, shapePass, rowPass, readPass, flowPass, entryPass}
+use Rattle.checker.specs.Passes.{wordPass}
 use Rattle.trials.specs.Case.{Outcome, answers}
 use Rattle.trials.specs.Entries.{bytesOf, bytesOfEntry, bytesOfRows}
 use Rattle.trials.specs.CheckRows.{oneWord, called}

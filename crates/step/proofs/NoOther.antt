@@ -1,6 +1,6 @@
 -- A step changes no register but the one that its word writes: an operation writes that one, or memory alone; a transfer writes none.
 use Prim.Native.Nat.{ℕ, _%_}
-use mathlib.Core.Path.{_≡_, refl}
+use mathlib.Core.Path.{refl}
 use mathlib.Core.Bool.{Bool, true, false, not, _&&_}
 use lib.Dec.{eqb}
 use Rattle.v8.proofs.Choice.{cond-both}
@@ -32,7 +32,7 @@ use Rattle.step.specs.declared.Aim.the-variants.{Address, Missed}
 use Rattle.step.specs.Registers.{valueIn, setIn, valuesWith, marksWith, valueOf, isSet, operandSet, written}
 use Rattle.step.specs.Control.{inSlot, dueAt}
 use Rattle.step.specs.Effect.{Core, Effect, fault, done, movedSet, aimOf, touching, accessAt, accessAimed, effectOf}
-use Rattle.step.specs.Step.{State, advance, depart, follow, plainStep, execute, stepWith, stepOf}
+use Rattle.step.specs.Step.{State, advance, follow, plainStep, execute, stepWith, stepOf}
 use Rattle.step.specs.Laws.{OthersUnchanged, Leaves, WritesNoOther}
 use Rattle.step.proofs.Writing.{write-others}
 

@@ -1,7 +1,7 @@
 -- `reply` meets its contract: the line is that of the bundle's answer.
 use mathlib.Core.Path.{_≡_}
 use borrow.Author.Needs.{needs}
-use Rattle.checker.specs.declared.Answer.{Answer}
+use Rattle.passes.specs.declared.Answer.{Answer}
 use Rattle.output.specs.declared.line.Line.{Line}
 use Rattle.reply.specs.Reply.{LineFor}
 use Rattle.reply.proofs.reply.Statement.{statement}

@@ -10,10 +10,12 @@ use borrow.Author.Tests.{not-true, not-false, eq-eqb}
 use Rattle.v8.specs.declared.Reading.{Reading}
 use Rattle.policy.specs.Policy.{policyOk}
 use Rattle.flow.specs.Lent.{codeOf}
-use Rattle.checker.specs.Answer.{passes}
-use Rattle.checker.specs.Passes.{readPass, flowPass, wordPass}
+use Rattle.passes.specs.Answer.{passes}
+use Rattle.passes.specs.Passes.{readPass, flowPass}
+use Rattle.checker.specs.Passes.{wordPass}
 use Rattle.checker.proofs.Parts.{Given, whole, over, over-read}
-use Rattle.checker.proofs.Stages.{goes, stops, Shaped, shapes, shaped, answer, bad-policy, bad-shape, from-rows, fromRows, fromReads, fromFlow, fromEntry, fromWords}
+use Rattle.passes.proofs.Accepting.{goes, stops}
+use Rattle.checker.proofs.Stages.{Shaped, shapes, shaped, answer, bad-policy, bad-shape, from-rows, fromRows, fromReads, fromFlow, fromEntry, fromWords}
 use Rattle.checker.proofs.checking.check.Statement.{statement}
 use Rattle.checker.proofs.checking.check.Tie as tie
 

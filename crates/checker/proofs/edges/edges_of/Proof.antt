@@ -6,12 +6,12 @@ use denote.Ref.{now}
 use Rattle.v8.proofs.Choice.{and-went}
 use Rattle.flow.specs.declared.Edge.{Edge}
 use Rattle.flow.specs.Edge.{edgeOf}
-use Rattle.checker.specs.declared.Answer.{Answer}
-use Rattle.checker.specs.Answer.{accepted, andThen}
+use Rattle.passes.specs.declared.Answer.{Answer}
+use Rattle.passes.specs.Answer.{accepted, andThen}
 use Rattle.checker.specs.Passes.{narrowedEdge}
 use Rattle.checker.specs.Lent.{EndIn}
 use Rattle.checker.proofs.Looked.{straight}
-use Rattle.checker.proofs.Stages.{goes, stops}
+use Rattle.passes.proofs.Accepting.{goes, stops}
 use mathlib.Core.Bool.{Bool, true, false, cond, not}
 use borrow.Author.Tests.{not-true, not-false}
 use borrow.Author.Needs.{needs}
@@ -19,7 +19,7 @@ use Rattle.checker.proofs.edges.edges_of.Statement.{statement}
 use Rattle.checker.proofs.edges.edges_of.Tie as tie
 use Rattle.checker.proofs.edges.edges_of.Reads as reads
 use Rattle.checker.proofs.edges.edges_of.Lts as lts
-use Rattle.checker.proofs.answers.accept.Reads as accept-reads
+use Rattle.passes.proofs.answers.accept.Reads as accept-reads
 use Rattle.checker.proofs.arrival.arrive.Reads as arrive-reads
 use Rattle.checker.proofs.edges.narrowed_edge.Reads as narrowed-edge-reads
 use Rattle.flow.proofs.edges.edge_of.Reads as edge-of-reads

@@ -5,7 +5,7 @@ use denote.Ref.{now}
 use Rattle.v8.specs.declared.Reading.the-variants.{Read}
 use Rattle.rows.specs.declared.Row.{Row}
 use Rattle.rules.specs.Change.{changeOf}
-use Rattle.checker.specs.declared.Answer.{Answer}
+use Rattle.passes.specs.declared.Answer.{Answer}
 use Rattle.checker.specs.Passes.{made, edges}
 use borrow.Author.Needs.{needs}
 use Rattle.checker.proofs.looking.look_at.Statement.{statement}

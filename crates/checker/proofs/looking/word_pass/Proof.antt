@@ -12,9 +12,11 @@ use Rattle.flow.specs.Readings.{readingAt}
 use Rattle.flow.specs.Lent.{codeOf}
 use Rattle.flow.proofs.Fetched.{array-has, past-array, code-count}
 use Rattle.rows.specs.Geometry.{rowBytes}
-use Rattle.checker.specs.Answer.{passes, passOf}
-use Rattle.checker.specs.Passes.{flowPass, wordPass}
-use Rattle.checker.proofs.Passing.{passFrom, pass-start, pass-here, pass-next, pass-end, word-here, rows-here}
+use Rattle.passes.specs.Answer.{passes, passOf}
+use Rattle.passes.specs.Passes.{flowPass}
+use Rattle.checker.specs.Passes.{wordPass}
+use Rattle.passes.proofs.Passing.{passFrom, pass-start, pass-here, pass-next, pass-end}
+use Rattle.checker.proofs.Passing.{word-here, rows-here}
 use Rattle.checker.proofs.looking.word_pass.Statement.{statement}
 use Rattle.checker.proofs.looking.word_pass.Tie as tie
 

@@ -13,10 +13,10 @@ use Rattle.v8.specs.declared.Reading.{Reading}
 use Rattle.flow.specs.Readings.{readingsOf}
 use Rattle.flow.specs.Lent.{codeOf}
 use Rattle.flow.proofs.Fetched.{read-count, code-count}
-use Rattle.checker.specs.declared.Answer.{Answer}
-use Rattle.checker.specs.Answer.{passOf}
-use Rattle.checker.specs.Passes.{readPass, flowPass}
-use Rattle.checker.proofs.Stages.{goes, stops}
+use Rattle.passes.specs.declared.Answer.{Answer}
+use Rattle.passes.specs.Answer.{passOf}
+use Rattle.passes.specs.Passes.{readPass, flowPass}
+use Rattle.passes.proofs.Accepting.{goes, stops}
 use Rattle.lister.proofs.Closing.{listing-whole}
 use Rattle.lister.proofs.Answering.{pass-accepts, answer, fits, Lengths, lengths, bad-policy, bad-shape, fromFlow, fromReads, from-reads, refused, lists}
 use Rattle.lister.proofs.listing.list_kinds.Statement.{statement}

@@ -1,7 +1,7 @@
 -- By the condition.
 use borrow.Author.Needs.{needs}
-use Rattle.checker.proofs.answers.need.Statement.{statement}
-use Rattle.checker.proofs.answers.need.Tie as tie
+use Rattle.passes.proofs.answers.need.Statement.{statement}
+use Rattle.passes.proofs.answers.need.Tie as tie
 
 accept-requires : tie.Need-accept-requires
 accept-requires c κs = search needs

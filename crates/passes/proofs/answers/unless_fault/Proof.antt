@@ -1,7 +1,7 @@
 -- By whether a place has a flaw.
 use borrow.Author.Needs.{needs}
-use Rattle.checker.proofs.answers.unless_fault.Statement.{statement}
-use Rattle.checker.proofs.answers.unless_fault.Tie as tie
+use Rattle.passes.proofs.answers.unless_fault.Statement.{statement}
+use Rattle.passes.proofs.answers.unless_fault.Tie as tie
 
 enum-told : tie.Need-enum-told
 enum-told c = search needs

@@ -6,11 +6,11 @@ use lib.ListN.{length}
 use denote.Ref.{now}
 use borrow.Author.Tests.{eq-eqb, ne-eqb, not-true, not-false}
 use Rattle.rows.specs.Geometry.{entryBytes}
-use Rattle.checker.specs.Passes.{startOk, shapeOk}
-use Rattle.checker.proofs.Started.{started, first-fails}
+use Rattle.passes.specs.Passes.{startOk, shapeOk}
+use Rattle.passes.proofs.Started.{started, first-fails}
 use borrow.Author.Needs.{needs}
-use Rattle.checker.proofs.checking.shape_ok.Statement.{statement}
-use Rattle.checker.proofs.checking.shape_ok.Tie as tie
+use Rattle.passes.proofs.shape.shape_ok.Statement.{statement}
+use Rattle.passes.proofs.shape.shape_ok.Tie as tie
 
 -- the last of four tests decides
 last-decides : (a b c d : Bool) → a ≡ true → b ≡ true → c ≡ true → d ≡ a && b && c && d

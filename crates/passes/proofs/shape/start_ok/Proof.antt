@@ -4,8 +4,8 @@ use borrow.Author.Tests.{le-leb, lt-leb, eq-eqb, ne-eqb}
 use Rattle.v8.specs.Numbers.{mostWords}
 use Rattle.rows.specs.Geometry.{rowBytes}
 use borrow.Author.Needs.{needs}
-use Rattle.checker.proofs.checking.start_ok.Statement.{statement}
-use Rattle.checker.proofs.checking.start_ok.Tie as tie
+use Rattle.passes.proofs.shape.start_ok.Statement.{statement}
+use Rattle.passes.proofs.shape.start_ok.Tie as tie
 
 returns : tie.Need-returns
 returns c = rw (lt-leb 1 _ (c .if1 .taken))

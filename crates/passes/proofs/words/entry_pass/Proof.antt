@@ -1,8 +1,8 @@
 -- The lowest misfit of the entry row and row 0.
 use borrow.Author.Needs.{needs}
-use Rattle.checker.specs.Passes.{entryPass}
-use Rattle.checker.proofs.passes.entry_pass.Statement.{statement}
-use Rattle.checker.proofs.passes.entry_pass.Tie as tie
+use Rattle.passes.specs.Passes.{entryPass}
+use Rattle.passes.proofs.words.entry_pass.Statement.{statement}
+use Rattle.passes.proofs.words.entry_pass.Tie as tie
 
 read-row-requires : tie.Need-read-row-requires
 read-row-requires c κs = search needs

@@ -2,8 +2,8 @@
 use borrow.Author.Needs.{needs}
 use mathlib.Core.Path.{sym, _∙_}
 use borrow.Author.Tests.{not-true, not-false}
-use Rattle.checker.proofs.passes.flow_at.Statement.{statement}
-use Rattle.checker.proofs.passes.flow_at.Tie as tie
+use Rattle.passes.proofs.words.flow_at.Statement.{statement}
+use Rattle.passes.proofs.words.flow_at.Tie as tie
 
 flows-requires : tie.Need-flows-requires
 flows-requires c κs = search needs

@@ -10,11 +10,11 @@ use Rattle.flow.specs.Readings.{isSlot}
 use Rattle.flow.specs.Lent.{codeOf}
 use Rattle.flow.proofs.Fetched.{array-has, code-count}
 use Rattle.flow.proofs.Examined.{first-free}
-use Rattle.checker.specs.Answer.{passOf}
-use Rattle.checker.specs.Passes.{flowPass}
-use Rattle.checker.proofs.Passing.{passFrom, pass-start, pass-here, pass-next, pass-end, flow-here, slot-here}
-use Rattle.checker.proofs.passes.flow_pass.Statement.{statement}
-use Rattle.checker.proofs.passes.flow_pass.Tie as tie
+use Rattle.passes.specs.Answer.{passOf}
+use Rattle.passes.specs.Passes.{flowPass}
+use Rattle.passes.proofs.Passing.{passFrom, pass-start, pass-here, pass-next, pass-end, flow-here, slot-here}
+use Rattle.passes.proofs.words.flow_pass.Statement.{statement}
+use Rattle.passes.proofs.words.flow_pass.Tie as tie
 
 abbrev Inv-loop : tie.InvT-loop
 Inv-loop count marks readings in-slot₀ i₀ in-slot i =

@@ -1,7 +1,7 @@
 -- By what the word is read as.
 use borrow.Author.Needs.{needs}
-use Rattle.checker.proofs.passes.if_read.Statement.{statement}
-use Rattle.checker.proofs.passes.if_read.Tie as tie
+use Rattle.passes.proofs.words.if_read.Statement.{statement}
+use Rattle.passes.proofs.words.if_read.Tie as tie
 
 enum-told : tie.Need-enum-told
 enum-told c = search needs

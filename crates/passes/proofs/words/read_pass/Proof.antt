@@ -8,11 +8,11 @@ use Rattle.v8.specs.declared.Instruction.the-variants.{Plain}
 use Rattle.v8.specs.declared.Reading.the-variants.{Read}
 use Rattle.flow.specs.Lent.{codeOf}
 use Rattle.flow.proofs.Fetched.{array-has}
-use Rattle.checker.specs.Answer.{passOf}
-use Rattle.checker.specs.Passes.{readPass}
-use Rattle.checker.proofs.Passing.{passFrom, pass-start, pass-here, pass-next, pass-end, read-here}
-use Rattle.checker.proofs.passes.read_pass.Statement.{statement}
-use Rattle.checker.proofs.passes.read_pass.Tie as tie
+use Rattle.passes.specs.Answer.{passOf}
+use Rattle.passes.specs.Passes.{readPass}
+use Rattle.passes.proofs.Passing.{passFrom, pass-start, pass-here, pass-next, pass-end, read-here}
+use Rattle.passes.proofs.words.read_pass.Statement.{statement}
+use Rattle.passes.proofs.words.read_pass.Tie as tie
 
 abbrev Inv-loop : tie.InvT-loop
 Inv-loop count readings i₀ i =

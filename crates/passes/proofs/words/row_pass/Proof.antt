@@ -12,11 +12,11 @@ use Rattle.rows.specs.Geometry.{rowBytes, places}
 use Rattle.rows.specs.Flaw.{flawFrom}
 use Rattle.rows.specs.Row.{brokenAt, formFault}
 use Rattle.rows.proofs.LowestFlaw.{flaw-here, flaw-next, flaw-end}
-use Rattle.checker.specs.Answer.{accepted, refuse, passOf}
-use Rattle.checker.specs.Passes.{rowPass}
-use Rattle.checker.proofs.Passing.{passFrom, pass-start, pass-here, pass-next, pass-end, row-broken, row-formed}
-use Rattle.checker.proofs.passes.row_pass.Statement.{statement}
-use Rattle.checker.proofs.passes.row_pass.Tie as tie
+use Rattle.passes.specs.Answer.{accepted, refuse, passOf}
+use Rattle.passes.specs.Passes.{rowPass}
+use Rattle.passes.proofs.Passing.{passFrom, pass-start, pass-here, pass-next, pass-end, row-broken, row-formed}
+use Rattle.passes.proofs.words.row_pass.Statement.{statement}
+use Rattle.passes.proofs.words.row_pass.Tie as tie
 
 abbrev Inv-loop : tie.InvT-loop
 Inv-loop rows count policy at place₀ place =

@@ -1,0 +1,3 @@
+pub mod Started
+pub mod Accepting
+pub mod Passing

@@ -1,0 +1,46 @@
+// What 21 asks (specs/Passes.antt).
+ghost use mathlib.Core.Path.{_≡_};
+ghost use lib.ListN.{length};
+ghost use Rattle.passes.specs.Passes.{startOk, shapeOk};
+use policy::Policy;
+use rows::entry_formed;
+use rows::flawless;
+use rows::form_fault;
+use rows::geometry::ENTRY_BYTES;
+use rows::geometry::ROW_BYTES;
+use v8::numbers::MOST_WORDS;
+
+// Whether the words are as many as they may be, and the entry row is one that is well formed.
+pub fn start_ok(regions: u8, sizes: &[u16; 8], words: &[u32], entry: &[u8]) -> bool
+    ensures { λ r. ⌜ r ≡ startOk regions (now (sizes .entry)) (length (now (words .entry))) (now (entry .entry)) ⌝ }
+{
+    let count = words.len();
+    if count < 1 {
+        return false;
+    }
+    if MOST_WORDS < count {
+        return false;
+    }
+    if entry.len() != ROW_BYTES {
+        return false;
+    }
+    let flaw = form_fault(regions, sizes, entry, 0);
+    flawless(flaw)
+}
+
+// Whether words, rows, entry row and result entry are as many as they must be, and the last two
+// well formed.
+pub fn shape_ok(policy: Policy, words: &[u32], rows: &[u8], entry: &[u8], result: &[u8]) -> bool
+    ensures { λ r. ⌜ r ≡ shapeOk policy (length (now (words .entry))) (now (rows .entry)) (now (entry .entry)) (now (result .entry)) ⌝ }
+{
+    if !start_ok(policy.regions.count, &policy.regions.sizes, words, entry) {
+        return false;
+    }
+    if rows.len() != ROW_BYTES * words.len() {
+        return false;
+    }
+    if result.len() != ENTRY_BYTES {
+        return false;
+    }
+    entry_formed(policy.regions.count, &policy.regions.sizes, result, 0)
+}
