@@ -1,3 +1,4 @@
+pub mod Scratch
 pub mod Sets
 pub mod Memory
 pub mod Parts

@@ -2,6 +2,7 @@
 -- Everything above rests on these and on the definitions; their proofs are in proofs/.
 use Prim.Native.Nat.{ℕ, _+_, _%_, _≤_, _<_}
 use mathlib.Core.Path.{_≡_}
+use mathlib.Core.Bool.{true}
 use mathlib.Core.List.{List}
 use lib.ListN.{length, getD}
 use Rattle.v8.specs.Signed.{signExtend}
@@ -9,6 +10,7 @@ use Rattle.v8.specs.declared.LoadOp.{LoadOp}
 use Rattle.v8.specs.declared.LoadOp.the-variants.{Ld, Ldub, Lduh, Ldsb, Ldsh}
 use Rattle.v8.specs.declared.StoreOp.{StoreOp}
 use Rattle.memory.specs.Memory.{byteAt, Bytes, loadWidth, loadOf, storeWidth, storeOf}
+use Rattle.memory.specs.Frame.{scratchCount, scratchFirst, scratchOffset, isScratch, scratchAt, frameBytes}
 use Rattle.memory.specs.Place.{partStart}
 
 -- Place i is none of the n places from a on.
@@ -77,3 +79,16 @@ StoreKeepsParts =
     (sizes : List ℕ) (i j : ℕ) (op : StoreOp) (v offset : ℕ) (m : List ℕ) (a : ℕ)
     → offset + storeWidth op ≤ getD sizes i 0 → InPart sizes j a → (i ≡ j → ⊥)
     → byteAt (storeOf op v (partStart sizes i + offset) m) a ≡ byteAt m a
+
+-- the offset of a scratch word
+pub record ScratchRules (offset : ℕ) : Type 0 where
+  pub low : scratchFirst ≤ offset
+  pub high : offset < frameBytes
+  pub aligned : offset % 4 ≡ 0
+  -- it is that of the word that it names
+  pub word : scratchAt offset < scratchCount
+  pub here : offset ≡ scratchOffset (scratchAt offset)
+
+-- An offset that passes the test is one.
+abbrev pub ScratchOffsets : Type 0
+ScratchOffsets = (offset : ℕ) → isScratch offset ≡ true → ScratchRules offset

@@ -1,3 +1,4 @@
 pub mod Memory
+pub mod Frame
 pub mod Place
 pub mod Laws

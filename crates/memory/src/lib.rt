@@ -6,6 +6,8 @@
 mod reading;
 // Loads and stores in a slice of bytes.
 mod big_endian;
+// The frame and its scratch words.
+pub mod frame;
 // Where a region's part begins.
 mod place;
 // Loads and stores in a region's part, lent on.
