@@ -1,5 +1,5 @@
--- The number in an instruction that is read is a word: sign extension gives one, and a shift's count is below 32. A word that is not read has
--- its number.
+-- In an instruction that is read a register is five bits of the word, and the number is a word: sign extension gives one, and a shift's count is
+-- below 32. A word that is not read has its number.
 use Prim.Native.Nat.{ℕ, _-_, _^_, _<_}
 use mathlib.Core.Path.{refl}
 use mathlib.Core.Bool.{Bool, true, false}
@@ -32,25 +32,25 @@ operand-small : (w : ℕ) → SecondSmall (operandOf w)
 unfolding operandOf
 operand-small w =
     cond-both SecondSmall (eqb (iOf w) 1) (λ _. extended (simm13Of w) (omega arith))
-    λ _. cond-both SecondSmall (eqb (unusedOf w) 0) (λ _. tt) (λ _. tt)
+    λ _. cond-both SecondSmall (eqb (unusedOf w) 0) (λ _. omega arith) (λ _. tt)
 
 count-small : (w : ℕ) → SecondSmall (countOf w)
 unfolding countOf
 count-small w =
     cond-both SecondSmall (eqb (unusedOf w) 0)
-    (λ _. cond-both SecondSmall (eqb (iOf w) 1) (λ _. omega arith) (λ _. tt)) (λ _. tt)
+    (λ _. cond-both SecondSmall (eqb (iOf w) 1) (λ _. omega arith) (λ _. omega arith)) (λ _. tt)
 
 alu-with : (op : AluOp) (cc : Bool) (w : ℕ) (x : OperandReading) → SecondSmall x → ReadingSound (aluWith op cc w x)
-alu-with op cc w (Second x) l = l
+alu-with op cc w (Second x) l = (omega arith, omega arith, l)
 alu-with op cc w Reserved l = refl
 
 shift-with : (op : ShiftOp) (w : ℕ) (x : OperandReading) → SecondSmall x → ReadingSound (shiftWith op w x)
-shift-with op w (Second x) l = l
+shift-with op w (Second x) l = (omega arith, omega arith, l)
 shift-with op w Reserved l = refl
 
 memory-with : (a : Access) (w : ℕ) (x : OperandReading) → SecondSmall x → ReadingSound (memoryWith a w x)
-memory-with a w (Second (Reg r)) l = tt
-memory-with a w (Second (Imm v)) l = l
+memory-with a w (Second (Reg r)) l = (omega arith, omega arith, l)
+memory-with a w (Second (Imm v)) l = (omega arith, omega arith, l)
 memory-with a w Reserved l = refl
 
 refused-with : (t : Bool) → ReadingSound (refused t)
@@ -64,7 +64,7 @@ predicted-small V9 w = cond-both ReadingSound (eqb (ccOf w) 0) (λ _. tt) (λ _.
 format00-small : (e : Edition) (w : ℕ) → ReadingSound (format00 e w)
 unfolding format00
 format00-small e w =
-    cond-both ReadingSound (eqb (op2Of w) 4) (λ _. tt)
+    cond-both ReadingSound (eqb (op2Of w) 4) (λ _. omega arith)
     λ _. cond-both ReadingSound (eqb (op2Of w) 2) (λ _. tt)
     λ _. cond-both ReadingSound (eqb (op2Of w) 1) (λ _. predicted-small e w) (λ _. refl)
 

@@ -1,5 +1,5 @@
--- What follows from the reading of words, for all that rests on it: the numbers in an instruction that is read are words of 32 bits, a
--- refusal has a number, and that number tells the privileged words from all others, on both terminals; the newer one reads what the older reads.
+-- What follows from the reading of words, for all that rests on it: in an instruction that is read registers are r0 to r31 and numbers are words of
+-- 32 bits, a refusal has a number, and that number tells the privileged words from all others, on both terminals; the newer one reads what the older reads.
 -- The proofs are in proofs/.
 use Prim.Native.Nat.{ℕ, _<_}
 use mathlib.Core.Path.{_≡_}
@@ -21,21 +21,21 @@ use Rattle.v8.specs.declared.Reading.{Reading}
 use Rattle.v8.specs.declared.Reading.the-variants.{Read, Unread}
 use Rattle.v8.specs.Read.{readingOf, privileged10, privileged11}
 
--- the number in a second operand, if it has one, is a word
+-- the register in a second operand is one of 32, the number a word
 abbrev pub OperandSmall : Operand → Type 0
-OperandSmall (Reg r) = Unit {0}
+OperandSmall (Reg r) = r < 32
 OperandSmall (Imm v) = v < 4294967296
 
 abbrev pub DisplacementSmall : Displacement → Type 0
-DisplacementSmall (Index r) = Unit {0}
+DisplacementSmall (Index r) = r < 32
 DisplacementSmall (Bytes n) = n .0 < 4294967296
 
--- .. so is that in an instruction
+-- .. so are those in an instruction
 abbrev pub OperationSmall : Operation → Type 0
-OperationSmall (Sethi rd imm22) = Unit {0}
-OperationSmall (Alu op cc rd rs1 x) = OperandSmall x
-OperationSmall (Shift op rd rs1 x) = OperandSmall x
-OperationSmall (Memory a rd rs1 d) = DisplacementSmall d
+OperationSmall (Sethi rd imm22) = rd < 32
+OperationSmall (Alu op cc rd rs1 x) = (rd < 32) × (rs1 < 32) × OperandSmall x
+OperationSmall (Shift op rd rs1 x) = (rd < 32) × (rs1 < 32) × OperandSmall x
+OperationSmall (Memory a rd rs1 d) = (rd < 32) × (rs1 < 32) × DisplacementSmall d
 
 abbrev pub InstructionSmall : Instruction → Type 0
 InstructionSmall (Plain x) = OperationSmall x
