@@ -11,8 +11,8 @@ use Rattle.v8.specs.Signed.{excess}
 use Rattle.sets.specs.Sets.{Member, SetRules}
 use Rattle.sets.specs.Laws.{Offset}
 use Rattle.rows.specs.declared.Entry.{Entry}
-use Rattle.rows.specs.Kind.{Kind, unset, number, address, start, returnAddress, none, kindOf}
-use Rattle.rows.specs.Entry.{isUnset, isNumber, isAddress, isStartOrNull, isReturn}
+use Rattle.rows.specs.Kind.{Kind, unset, number, address, start, returnAddress, frameAddress, none, kindOf}
+use Rattle.rows.specs.Entry.{isUnset, isNumber, isAddress, isStartOrNull, isReturn, isFrame}
 use Rattle.rows.specs.Matches.{Host, baseOf, HoldsAs, Holds}
 use Rattle.rows.specs.Laws.{RulesAs, EntryRules, AddressRules}
 
@@ -31,6 +31,7 @@ pub record Each (P : Kind → Type 0) (k : ℕ) : Type 0 where
   pub if-address : eqb k 2 ≡ true → P address
   pub if-start : eqb k 3 ≡ true → P start
   pub if-return : eqb k 4 ≡ true → P returnAddress
+  pub if-frame : eqb k 5 ≡ true → P frameAddress
   pub if-none : P none
 
 -- what is shown of each kind holds of any number's kind
@@ -40,7 +41,8 @@ each-kind P (suc zero) f = f .if-number refl
 each-kind P (suc (suc zero)) f = f .if-address refl
 each-kind P (suc (suc (suc zero))) f = f .if-start refl
 each-kind P (suc (suc (suc (suc zero)))) f = f .if-return refl
-each-kind P (suc (suc (suc (suc (suc k))))) f = f .if-none
+each-kind P (suc (suc (suc (suc (suc zero))))) f = f .if-frame refl
+each-kind P (suc (suc (suc (suc (suc (suc k)))))) f = f .if-none
 
 module _ {h : Host} {e : Entry} {v : ℕ} where
   pub holds-number : isNumber e ≡ true → Member (e .set) (excess v) → Holds h e v
@@ -55,6 +57,9 @@ module _ {h : Host} {e : Entry} {v : ℕ} where
   pub holds-return : isReturn e ≡ true → v ≡ h .returns → Holds h e v
   holds-return k m = record { by-kind = of-kind (HoldsAs h e v) e 4 k m }
 
+  pub holds-frame : isFrame e ≡ true → v ≡ h .frame → Holds h e v
+  holds-frame k m = record { by-kind = of-kind (HoldsAs h e v) e 5 k m }
+
   pub held-number : isNumber e ≡ true → Holds h e v → Member (e .set) (excess v)
   held-number k m = as-kind (HoldsAs h e v) e 1 k (m .by-kind)
 
@@ -66,6 +71,9 @@ module _ {h : Host} {e : Entry} {v : ℕ} where
 
   pub held-return : isReturn e ≡ true → Holds h e v → v ≡ h .returns
   held-return k m = as-kind (HoldsAs h e v) e 4 k (m .by-kind)
+
+  pub held-frame : isFrame e ≡ true → Holds h e v → v ≡ h .frame
+  held-frame k m = as-kind (HoldsAs h e v) e 5 k (m .by-kind)
 
 module _ {regions : ℕ} {sizes : List ℕ} {e : Entry} where
   pub number-rules : isNumber e ≡ true → SetRules (e .set) → EntryRules regions sizes e
@@ -82,6 +90,9 @@ module _ {regions : ℕ} {sizes : List ℕ} {e : Entry} where
 
   pub return-rules : isReturn e ≡ true → EntryRules regions sizes e
   return-rules k = record { by-kind = of-kind (RulesAs regions sizes e) e 4 k tt }
+
+  pub frame-rules : isFrame e ≡ true → EntryRules regions sizes e
+  frame-rules k = record { by-kind = of-kind (RulesAs regions sizes e) e 5 k tt }
 
   pub ruled-number : isNumber e ≡ true → EntryRules regions sizes e → SetRules (e .set)
   ruled-number k m = as-kind (RulesAs regions sizes e) e 1 k (m .by-kind)

@@ -4,7 +4,7 @@ use mathlib.Core.Path.{_≡_}
 use borrow.Author.Tests.{ne-eqb}
 use lib.Dec.{eqb}
 use Rattle.sets.specs.Sets.{fitsSet}
-use Rattle.rows.specs.Entry.{isNumber, isAddress, isStartOrNull, isReturn, isZero, isRegionStart, fits}
+use Rattle.rows.specs.Entry.{isNumber, isAddress, isStartOrNull, isReturn, isFrame, isZero, isRegionStart, fits}
 use Rattle.rows.specs.declared.Entry.{Entry}
 
 module _ (a b : Entry) where
@@ -24,6 +24,6 @@ module _ (a b : Entry) where
   unfolding fits
   fits-start-or-null e = simp (e, and-true, and-false, or-false)
 
-  pub fits-other : (b .kind ≡ 0 → ⊥) → (b .kind ≡ 1 → ⊥) → (b .kind ≡ 2 → ⊥) → (b .kind ≡ 3 → ⊥) → fits a b ≡ (isReturn a && isReturn b)
+  pub fits-other : (b .kind ≡ 0 → ⊥) → (b .kind ≡ 1 → ⊥) → (b .kind ≡ 2 → ⊥) → (b .kind ≡ 3 → ⊥) → fits a b ≡ (isReturn a && isReturn b || isFrame a && isFrame b)
   unfolding fits
   fits-other n0 n1 n2 n3 = simp (ne-eqb _ _ n0, ne-eqb _ _ n1, ne-eqb _ _ n2, ne-eqb _ _ n3, and-false, or-false)

@@ -14,12 +14,12 @@ use Rattle.sets.specs.Sets.{fitsSet, Member}
 use Rattle.sets.specs.Laws.{Offset}
 use Rattle.sets.proofs.Fits.{fits-holds}
 use Rattle.rows.specs.declared.Entry.{Entry}
-use Rattle.rows.specs.Kind.{Kind, unset, number, address, start, returnAddress, none, kindOf}
-use Rattle.rows.specs.Entry.{isUnset, isNumber, isAddress, isStartOrNull, isReturn, isZero, isRegionStart, onlyZero, fits}
+use Rattle.rows.specs.Kind.{Kind, unset, number, address, start, returnAddress, frameAddress, none, kindOf}
+use Rattle.rows.specs.Entry.{isUnset, isNumber, isAddress, isStartOrNull, isReturn, isFrame, isZero, isRegionStart, onlyZero, fits}
 use Rattle.rows.specs.Matches.{Host, baseOf, HoldsAs, Holds}
 use Rattle.rows.specs.Laws.{RulesAs, FitsMatches}
 use Rattle.rows.proofs.Tests.{true-or, or-true, other-kind}
-use Rattle.rows.proofs.ByKind.{of-kind, each-kind, held-number, held-address, held-start, held-return, ruled-number, ruled-address}
+use Rattle.rows.proofs.ByKind.{of-kind, each-kind, held-number, held-address, held-start, held-return, held-frame, ruled-number, ruled-address}
 
 -- the ways in which an entry fits the start of a region or null
 pub data FitsStart (a b : Entry) : Type 0 where
@@ -35,9 +35,10 @@ module _ (a b : Entry) where
   FitsAs address = (isAddress a ≡ true) × (a .region ≡ b .region) × (fitsSet (a .set) (b .set) ≡ true)
   FitsAs start = FitsStart a b
   FitsAs returnAddress = isReturn a ≡ true
+  FitsAs frameAddress = isFrame a ≡ true
   FitsAs none = ⊥
 
-  -- the six cases of the test
+  -- the seven cases of the test
   abbrev numbersFit : Bool
   numbersFit = isNumber a && isNumber b && fitsSet (a .set) (b .set)
 
@@ -50,6 +51,9 @@ module _ (a b : Entry) where
   abbrev returnsFit : Bool
   returnsFit = isReturn a && isReturn b
 
+  abbrev framesFit : Bool
+  framesFit = isFrame a && isFrame b
+
   abbrev nullFits : Bool
   nullFits = isStartOrNull b && (isZero a || isRegionStart (b .region) a)
 
@@ -57,7 +61,8 @@ module _ (a b : Entry) where
   pub fits-as : fits a b ≡ true → FitsAs (kindOf (b .kind))
   unfolding fits
   fits-as e =
-      or-went (isUnset b || numbersFit || addressesFit || startsFit || returnsFit) nullFits e
+      or-went (isUnset b || numbersFit || addressesFit || startsFit || returnsFit || framesFit) nullFits e
+      (λ e₀. or-went (isUnset b || numbersFit || addressesFit || startsFit || returnsFit) framesFit e₀
       (λ e₁. or-went (isUnset b || numbersFit || addressesFit || startsFit) returnsFit e₁
       (λ e₂. or-went (isUnset b || numbersFit || addressesFit) startsFit e₂
       (λ e₃. or-went (isUnset b || numbersFit) addressesFit e₃
@@ -72,6 +77,7 @@ module _ (a b : Entry) where
       let q = and-went (isStartOrNull a) (isStartOrNull b) (p .0) in
       of-kind FitsAs b 3 (q .1) (same (q .0) (eqb-true (a .region) (b .region) (p .1)))))
       (λ t. let p = and-went (isReturn a) (isReturn b) t in of-kind FitsAs b 4 (p .1) (p .0)))
+      (λ t. let p = and-went (isFrame a) (isFrame b) t in of-kind FitsAs b 5 (p .1) (p .0)))
       (λ t. let p = and-went (isStartOrNull b) (isZero a || isRegionStart (b .region) a) t in
       of-kind FitsAs b 3 (p .0) (or-went (isZero a) (isRegionStart (b .region) a) (p .1) null begins))
 
@@ -83,31 +89,37 @@ module _ (a b : Entry) where
       (record {
         if-unset = λ u _. rw u;
         if-number = λ q p.
-            true-or (isUnset b || numbersFit || addressesFit || startsFit || returnsFit) nullFits
+            true-or (isUnset b || numbersFit || addressesFit || startsFit || returnsFit || framesFit) nullFits
+            (true-or (isUnset b || numbersFit || addressesFit || startsFit || returnsFit) framesFit
             (true-or (isUnset b || numbersFit || addressesFit || startsFit) returnsFit
             (true-or (isUnset b || numbersFit || addressesFit) startsFit
-            (true-or (isUnset b || numbersFit) addressesFit (or-true (isUnset b) numbersFit (rw (p .0, q, p .1))))));
+            (true-or (isUnset b || numbersFit) addressesFit (or-true (isUnset b) numbersFit (rw (p .0, q, p .1)))))));
         if-address = λ q p.
-            true-or (isUnset b || numbersFit || addressesFit || startsFit || returnsFit) nullFits
+            true-or (isUnset b || numbersFit || addressesFit || startsFit || returnsFit || framesFit) nullFits
+            (true-or (isUnset b || numbersFit || addressesFit || startsFit || returnsFit) framesFit
             (true-or (isUnset b || numbersFit || addressesFit || startsFit) returnsFit
             (true-or (isUnset b || numbersFit || addressesFit) startsFit
-            (or-true (isUnset b || numbersFit) addressesFit (rw (p .0, q, eq-eqb (a .region) (b .region) (p .1), p .2)))));
+            (or-true (isUnset b || numbersFit) addressesFit (rw (p .0, q, eq-eqb (a .region) (b .region) (p .1), p .2))))));
         if-start = λ q p. start-fits q p;
         if-return = λ q p.
-            true-or (isUnset b || numbersFit || addressesFit || startsFit || returnsFit) nullFits
-            (or-true (isUnset b || numbersFit || addressesFit || startsFit) returnsFit (rw (p, q)));
+            true-or (isUnset b || numbersFit || addressesFit || startsFit || returnsFit || framesFit) nullFits
+            (true-or (isUnset b || numbersFit || addressesFit || startsFit || returnsFit) framesFit
+            (or-true (isUnset b || numbersFit || addressesFit || startsFit) returnsFit (rw (p, q))));
+        if-frame = λ q p.
+            true-or (isUnset b || numbersFit || addressesFit || startsFit || returnsFit || framesFit) nullFits (or-true (isUnset b || numbersFit || addressesFit || startsFit || returnsFit) framesFit (rw (p, q)));
         if-none = λ p. absurd p;
       })
     where
       by-null : isStartOrNull b ≡ true → isZero a || isRegionStart (b .region) a ≡ true
-          → isUnset b || numbersFit || addressesFit || startsFit || returnsFit || nullFits ≡ true
-      by-null q z = or-true (isUnset b || numbersFit || addressesFit || startsFit || returnsFit) nullFits (rw (q, z))
+          → isUnset b || numbersFit || addressesFit || startsFit || returnsFit || framesFit || nullFits ≡ true
+      by-null q z = or-true (isUnset b || numbersFit || addressesFit || startsFit || returnsFit || framesFit) nullFits (rw (q, z))
 
-      start-fits : isStartOrNull b ≡ true → FitsStart a b → isUnset b || numbersFit || addressesFit || startsFit || returnsFit || nullFits ≡ true
+      start-fits : isStartOrNull b ≡ true → FitsStart a b → isUnset b || numbersFit || addressesFit || startsFit || returnsFit || framesFit || nullFits ≡ true
       start-fits q (same p r) =
-          true-or (isUnset b || numbersFit || addressesFit || startsFit || returnsFit) nullFits
+          true-or (isUnset b || numbersFit || addressesFit || startsFit || returnsFit || framesFit) nullFits
+          (true-or (isUnset b || numbersFit || addressesFit || startsFit || returnsFit) framesFit
           (true-or (isUnset b || numbersFit || addressesFit || startsFit) returnsFit
-          (or-true (isUnset b || numbersFit || addressesFit) startsFit (rw (p, q, eq-eqb (a .region) (b .region) r))))
+          (or-true (isUnset b || numbersFit || addressesFit) startsFit (rw (p, q, eq-eqb (a .region) (b .region) r)))))
       start-fits q (null z) = by-null q (true-or (isZero a) (isRegionStart (b .region) a) z)
       start-fits q (begins z) = by-null q (or-true (isZero a) (isRegionStart (b .region) a) z)
 
@@ -151,6 +163,7 @@ fits-matches h regions sizes a b mark v small wa wb e m u =
           (fits-holds (a .set) (b .set) (ruled-address (f .0) wa .set) (w .set) (f .2) (v - baseOf h (a .region) + bias) (o .member)));
       if-start = λ q f w. starts f;
       if-return = λ q f w. given 4 f (λ x. omega arith) (λ g. held-return f g);
+      if-frame = λ q f w. given 5 f (λ x. omega arith) (λ g. held-frame f g);
       if-none = λ f. absurd f;
     })
     (fits-as a b e) (wb .by-kind)

@@ -6,7 +6,7 @@ use mathlib.Core.Path.{_≡_}
 use borrow.Author.Tests.{ne-eqb}
 use lib.Dec.{leb, ltb, eqb}
 use Rattle.sets.specs.Sets.{setOk}
-use Rattle.rows.specs.Entry.{isUnset, isReturn, isBlank, sizeIn, entryOk}
+use Rattle.rows.specs.Entry.{isUnset, isReturn, isFrame, isBlank, sizeIn, entryOk}
 use Rattle.rows.specs.declared.Entry.{Entry}
 use Rattle.v8.specs.Signed.{bias}
 
@@ -28,6 +28,6 @@ module _ (regions : ℕ) (sizes : List ℕ) (e : Entry) where
 
   pub ok-other :
       (e .kind ≡ 1 → ⊥) → (e .kind ≡ 2 → ⊥) → (e .kind ≡ 3 → ⊥)
-      → entryOk regions sizes e ≡ ((isUnset e || isReturn e) && eqb (e .region) 0 && isBlank (e .set))
+      → entryOk regions sizes e ≡ ((isUnset e || isReturn e || isFrame e) && eqb (e .region) 0 && isBlank (e .set))
   unfolding entryOk
   ok-other n1 n2 n3 = rw (ne-eqb _ _ n1, ne-eqb _ _ n2, ne-eqb _ _ n3)

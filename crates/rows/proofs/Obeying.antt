@@ -1,4 +1,4 @@
--- What the form of entries and rows says. An entry that passes has one of the five kinds, and the rules of its kind; a row in which the
+-- What the form of entries and rows says. An entry that passes has one of the six kinds, and the rules of its kind; a row in which the
 -- search for a fault finds none has only such entries.
 use Prim.Native.Nat.{ℕ, _+_, _-_, _≤_, _<_}
 use mathlib.Core.Path.{_≡_, refl, sym, subst}
@@ -19,13 +19,13 @@ use Rattle.sets.proofs.Formed.{obeys}
 use Rattle.sets.proofs.Ends.{ended-formed, single-formed}
 use Rattle.rows.specs.declared.Entry.{Entry}
 use Rattle.rows.specs.declared.Flaw.the-variants.{None}
-use Rattle.rows.specs.Entry.{isUnset, isNumber, isAddress, isStartOrNull, isReturn, isBlank, sizeIn, entryOk, fieldEntry}
-use Rattle.rows.specs.Geometry.{entryCount, entryStart, noteName, places}
+use Rattle.rows.specs.Entry.{isUnset, isNumber, isAddress, isStartOrNull, isReturn, isFrame, isBlank, sizeIn, entryOk, fieldEntry}
+use Rattle.rows.specs.Geometry.{entryCount, entryStart, places, entryName}
 use Rattle.rows.specs.Row.{entryAt, entryOf, noteOf, rowOf, formedAt, brokenAt, formFault}
 use Rattle.rows.specs.Laws.{EntryRules, EntryObeys, RowObeys, FieldEntryObeys}
 use Rattle.rows.proofs.LowestFlaw.{none-broken}
-use Rattle.rows.proofs.Named.{not-note, named-below}
-use Rattle.rows.proofs.ByKind.{number-rules, address-rules, start-rules, unset-rules, return-rules}
+use Rattle.rows.proofs.Named.{name-place, name-not-note, name-names}
+use Rattle.rows.proofs.ByKind.{number-rules, address-rules, start-rules, unset-rules, return-rules, frame-rules}
 use Rattle.rows.proofs.ReadRows.{entry-read}
 use Rattle.rows.proofs.RowFitting.{beyond}
 
@@ -40,7 +40,7 @@ module _ (regions : ℕ) (sizes : List ℕ) (e : Entry) where
   startForm = ltb (e .region) regions && isBlank (e .set)
 
   abbrev otherForm : Bool
-  otherForm = (isUnset e || isReturn e) && eqb (e .region) 0 && isBlank (e .set)
+  otherForm = (isUnset e || isReturn e || isFrame e) && eqb (e .region) 0 && isBlank (e .set)
 
   as-number : e .set .hi < 4294967296 → isNumber e ≡ true → numberForm ≡ true → EntryRules regions sizes e
   as-number top k f = number-rules k (obeys (e .set) top (and-went (eqb (e .region) 0) (setOk (e .set)) f .1))
@@ -63,9 +63,9 @@ module _ (regions : ℕ) (sizes : List ℕ) (e : Entry) where
 
   as-other : otherForm ≡ true → EntryRules regions sizes e
   as-other f =
-      let p = and-went ((isUnset e || isReturn e) && eqb (e .region) 0) (isBlank (e .set)) f in
-      let q = and-went (isUnset e || isReturn e) (eqb (e .region) 0) (p .0) in
-      or-went (isUnset e) (isReturn e) (q .0) (unset-rules) (return-rules)
+      let p = and-went ((isUnset e || isReturn e || isFrame e) && eqb (e .region) 0) (isBlank (e .set)) f in
+      let q = and-went (isUnset e || isReturn e || isFrame e) (eqb (e .region) 0) (p .0) in
+      or-went (isUnset e || isReturn e) (isFrame e) (q .0) (λ t. or-went (isUnset e) (isReturn e) t unset-rules return-rules) frame-rules
 
 pub entry-obeys : EntryObeys
 unfolding entryOk
@@ -87,12 +87,12 @@ formed-each regions sizes bytes at e r l =
     not-false (formedAt regions sizes bytes at r)
     (none-broken (brokenAt regions sizes bytes at) e r l)
 
-pub formed-entry : (regions : ℕ) (sizes bytes : List ℕ) (at r : ℕ) → r < noteName → formedAt regions sizes bytes at r ≡ true
+pub formed-entry : (regions : ℕ) (sizes bytes : List ℕ) (at r : ℕ) → formedAt regions sizes bytes at (entryName r) ≡ true
     → entryOk regions sizes (entryOf bytes (entryStart at r)) ≡ true
 unfolding formedAt
-formed-entry regions sizes bytes at r l e =
-    needed (formedAt regions sizes bytes at r) (entryOk regions sizes (entryOf bytes (entryStart at r))) e
-    (λ f. rw (not-note r l, named-below r l, f, and-false))
+formed-entry regions sizes bytes at r e =
+    needed (formedAt regions sizes bytes at (entryName r)) (entryOk regions sizes (entryOf bytes (entryStart at r))) e
+    (λ f. rw (name-not-note r, name-names r, f, and-false))
 
 -- a number read from bytes is one of 32 bits
 read-top : (bytes : List ℕ) (at : ℕ) → entryOf bytes at .set .hi < 4294967296
@@ -110,7 +110,7 @@ row-obeys regions sizes bytes at e = record { entries = λ r. by r (ltb r entryC
     by r true t =
         subst (EntryRules regions sizes) (sym (entry-read bytes at r (ltb-true r entryCount t)))
         (entry-obeys regions sizes (entryOf bytes (entryStart at r)) (read-top bytes (entryStart at r))
-        (formed-entry regions sizes bytes at r (ltb-true r entryCount t) (formed-each regions sizes bytes at e r (omega (arith, ltb-true r entryCount t)))))
+        (formed-entry regions sizes bytes at r (formed-each regions sizes bytes at e (entryName r) (name-place r (ltb-true r entryCount t)))))
     by r false t =
         subst (EntryRules regions sizes) (sym (beyond (rowOf bytes at) r (ltb-false r entryCount t))) (unset-rules refl)
 

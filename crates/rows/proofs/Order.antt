@@ -26,6 +26,7 @@ fits-self regions sizes e w =
       if-address = λ k r. (k, refl, same-set (r .set));
       if-start = λ k _. same k refl;
       if-return = λ k _. k;
+      if-frame = λ k _. k;
       if-none = λ x. absurd x;
     })
     (w .by-kind))
@@ -53,6 +54,7 @@ fits-on regions sizes a b c wa wb wc e f =
           (x .0, x .1 ∙ g .1, through (ruled-address (x .0) wa .set) (ruled-address (g .0) wb .set) (w .set) (x .2) (g .2));
       if-start = λ _ g _. starts g;
       if-return = λ _ g _. from 4 g;
+      if-frame = λ _ g _. from 5 g;
       if-none = λ g. absurd g;
     })
     (fits-as b c f) (wc .by-kind))

@@ -1,20 +1,15 @@
 -- What is fitted at each place of a row against the row in the bytes.
-use Prim.Native.Nat.{ℕ, _+_, _≤_, _<_}
-use mathlib.Core.Bool.{true, false, not}
+use Prim.Native.Nat.{ℕ, _<_}
+use mathlib.Core.Bool.{false, not}
 use mathlib.Core.List.{List}
-use mathlib.Core.Path.{_≡_, refl, ap, _∙_}
-use native.Mathlib.Nat.{le-antisymm}
-use native.Mathlib.Omega.{arith}
+use mathlib.Core.Path.{_≡_}
 use borrow.Author.Tests.{lt-ltb}
+use lib.Dec.{eqb}
 use lib.ListN.{getD}
-use Rattle.rows.specs.declared.Flaw.the-variants.{None, At}
 use Rattle.rows.specs.declared.Row.{Row}
 use Rattle.rows.specs.Entry.{noEntry, fits, fitsNote}
-use Rattle.rows.specs.Geometry.{entryCount, noteName, entryStart, noteStart}
-use Rattle.rows.specs.Flaw.{flawFrom}
+use Rattle.rows.specs.Geometry.{entryCount, noteName, entryNamed, entryStart, noteStart}
 use Rattle.rows.specs.Row.{entryAt, entryOf, noteOf, rowOf, fitsAt, misfitsAt}
-use Rattle.rows.proofs.Named.{not-note, named-below}
-use Rattle.rows.proofs.LowestFlaw.{flaw-here, flaw-next, flaw-end}
 use Rattle.rows.proofs.ReadRows.{entry-read}
 
 -- an entry that there is
@@ -23,25 +18,14 @@ unfolding entryAt
 entry-held row i l = rw (lt-ltb _ _ l)
 
 module _ (row : Row) (bytes : List ℕ) (at : ℕ) where
-  -- a register's entry against the one at its place
-  pub misfits-register :
-      (r : ℕ) → r < noteName → misfitsAt row (rowOf bytes at) r ≡ not (fits (getD (row .entries) r noEntry) (entryOf bytes (entryStart at r)))
+  -- an entry against the one at its place
+  pub misfits-entry :
+      (place i : ℕ) → eqb place noteName ≡ false → i ≡ entryNamed place → i < entryCount
+      → misfitsAt row (rowOf bytes at) place ≡ not (fits (getD (row .entries) i noEntry) (entryOf bytes (entryStart at i)))
   unfolding fitsAt
-  misfits-register r l =
-      rw (not-note r l, named-below r l, entry-held row r (omega arith), entry-read bytes at r (omega arith))
+  misfits-entry place i e n l = rw (e, ← n, entry-held row i l, entry-read bytes at i l)
 
   -- the note against the one in the bytes
-  pub misfits-note : misfitsAt row (rowOf bytes at) noteName ≡ not (fitsNote (row .note) (noteOf bytes (noteStart at)))
+  pub misfits-note : (place : ℕ) → place ≡ noteName → misfitsAt row (rowOf bytes at) place ≡ not (fitsNote (row .note) (noteOf bytes (noteStart at)))
   unfolding fitsAt rowOf
-  misfits-note = refl
-
-  -- the search past the registers: the note decides
-  pub note-fits :
-      (r : ℕ) → r ≤ noteName → noteName ≤ r → fitsNote (row .note) (noteOf bytes (noteStart at)) ≡ true → flawFrom (misfitsAt row (rowOf bytes at)) r ≡ None
-  note-fits r h l e = let f = misfitsAt row (rowOf bytes at) in
-      ap (flawFrom f) (le-antisymm h l) ∙ flaw-next f noteName (omega arith) (misfits-note ∙ ap not e) ∙ flaw-end f (noteName + 1) (omega arith)
-
-  pub note-misfits :
-      (r : ℕ) → r ≤ noteName → noteName ≤ r → fitsNote (row .note) (noteOf bytes (noteStart at)) ≡ false → flawFrom (misfitsAt row (rowOf bytes at)) r ≡ At noteName
-  note-misfits r h l e = let f = misfitsAt row (rowOf bytes at) in
-      ap (flawFrom f) (le-antisymm h l) ∙ flaw-here f noteName (omega arith) (misfits-note ∙ ap not e)
+  misfits-note place e = rw e

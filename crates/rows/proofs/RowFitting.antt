@@ -11,13 +11,13 @@ use Rattle.rows.specs.declared.Entry.{Entry}
 use Rattle.rows.specs.declared.Flaw.the-variants.{None}
 use Rattle.rows.specs.declared.Row.{Row}
 use Rattle.rows.specs.Entry.{noEntry, fits, fitsNote}
-use Rattle.rows.specs.Geometry.{entryCount, noteName, places}
+use Rattle.rows.specs.Geometry.{entryCount, noteName, places, entryName}
 use Rattle.rows.specs.Row.{entryAt, fitsAt, misfitsAt, misfit}
 use Rattle.rows.specs.Matches.{Matches, NoteMatches}
 use Rattle.rows.specs.Laws.{NoteFits, RowFits}
 use Rattle.rows.proofs.Tests.{one-kind}
 use Rattle.rows.proofs.LowestFlaw.{none-broken}
-use Rattle.rows.proofs.Named.{not-note, named-below}
+use Rattle.rows.proofs.Named.{name-place, name-not-note, name-names}
 use Rattle.rows.proofs.Fitting.{fits-matches}
 
 pub note-fits : NoteFits
@@ -54,8 +54,8 @@ fits-each a b e r l = not-false (fitsAt a b r) (none-broken (misfitsAt a b) e r 
 fits-here : (a b : Row) → misfit a b ≡ None → (r : ℕ) → r < entryCount → fits (entryAt a r) (entryAt b r) ≡ true
 unfolding fitsAt
 fits-here a b e r l =
-    let q : fitsAt a b r ≡ fits (entryAt a r) (entryAt b r) = rw (not-note r l, named-below r l) in
-    sym q ∙ fits-each a b e r (omega arith)
+    let q : fitsAt a b (entryName r) ≡ fits (entryAt a r) (entryAt b r) = rw (name-not-note r, name-names r) in
+    sym q ∙ fits-each a b e (entryName r) (name-place r l)
 
 fits-last : (a b : Row) → misfit a b ≡ None → fitsNote (a .note) (b .note) ≡ true
 unfolding fitsAt

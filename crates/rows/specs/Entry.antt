@@ -28,6 +28,10 @@ isStartOrNull e = eqb (e .kind) 3
 abbrev pub isReturn : Entry → Bool
 isReturn e = eqb (e .kind) 4
 
+-- request 7: "Kind 5 is the frame address"
+abbrev pub isFrame : Entry → Bool
+isFrame e = eqb (e .kind) 5
+
 -- the fields that a kind does not use are zero
 abbrev pub blank : NumberSet
 blank = numbers 0 bias bias
@@ -81,18 +85,18 @@ isRegionStart r e = isAddress e && eqb (e .region) r && onlyZero (e .set)
 unfoldable pub sizeIn : List ℕ → ℕ → ℕ
 sizeIn sizes r = cond (ltb r 8) (getD sizes r 0) 0
 
--- An entry's form: kinds 0 and 4 "all else zero"; kind 1 "Region 0", and the set's form; kind 2 "the same sort of set, 0 ≤ lo, hi ≤ size";
--- kind 3 "step, lo, hi zero". "Kinds 2 and 3 name an existing region."
+-- An entry's form: kinds 0 and 4 "all else zero", so kind 5; kind 1 "Region 0", and the set's form; kind 2 "the same sort of set, 0 ≤ lo, hi ≤
+-- size"; kind 3 "step, lo, hi zero". "Kinds 2 and 3 name an existing region." Where kind 5 may stand is said of a row (Row).
 unfoldable pub entryOk : ℕ → List ℕ → Entry → Bool
 entryOk regions sizes e =
     cond (isNumber e) (eqb (e .region) 0 && setOk (e .set))
     (cond (isAddress e)
     (ltb (e .region) regions && setOk (e .set) && leb bias (e .set .lo) && leb (e .set .hi) (bias + sizeIn sizes (e .region)))
     (cond (isStartOrNull e) (ltb (e .region) regions && isBlank (e .set))
-    ((isUnset e || isReturn e) && eqb (e .region) 0 && isBlank (e .set))))
+    ((isUnset e || isReturn e || isFrame e) && eqb (e .region) 0 && isBlank (e .set))))
 
 -- "Entry A fits B if B is unset; or both are numbers, or addresses of one region, and A's set lies in B's; or both are kind 3 of one
--- region; or both kind 4; or B is kind 3 and A is the single number 0 or the start of that region."
+-- region; or both kind 4; or B is kind 3 and A is the single number 0 or the start of that region." Kind 5 "fits itself".
 unfoldable pub fits : Entry → Entry → Bool
 fits a b =
     isUnset b
@@ -100,6 +104,7 @@ fits a b =
     || isAddress a && isAddress b && eqb (a .region) (b .region) && fitsSet (a .set) (b .set)
     || isStartOrNull a && isStartOrNull b && eqb (a .region) (b .region)
     || isReturn a && isReturn b
+    || isFrame a && isFrame b
     || isStartOrNull b && (isZero a || isRegionStart (b .region) a)
 
 -- the codes are those of a comparison

@@ -1,5 +1,5 @@
 -- The lowest place of a row that has a flaw, or none (document 01, "Check": "the lowest register of the earliest broken row is the one named,
--- 32 for the note"; "lowest register or 32").
+-- 32 for the note"; "lowest register or 32"; request 7: "the register answered for scratch words is 33 to 38, the lowest number named first").
 use Prim.Native.Nat.{ℕ}
 use mathlib.Core.Bool.{Bool, true, false, cond}
 use lib.Dec.{ltb}

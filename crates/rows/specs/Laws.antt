@@ -11,7 +11,7 @@ use Rattle.rows.specs.declared.Entry.{Entry}
 use Rattle.rows.specs.declared.Flaw.the-variants.{None}
 use Rattle.rows.specs.declared.Note.{Note}
 use Rattle.rows.specs.declared.Row.{Row}
-use Rattle.rows.specs.Kind.{Kind, unset, number, address, start, returnAddress, none, kindOf}
+use Rattle.rows.specs.Kind.{Kind, unset, number, address, start, returnAddress, frameAddress, none, kindOf}
 use Rattle.rows.specs.Entry.{sizeIn, entryOk, fits, fitsNote, fieldEntry}
 use Rattle.rows.specs.Row.{entryAt, rowOf, formFault, misfit}
 use Rattle.rows.specs.Matches.{Host, Matches, Held, NoteMatches, RowMatches}
@@ -32,6 +32,7 @@ module _ (regions : ℕ) (sizes : List ℕ) (e : Entry) where
   RulesAs address = AddressRules regions sizes e
   RulesAs start = e .region < regions
   RulesAs returnAddress = Unit {0}
+  RulesAs frameAddress = Unit {0}
   RulesAs none = ⊥
 
 -- what the form of an entry says

@@ -17,14 +17,15 @@ use Rattle.sets.specs.Laws.{Offset}
 use Rattle.rows.specs.declared.Entry.{Entry}
 use Rattle.rows.specs.declared.Note.{Note}
 use Rattle.rows.specs.declared.Row.{Row}
-use Rattle.rows.specs.Kind.{Kind, unset, number, address, start, returnAddress, none, kindOf}
+use Rattle.rows.specs.Kind.{Kind, unset, number, address, start, returnAddress, frameAddress, none, kindOf}
 use Rattle.rows.specs.Entry.{isUnset, isComparison}
 use Rattle.rows.specs.Row.{entryAt}
 
--- what the host has chosen: where each region starts, and the return address
+-- what the host has chosen: where each region starts, the return address, and where the frame starts
 pub record Host : Type 0 where
   pub bases : List ℕ
   pub returns : ℕ
+  pub frame : ℕ
 
 -- where region r starts
 abbrev pub baseOf : Host → ℕ → ℕ
@@ -42,6 +43,8 @@ module _ (h : Host) (e : Entry) (v : ℕ) where
   HoldsAs start = (v ≡ 0) ⊎ (v ≡ baseOf h (e .region))
   -- "4 return address"
   HoldsAs returnAddress = v ≡ h .returns
+  -- "Kind 5 is the frame address"
+  HoldsAs frameAddress = v ≡ h .frame
   HoldsAs none = Unit {0}
 
 -- a word is one of the entry's values
@@ -52,7 +55,7 @@ pub record Holds (h : Host) (e : Entry) (v : ℕ) : Type 0 where
 abbrev pub Matches : Host → Entry → Bool → ℕ → Type 0
 Matches h e mark v = isUnset e ≡ false → (mark ≡ true) × Holds h e v
 
--- what registers and codes hold: the value and the mark of each register, the codes and theirs
+-- what registers, scratch words and codes hold: the value and the mark of each, by the index of its entry, the codes and theirs
 pub record Held : Type 0 where
   pub value : ℕ → ℕ
   pub mark : ℕ → Bool
@@ -64,7 +67,7 @@ pub record NoteMatches (n : Note) (g : Held) : Type 0 where
   pub coded : eqb (n .kind) 0 ≡ false → g .coded ≡ true
   pub compared : isComparison n ≡ true → g .codes ≡ codesOf Sub (g .value (n .register)) (excess (n .number))
 
--- registers and codes match a row
+-- registers, scratch words and codes match a row
 pub record RowMatches (h : Host) (row : Row) (g : Held) : Type 0 where
   pub entries : (r : ℕ) → Matches h (entryAt row r) (g .mark r) (g .value r)
   pub note : NoteMatches (row .note) g

@@ -1,26 +1,28 @@
--- Rows, read from bytes (document 01, "Rows"): "An entry: kind, region, step, zero (a byte each), lo, hi (signed 32-bit)." "Note: kind,
+-- Rows, read from bytes (document 01, "Rows"; request 7): "An entry: kind, region, step, zero (a byte each), lo, hi (signed 32-bit)." "Note: kind,
 -- register, two zero bytes, a signed number." Numbers are big-endian. How many bytes each takes, and where it stands, is in Geometry.
 use Prim.Native.Nat.{ℕ, zero, suc, _+_}
 use mathlib.Core.Bool.{Bool, cond, not, _&&_, _||_}
 use mathlib.Core.List.{List, [], _∷_}
 use lib.Dec.{ltb, eqb}
 use lib.ListN.{getD, set}
+use Rattle.v8.specs.Search.{all}
 use Rattle.v8.specs.Signed.{excess}
+use Rattle.memory.specs.Frame.{scratchCount}
 use Rattle.memory.specs.Memory.{byteAt, wordAt}
 use Rattle.sets.specs.Sets.{numbers}
 use Rattle.rows.specs.declared.Entry.{Entry}
 use Rattle.rows.specs.declared.Flaw.{Flaw}
 use Rattle.rows.specs.declared.Note.{Note}
 use Rattle.rows.specs.declared.Row.{Row}
-use Rattle.rows.specs.Entry.{noEntry, isZero, entryOk, fits, noteOk, fitsNote}
-use Rattle.rows.specs.Geometry.{entryCount, entryBytes, entryStart, noteStart, noteName, entryNamed}
+use Rattle.rows.specs.Entry.{noEntry, isUnset, isFrame, isZero, entryOk, fits, noteOk, fitsNote}
+use Rattle.rows.specs.Geometry.{entryCount, entryBytes, scratchEntry, entryStart, noteStart, noteName, entryNamed}
 use Rattle.rows.specs.Flaw.{flawFrom}
 
--- entry i of a row, which is register i's; there is none after the last
+-- entry i of a row, register i's or after them a scratch word's; there is none after the last
 unfoldable pub entryAt : Row → ℕ → Entry
 entryAt row i = cond (ltb i entryCount) (getD (row .entries) i noEntry) noEntry
 
--- a row after register r is given an entry: "writes to it vanish" for r0
+-- a row after entry r is written: "writes to it vanish" for r0
 unfoldable pub entriesWith : List Entry → ℕ → Entry → List Entry
 entriesWith entries r e = cond (eqb r 0) entries (cond (ltb r entryCount) (set entries r e) entries)
 
@@ -60,10 +62,20 @@ rowOf bytes at = record { entries = entriesFrom bytes at entryCount; note = note
 abbrev pub r0Ok : ℕ → Entry → Bool
 r0Ok i e = not (eqb i 0) || isZero e
 
--- entry i of the row that begins at a byte is well formed, r0's as that of a row
+-- request 7: kind 5 "may stand only in r14"
+abbrev pub frameRegister : ℕ
+frameRegister = 14
+
+abbrev pub frameOk : ℕ → Entry → Bool
+frameOk i e = not (isFrame e) || eqb i frameRegister
+
+-- the entry that begins at a byte is well formed as entry i of a row
+abbrev pub entryFormedAs : ℕ → List ℕ → List ℕ → ℕ → ℕ → Bool
+entryFormedAs regions sizes bytes at i = entryFormed regions sizes bytes at && r0Ok i (entryOf bytes at) && frameOk i (entryOf bytes at)
+
+-- .. which is entry i of the row that begins at a byte
 abbrev pub entryFormedAt : ℕ → List ℕ → List ℕ → ℕ → ℕ → Bool
-entryFormedAt regions sizes bytes at i =
-    entryFormed regions sizes bytes (entryStart at i) && r0Ok i (entryOf bytes (entryStart at i))
+entryFormedAt regions sizes bytes at i = entryFormedAs regions sizes bytes (entryStart at i) i
 
 -- the place so named of the row that begins at a byte is well formed
 unfoldable pub formedAt : ℕ → List ℕ → List ℕ → ℕ → ℕ → Bool
@@ -76,6 +88,13 @@ brokenAt regions sizes bytes at place = not (formedAt regions sizes bytes at pla
 -- the lowest badly formed place of the row that begins at a byte
 unfoldable pub formFault : ℕ → List ℕ → List ℕ → ℕ → Flaw
 formFault regions sizes bytes at = flawFrom (brokenAt regions sizes bytes at) 0
+
+-- request 7: "in a well-formed entry row, the six are unset": so they are in the row that begins at a byte
+abbrev pub scratchUnsetAt : List ℕ → ℕ → ℕ → Bool
+scratchUnsetAt bytes at k = isUnset (entryOf bytes (entryStart at (scratchEntry k)))
+
+unfoldable pub scratchUnset : List ℕ → ℕ → Bool
+scratchUnset bytes at = all (scratchUnsetAt bytes at) scratchCount
 
 -- the place so named of row a fits that of row b
 unfoldable pub fitsAt : Row → Row → ℕ → Bool

@@ -22,6 +22,8 @@ pub const ADDRESS: u8 = 2;
 pub const START_OR_NULL: u8 = 3;
 // The return address.
 pub const RETURN_ADDRESS: u8 = 4;
+// The frame address.
+pub const FRAME_ADDRESS: u8 = 5;
 
 // The entry of a register of which nothing is known.
 pub fn no_entry() -> Entry
@@ -159,7 +161,7 @@ pub fn entry_ok(regions: u8, sizes: &[u16; 8], e: Entry) -> bool
     if kind == START_OR_NULL {
         return (e.region < regions) & is_blank(e.set);
     }
-    ((kind == UNSET) | (kind == RETURN_ADDRESS)) & (e.region == 0) & is_blank(e.set)
+    ((kind == UNSET) | (kind == RETURN_ADDRESS) | (kind == FRAME_ADDRESS)) & (e.region == 0) & is_blank(e.set)
 }
 
 // Whether what a register holds by entry `a` obeys entry `b`.
@@ -182,7 +184,7 @@ pub fn fits(a: Entry, b: Entry) -> bool
         let start = is_region_start(b.region, a);
         return (held == START_OR_NULL) & (a.region == b.region) | (zero | start);
     }
-    (held == RETURN_ADDRESS) & (asked == RETURN_ADDRESS)
+    (held == RETURN_ADDRESS) & (asked == RETURN_ADDRESS) | (held == FRAME_ADDRESS) & (asked == FRAME_ADDRESS)
 }
 
 // What a load of a field gives.

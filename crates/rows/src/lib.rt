@@ -11,7 +11,7 @@ pub mod entries;
 pub mod notes;
 // Entries, notes and rows read from bytes.
 mod reading;
-// The entry of a register in a row.
+// An entry of a row.
 mod registers;
 // The lowest place of a row that has a flaw.
 mod flaws;
@@ -24,7 +24,8 @@ pub use flaws::flawless;
 pub use passes::form_fault;
 pub use passes::formed_at;
 pub use passes::misfit;
-pub use reading::entry_formed;
+pub use passes::scratch_unset;
+pub use reading::entry_formed_as;
 pub use reading::read_entry;
 pub use reading::read_row;
 pub use registers::entry_at;
@@ -32,7 +33,7 @@ pub use registers::row_with;
 
 // What a register holds, by its kind: 0 unset; 1 a number of the set; 2 the address of the region's
 // start plus an offset of the set; 3 the address of the region's start, or null; 4 the return
-// address.
+// address; 5 the frame address.
 pub struct Entry {
     pub kind: u8,
     pub region: u8,
@@ -47,14 +48,14 @@ pub struct Note {
     pub number: u32,
 }
 
-// The entries of r0 to r31, and the note.
+// The entries of r0 to r31 and of the six scratch words, and the note.
 pub struct Row {
     pub entries: [Entry; ENTRIES],
     pub note: Note,
 }
 
 // The lowest place of a row that has a flaw, by the number that names it in an answer: the register's,
-// or the note's; or that no place has one.
+// the note's or the scratch word's; or that no place has one.
 pub enum Flaw {
     None,
     At(u8),

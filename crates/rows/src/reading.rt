@@ -5,11 +5,13 @@ ghost use lib.ListN.{length};
 ghost use Rattle.v8.specs.Signed.{excess};
 ghost use Rattle.memory.specs.Memory.{wordAt};
 ghost use Rattle.rows.specs.Geometry.{EntryLies, NoteLies, RowLies};
-ghost use Rattle.rows.specs.Row.{entryOf, entryFormed, noteOf, noteFormed, rowOf};
+ghost use Rattle.rows.specs.Row.{entryOf, entryFormedAs, noteOf, noteFormed, rowOf};
 use crate::Entry;
 use crate::Note;
 use crate::Row;
+use crate::entries::FRAME_ADDRESS;
 use crate::entries::entry_ok;
+use crate::entries::is_zero;
 use crate::entries::no_entry;
 use crate::geometry::ENTRIES;
 use crate::geometry::ENTRY_BYTES;
@@ -41,14 +43,22 @@ pub fn read_entry(bytes: &[u8], at: usize) -> Entry
     Entry { kind, region, set }
 }
 
-// Whether the entry that begins at a byte is well formed, its zero byte too.
-pub fn entry_formed(regions: u8, sizes: &[u16; 8], bytes: &[u8], at: usize) -> bool
+// r14, in which alone the frame address may stand.
+pub const FRAME_REGISTER: usize = 14;
+
+// Whether the entry that begins at a byte is well formed as entry i of a row, its zero byte too.
+pub fn entry_formed_as(regions: u8, sizes: &[u16; 8], bytes: &[u8], at: usize, i: usize) -> bool
     requires { ⌜ EntryLies at (length (now bytes)) ⌝ }
-    ensures { λ r. ⌜ r ≡ entryFormed regions (now (sizes .entry)) (now (bytes .entry)) at ⌝ }
+    ensures { λ r. ⌜ r ≡ entryFormedAs regions (now (sizes .entry)) (now (bytes .entry)) at i ⌝ }
 {
     let zero = bytes[at + 3];
     let e = read_entry(bytes, at);
-    (zero == 0) & entry_ok(regions, sizes, e)
+    let formed = entry_ok(regions, sizes, e);
+    let null = is_zero(e);
+    (zero == 0)
+        & formed
+        & (!(i == 0) | null)
+        & (!(e.kind == FRAME_ADDRESS) | (i == FRAME_REGISTER))
 }
 
 // The note that begins at a byte.

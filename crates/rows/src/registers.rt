@@ -1,4 +1,5 @@
-// The entry of a register in a row (specs/Row.antt).
+// An entry of a row, by its index: a register's number, or after them a scratch word's
+// (specs/Row.antt).
 ghost use mathlib.Core.Path.{_≡_};
 ghost use Rattle.rows.specs.Row.{entryAt, rowWith};
 use crate::Entry;
@@ -7,7 +8,7 @@ use crate::Row;
 use crate::entries::no_entry;
 use crate::geometry::ENTRIES;
 
-// The entry of register r; there is none after the last.
+// Entry r; there is none after the last.
 pub fn entry_at(row: Row, r: u8) -> Entry
     ensures { λ res. ⌜ res ≡ entryAt row r ⌝ }
 {
@@ -18,7 +19,7 @@ pub fn entry_at(row: Row, r: u8) -> Entry
     no_entry()
 }
 
-// The row after register r is given an entry and the codes a note; r0 keeps its entry.
+// The row after entry r is written and the codes have a note; r0 keeps its entry.
 pub fn row_with(mut row: Row, r: u8, e: Entry, n: Note) -> Row
     ensures { λ res. ⌜ res ≡ rowWith row r e n ⌝ }
 {
