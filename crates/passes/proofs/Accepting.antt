@@ -18,10 +18,10 @@ use Rattle.policy.specs.declared.Policy.{Policy}
 use Rattle.rows.specs.declared.Flaw.{Flaw}
 use Rattle.rows.specs.declared.Flaw.the-variants.{None, At}
 use Rattle.rows.specs.Geometry.{rowBytes}
-use Rattle.rows.specs.Row.{entryFormed, formFault, misfit}
+use Rattle.rows.specs.Row.{entryFormedAs, formFault, misfit}
 use Rattle.passes.specs.declared.Answer.{Answer}
 use Rattle.passes.specs.Answer.{accepted, passes, andThen, need, refuses, passOf}
-use Rattle.passes.specs.Passes.{rowAt, entryRow, unlessFault, shapeOk, rowPass, callersLeft, flowPass, entryPass}
+use Rattle.passes.specs.Passes.{resultRegister, rowAt, entryRow, unlessFault, shapeOk, rowPass, callersLeft, flowPass, entryPass}
 
 -- both of two passes accept
 pub both-pass : (a b : Answer) → passes (andThen a b) ≡ true → (passes a ≡ true) × (passes b ≡ true)
@@ -82,10 +82,10 @@ entry-holds rows entry e = no-fault entryMisfit 0 (misfit (entryRow entry) (rowA
 
 -- a right shape has a well formed result entry
 pub result-holds : (p : Policy) (n : ℕ) (rows entry result : List ℕ) → shapeOk p n rows entry result ≡ true
-    → entryFormed (p .regions .count) (p .regions .sizes) result 0 ≡ true
+    → entryFormedAs (p .regions .count) (p .regions .sizes) result 0 resultRegister ≡ true
 unfolding shapeOk
 result-holds p n rows entry result e =
-    needed (shapeOk p n rows entry result) (entryFormed (p .regions .count) (p .regions .sizes) result 0) e (λ f. rw (f, and-false))
+    needed (shapeOk p n rows entry result) (entryFormedAs (p .regions .count) (p .regions .sizes) result 0 resultRegister) e (λ f. rw (f, and-false))
 
 -- a pass that accepts, and one that does not, with what follows it
 pub goes : (a x y : Answer) → a ≡ x → a .number ≡ 0 → andThen x y ≡ y

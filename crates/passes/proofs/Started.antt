@@ -9,7 +9,7 @@ use Rattle.v8.proofs.Search.{needed, needed-le, needed-eq}
 use Rattle.policy.specs.declared.Policy.{Policy}
 use Rattle.rows.specs.Geometry.{rowBytes}
 use Rattle.rows.specs.Flaw.{flawless}
-use Rattle.rows.specs.Row.{formFault}
+use Rattle.rows.specs.Row.{formFault, scratchUnset}
 use Rattle.passes.specs.Passes.{startOk, shapeOk}
 
 pub record Started (regions : ℕ) (sizes : List ℕ) (n : ℕ) (entry : List ℕ) : Type 0 where
@@ -17,6 +17,7 @@ pub record Started (regions : ℕ) (sizes : List ℕ) (n : ℕ) (entry : List �
   pub most : n ≤ mostWords
   pub row : length entry ≡ rowBytes
   pub formed : flawless (formFault regions sizes entry 0) ≡ true
+  pub unset : scratchUnset entry 0 ≡ true
 
 pub started : (regions : ℕ) (sizes : List ℕ) (n : ℕ) (entry : List ℕ) → startOk regions sizes n entry ≡ true → Started regions sizes n entry
 started regions sizes n entry e =
@@ -26,6 +27,7 @@ started regions sizes n entry e =
       most = needed-le t n mostWords e (λ f. simp (f, and-false));
       row = needed-eq t (length entry) rowBytes e (λ f. simp (f, and-false));
       formed = needed t (flawless (formFault regions sizes entry 0)) e (λ f. rw (f, and-false));
+      unset = needed t (scratchUnset entry 0) e (λ f. rw (f, and-false));
     }
 
 -- the first of four tests fails

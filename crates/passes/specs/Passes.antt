@@ -17,7 +17,7 @@ use Rattle.rows.specs.declared.Flaw.the-variants.{None, At}
 use Rattle.rows.specs.declared.Row.{Row}
 use Rattle.rows.specs.Geometry.{rowBytes, entryBytes}
 use Rattle.rows.specs.Flaw.{flawless}
-use Rattle.rows.specs.Row.{rowOf, entryFormed, formFault, misfit}
+use Rattle.rows.specs.Row.{rowOf, entryFormedAs, formFault, scratchUnset, misfit}
 use Rattle.passes.specs.declared.Answer.{Answer}
 use Rattle.passes.specs.Answer.{accepted, refuse, andThen, need}
 
@@ -38,21 +38,26 @@ unlessFault number w (At place) = refuse number w place
 abbrev pub policyPass : Policy → Answer
 policyPass p = need (policyOk p) badPolicy 0 0
 
--- of "21 words not 1 to 128, rows not 392 bytes a word, or the entry row or result entry badly formed" what is asked of n words and the entry
--- row, by how many regions there are and their sizes ..
-abbrev pub startOk : ℕ → List ℕ → ℕ → List ℕ → Bool
-startOk regions sizes n entry = leb 1 n && leb n mostWords && eqb (length entry) rowBytes && flawless (formFault regions sizes entry 0)
+-- r8, which has the result
+abbrev pub resultRegister : ℕ
+resultRegister = 8
 
--- .. and with them of the rows and the result entry
+-- of "21 words not 1 to 128, rows not [464] bytes a word, or the entry row or result entry badly formed" what is asked of n words and the entry
+-- row, by how many regions there are and their sizes; request 7: "in a well-formed entry row, the six are unset" ..
+abbrev pub startOk : ℕ → List ℕ → ℕ → List ℕ → Bool
+startOk regions sizes n entry =
+    leb 1 n && leb n mostWords && eqb (length entry) rowBytes && flawless (formFault regions sizes entry 0) && scratchUnset entry 0
+
+-- .. and with them of the rows and the result entry, which is r8's
 unfoldable pub shapeOk : Policy → ℕ → List ℕ → List ℕ → List ℕ → Bool
 shapeOk p n rows entry result =
     startOk (p .regions .count) (p .regions .sizes) n entry && eqb (length rows) (rowBytes * n) && eqb (length result) entryBytes
-    && entryFormed (p .regions .count) (p .regions .sizes) result 0
+    && entryFormedAs (p .regions .count) (p .regions .sizes) result 0 resultRegister
 
 abbrev pub shapePass : Policy → ℕ → List ℕ → List ℕ → List ℕ → Answer
 shapePass p n rows entry result = need (shapeOk p n rows entry result) badShape 0 0
 
--- "1 row badly formed: its word; the lowest register of the earliest broken row is the one named, 32 for the note"
+-- "1 row badly formed: its word; the lowest register of the earliest broken row is the one named, 32 for the note"; 33 to 38 for scratch words
 unfoldable pub rowPass : Policy → List ℕ → ℕ → Answer
 rowPass p rows w = unlessFault badRow w (formFault (p .regions .count) (p .regions .sizes) rows (rowBytes * w))
 

@@ -3,14 +3,19 @@ ghost use mathlib.Core.Path.{_≡_};
 ghost use lib.ListN.{length};
 ghost use Rattle.passes.specs.Passes.{startOk, shapeOk};
 use policy::Policy;
-use rows::entry_formed;
+use rows::entry_formed_as;
 use rows::flawless;
 use rows::form_fault;
 use rows::geometry::ENTRY_BYTES;
 use rows::geometry::ROW_BYTES;
+use rows::scratch_unset;
 use v8::numbers::MOST_WORDS;
 
-// Whether the words are as many as they may be, and the entry row is one that is well formed.
+// r8, which has the result.
+pub const RESULT: u8 = 8;
+
+// Whether the words are as many as they may be, and the entry row is one that is well formed, its
+// scratch words unset.
 pub fn start_ok(regions: u8, sizes: &[u16; 8], words: &[u32], entry: &[u8]) -> bool
     ensures { λ r. ⌜ r ≡ startOk regions (now (sizes .entry)) (length (now (words .entry))) (now (entry .entry)) ⌝ }
 {
@@ -25,7 +30,7 @@ pub fn start_ok(regions: u8, sizes: &[u16; 8], words: &[u32], entry: &[u8]) -> b
         return false;
     }
     let flaw = form_fault(regions, sizes, entry, 0);
-    flawless(flaw)
+    flawless(flaw) & scratch_unset(entry, 0)
 }
 
 // Whether words, rows, entry row and result entry are as many as they must be, and the last two
@@ -42,5 +47,11 @@ pub fn shape_ok(policy: Policy, words: &[u32], rows: &[u8], entry: &[u8], result
     if result.len() != ENTRY_BYTES {
         return false;
     }
-    entry_formed(policy.regions.count, &policy.regions.sizes, result, 0)
+    entry_formed_as(
+        policy.regions.count,
+        &policy.regions.sizes,
+        result,
+        0,
+        RESULT as usize,
+    )
 }

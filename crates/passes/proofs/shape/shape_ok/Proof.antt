@@ -45,14 +45,17 @@ returns-3 : tie.Need-returns-3
 unfolding shapeOk
 returns-3 c = rw (ne-eqb _ entryBytes (c .if3 .taken), and-false)
 
-entry-formed-requires : tie.Need-entry-formed-requires
-entry-formed-requires c κs = search needs
+cast-entry-formed-as : tie.Need-cast-entry-formed-as
+cast-entry-formed-as c = search needs
+
+entry-formed-as-requires : tie.Need-entry-formed-as-requires
+entry-formed-as-requires c κs = search needs
 
 returns-4 : tie.Need-returns-4
 unfolding shapeOk
 returns-4 c =
     let i = c .before .before .before in
-    c .entry-formed .ensures
+    c .entry-formed-as .ensures
     ∙ last-decides (start (start1 (i .before .before))) _ _ _ (right-start (i .before .before)) (eq-eqb _ _ (i .before .if2 .left)) (eq-eqb _ entryBytes (i .if3 .left))
 
 pub shape-ok-spec : {M : Type 1} → statement M
@@ -64,5 +67,6 @@ shape-ok-spec =
     mul-if2
     returns-2
     returns-3
-    entry-formed-requires
+    cast-entry-formed-as
+    entry-formed-as-requires
     returns-4)

@@ -22,19 +22,23 @@ form-fault-requires c κs = search needs
 flawless-requires : tie.Need-flawless-requires
 flawless-requires c κs = search needs
 
+scratch-unset-requires : tie.Need-scratch-unset-requires
+scratch-unset-requires c κs = search needs
+
 returns-4 : tie.Need-returns-4
 returns-4 c =
-    let fault = c .before in
+    let fault = c .before .before in
     let i = fault .before in
     rw (
       le-leb 1 _ (i .before .before .if1 .left),
       le-leb _ mostWords (i .before .if2 .left),
       eq-eqb _ rowBytes (i .if3 .left),
       ← fault .form-fault .ensures,
-      ← c .flawless .ensures,
+      ← c .before .flawless .ensures,
+      ← c .scratch-unset .ensures,
     )
 
 pub start-ok-spec : {M : Type 1} → statement M
 start-ok-spec =
     tie.close
-    (tie.spec returns returns-2 returns-3 form-fault-requires flawless-requires returns-4)
+    (tie.spec returns returns-2 returns-3 form-fault-requires flawless-requires scratch-unset-requires returns-4)
