@@ -23,10 +23,10 @@ use Rattle.policy.specs.Find.{findField}
 use Rattle.policy.specs.Laws.{WellFormed}
 use Rattle.policy.proofs.FoundField.{found-holds, finds}
 use Rattle.access.specs.declared.Located.{Located}
-use Rattle.access.specs.declared.Located.the-variants.{At, Nowhere}
+use Rattle.access.specs.declared.Located.the-variants.{At, Scratch, Nowhere}
 use Rattle.access.specs.Serve.{accessWidth, serves, allows}
 use Rattle.access.specs.Layout.{layoutOf}
-use Rattle.access.specs.Locate.{insideRegion, regionIn, regionOf, touches, located, locate}
+use Rattle.access.specs.Locate.{insideRegion, regionIn, touches, located, scratchIn, inFrame, locate}
 use Rattle.access.specs.Laws.{Disjoint, Allowed, LocatedAllowed, AllowedLocated, NowhereAllowed}
 
 -- an access touches some byte
@@ -52,19 +52,28 @@ not-there r o e = let z : _≡_ {A = ℕ} 0 1 = cc in absurd (omega arith)
 
 abbrev regionAt : Located → ℕ
 regionAt (At r o) = r
+regionAt (Scratch k) = 0
 regionAt Nowhere = 0
 
 abbrev offsetAt : Located → ℕ
 offsetAt (At r o) = o .0
+offsetAt (Scratch k) = 0
 offsetAt Nowhere = 0
 
 region-is : (r q o n : ℕ) → At r (record { 0 = o }) ≡ At q (record { 0 = n }) → (r ≡ q) × (o ≡ n)
 region-is r q o n e = (ap regionAt e, ap offsetAt e)
 
+-- nor is what lies in the frame in a region
+not-framed : {C : Type 0} (frame : ℕ) (a : Access) (address r o : ℕ) → inFrame frame a address ≡ At r (record { 0 = o }) → C
+not-framed frame a address r o e = cond-went (scratchIn frame a address) _ _ _ e (λ _ h. not-scratch h) (λ _ h. not-there r o h)
+  where
+    not-scratch : {C : Type 0} {k : ℕ} → Scratch k ≡ At r (record { 0 = o }) → C
+    not-scratch e = let z : _≡_ {A = ℕ} 0 1 = cc in absurd (omega arith)
+
 module _ (p : Policy) (bases : List ℕ) (a : Access) (address : ℕ) where
   -- the region that is found, and the rest of the address there
   abbrev region : ℕ
-  region = regionOf (layoutOf p bases) address
+  region = regionIn (p .regions .count) (p .regions .sizes) bases address
 
   abbrev rest : ℕ
   rest = address - getD bases region 0
@@ -107,10 +116,10 @@ module _ (p : Policy) (bases : List ℕ) (a : Access) (address : ℕ) where
 -- what is located is allowed
 pub located-allowed : LocatedAllowed
 unfolding locate
-located-allowed p bases a address r offset e =
+located-allowed p bases frame a address r offset e =
     cond-went (ltb (region p bases a address) (p .regions .count)) _ _ _ e
     (λ t h. by-found p bases a address r offset (ltb-true (region p bases a address) (p .regions .count) t) _ refl h)
-    (λ _ h. not-there r offset h)
+    (λ _ h. not-framed frame a address r offset h)
 
 module _ (p : Policy) (bases : List ℕ) (wf : WellFormed p) (a : Access) (address r offset : ℕ) (x : Allowed p bases a address r offset) where
   abbrev passes : ℕ → Bool
@@ -131,9 +140,9 @@ module _ (p : Policy) (bases : List ℕ) (wf : WellFormed p) (a : Access) (addre
       end : {e s w : ℕ} (b : ℕ) → address ≡ b + offset → offset + w ≤ e → e ≤ s → 1 ≤ w → address < b + s
       end b d h l m = omega arith
 
-  region-found : Disjoint (layoutOf p bases) → regionIn (p .regions .count) (p .regions .sizes) bases address ≡ r
+  region-found : (frame : ℕ) → Disjoint (layoutOf p bases frame) → regionIn (p .regions .count) (p .regions .sizes) bases address ≡ r
   unfolding regionIn
-  region-found disjoint = at (ltb r lowest) refl
+  region-found frame disjoint = at (ltb r lowest) refl
     where
       differ : {C : Type 0} → false ≡ true → C
       differ e = let z : _≡_ {A = ℕ} 0 1 = cc in absurd (omega arith)
@@ -160,9 +169,9 @@ module _ (p : Policy) (bases : List ℕ) (wf : WellFormed p) (a : Access) (addre
 -- what is allowed is located
 pub allowed-located : AllowedLocated
 unfolding locate
-allowed-located p bases wf disjoint a address r offset x =
+allowed-located p bases frame wf disjoint a address r offset x =
     rw (
-      region-found p bases wf a address r offset x disjoint,
+      region-found p bases wf a address r offset x frame disjoint,
       lt-ltb r (p .regions .count) (x .region),
       rest-is (getD bases r 0) (x .address-is),
       field-found p bases wf a address r offset x,
@@ -173,4 +182,4 @@ allowed-located p bases wf disjoint a address r offset x =
     rest-is b e = omega arith
 
 pub nowhere-allowed : NowhereAllowed
-nowhere-allowed p bases wf disjoint a address n r offset x = not-there r offset (sym n ∙ allowed-located p bases wf disjoint a address r offset x)
+nowhere-allowed p bases frame wf disjoint a address n r offset x = not-there r offset (sym n ∙ allowed-located p bases frame wf disjoint a address r offset x)

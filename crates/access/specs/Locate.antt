@@ -1,5 +1,5 @@
--- Where an access lies (document 01, fault 103: "not inside one field of matching element and permission"). It is stated over the
--- numbers of the policy and the bases, since the machine lends those.
+-- Where an access lies (document 01, fault 103: "not inside one field of matching element and permission"; document 02, request 7: "103 for the
+-- rest of the frame and other widths"). It is stated over the numbers of the policy, the bases and the frame address, since the machine lends those.
 use Prim.Native.Nat.{ℕ, _+_, _-_, _≤_, _<_}
 use mathlib.Core.Bool.{Bool, cond, _&&_}
 use mathlib.Core.List.{List}
@@ -10,10 +10,11 @@ use Rattle.policy.specs.declared.Found.{Found}
 use Rattle.policy.specs.declared.Found.the-variants as Found·
 use Rattle.policy.specs.declared.Fields.{Fields}
 use Rattle.policy.specs.Find.{findIn}
+use Rattle.memory.specs.Frame.{isScratch, scratchAt}
 use Rattle.v8.specs.declared.Access.{Access}
 use Rattle.access.specs.declared.Located.{Located}
-use Rattle.access.specs.declared.Located.the-variants.{At, Nowhere}
-use Rattle.access.specs.Serve.{accessWidth, serves, allows}
+use Rattle.access.specs.declared.Located.the-variants.{At, Scratch, Nowhere}
+use Rattle.access.specs.Serve.{accessWidth, isWord, serves, allows}
 use Rattle.access.specs.Layout.{Layout}
 
 -- an address lies in region r
@@ -50,9 +51,17 @@ abbrev pub locateIn : List ℕ → Fields → Access → ℕ → ℕ → Located
 locateIn counts fields a r offset =
     located fields a r offset (findIn counts (fields .elements) (fields .offsets) (fields .counts) r offset (offset + accessWidth a))
 
--- where an access to an address lies
+-- an access is LD or ST of a scratch word of the frame
+unfoldable pub scratchIn : ℕ → Access → ℕ → Bool
+scratchIn frame a address = isWord a && leb frame address && isScratch (address - frame)
+
+-- where an access to an address outside the regions lies: at that scratch word, or nowhere
+abbrev pub inFrame : ℕ → Access → ℕ → Located
+inFrame frame a address = cond (scratchIn frame a address) (Scratch (scratchAt (address - frame))) Nowhere
+
+-- where an access to an address lies: in a region, or else in the frame, which overlaps none
 unfoldable pub locate : Layout → Access → ℕ → Located
 locate l a address =
     cond (ltb (regionOf l address) (l .regions .count))
     (locateIn (l .regions .fields) (l .fields) a (regionOf l address) (address - baseIn l (regionOf l address)))
-    Nowhere
+    (inFrame (l .frame) a address)

@@ -21,6 +21,10 @@ abbrev pub accessWidth : Access → ℕ
 accessWidth (Loads op) = loadWidth op
 accessWidth (Stores op) = storeWidth op
 
+-- an access is LD or ST, those of a word
+abbrev pub isWord : Access → Bool
+isWord a = eqb (accessWidth a) 4
+
 -- a load serves an element of its width and sign
 abbrev pub loadServes : LoadOp → ℕ → Bool
 loadServes Ld e = leb 5 e && leb e 7

@@ -1,15 +1,19 @@
-// Where an access lies: the region that its address is in, and there the field that serves it.
+// Where an access lies: the region that its address is in, and there the field that serves it; or the
+// scratch word of the frame.
 ghost use mathlib.Core.Path.{_≡_};
 ghost use Prim.Native.Nat.{_≤_, _<_};
 ghost use lib.ListN.{length, getD};
 ghost use Rattle.access.specs.Serve.{accessWidth};
 ghost use Rattle.policy.specs.Policy.{fieldsFrom};
 ghost use Rattle.access.specs.Layout.{layoutFrom};
-ghost use Rattle.access.specs.Locate.{Near, regionIn, locateIn, locate};
+ghost use Rattle.access.specs.Locate.{Near, regionIn, locateIn, inFrame, locate};
 use crate::Located;
 use crate::serve::allowed;
+use crate::serve::is_word;
 use crate::serve::serves_element;
 use memory::extent;
+use memory::frame::is_scratch;
+use memory::frame::scratch_at;
 use policy::Found;
 use policy::find_in;
 use v8::Access;
@@ -69,8 +73,21 @@ fn locate_in<'a>(
     }
 }
 
+// Where an access to an address outside the regions lies: at a scratch word of the frame, or nowhere.
+fn in_frame(frame: u32, a: Access, address: u32) -> Located
+    ensures { λ r. ⌜ r ≡ inFrame frame a address ⌝ }
+{
+    if is_word(a) & (frame <= address) {
+        let offset = ByteOffset(address - frame);
+        if is_scratch(offset) {
+            return Located::Scratch(scratch_at(offset));
+        }
+    }
+    Located::Nowhere
+}
+
 // Where an access to an address lies: `width` is the access's. A region that the address lies in is
-// found first, and there the field.
+// found first, and there the field; else the frame is looked at.
 pub fn locate_access<'a>(
     regions: u8,
     sizes: &'a [u16; 8],
@@ -80,6 +97,7 @@ pub fn locate_access<'a>(
     permissions: &'a [u8; 128],
     offsets: &'a [u32; 128],
     counts: &'a [u16; 128],
+    frame: u32,
     a: Access,
     width: u32,
     address: u32,
@@ -88,7 +106,7 @@ pub fn locate_access<'a>(
     ensures { λ r. ⌜
         r
         ≡ locate
-        (layoutFrom regions (now (sizes .entry)) (now (fields .entry)) (fieldsFrom (now (elements .entry)) (now (permissions .entry)) (now (offsets .entry)) (now (counts .entry))) (now (bases .entry))) a address
+        (layoutFrom regions (now (sizes .entry)) (now (fields .entry)) (fieldsFrom (now (elements .entry)) (now (permissions .entry)) (now (offsets .entry)) (now (counts .entry))) (now (bases .entry)) frame) a address
         ⌝ }
 {
     let r = region_at(regions, sizes, bases, address);
@@ -107,5 +125,5 @@ pub fn locate_access<'a>(
             ByteOffset(offset),
         );
     }
-    Located::Nowhere
+    in_frame(frame, a, address)
 }

@@ -1,7 +1,7 @@
 // What an access needs of a field: its width, its element and its permission.
 ghost use mathlib.Core.Path.{_≡_};
 ghost use Prim.Native.Nat.{_≤_};
-ghost use Rattle.access.specs.Serve.{accessWidth, serves, allows, addend};
+ghost use Rattle.access.specs.Serve.{accessWidth, isWord, serves, allows, addend};
 use v8::Access;
 use v8::Displacement;
 use v8::LoadOp;
@@ -26,6 +26,13 @@ pub fn width_of(a: Access) -> u32
             StoreOp::Sth => 2,
         },
     }
+}
+
+// Whether an access is LD or ST, those of a word.
+pub fn is_word(a: Access) -> bool
+    ensures { λ r. ⌜ r ≡ isWord a ⌝ }
+{
+    width_of(a) == 4
 }
 
 // Whether an access serves an element.

@@ -4,10 +4,10 @@ use mathlib.Core.Path.{_≡_}
 use mathlib.Core.Bool.{Bool, true, _&&_}
 use native.Mathlib.Omega.{arith}
 use lib.Dec.{leb, ltb, eqb}
-use borrow.Author.Tests.{eqb-true, leb-true, ltb-true}
+use borrow.Author.Tests.{eqb-true, eq-eqb, leb-true, le-leb, ltb-true, lt-ltb}
 use Rattle.v8.proofs.Choice.{and-went}
-use Rattle.memory.specs.Frame.{scratchFirst, frameBytes, isScratch}
-use Rattle.memory.specs.Laws.{ScratchOffsets}
+use Rattle.memory.specs.Frame.{scratchFirst, frameBytes, scratchOffset, isScratch}
+use Rattle.memory.specs.Laws.{ScratchOffsets, ScratchWords}
 
 pub scratch-offsets : ScratchOffsets
 unfolding isScratch
@@ -18,3 +18,9 @@ scratch-offsets o e =
     let high : o < 120 = ltb-true o frameBytes (q .1) in
     let four : o % 4 ≡ 0 = eqb-true (o % 4) 0 (p .1) in
     record { low = low; high = high; aligned = four; word = omega arith; here = omega arith }
+
+pub scratch-words : ScratchWords
+unfolding isScratch
+scratch-words k l =
+    let four : (96 + 4 * k) % 4 ≡ 0 = omega arith in
+    (rw (le-leb 96 (96 + 4 * k) (omega arith), lt-ltb (96 + 4 * k) 120 (omega arith), eq-eqb _ 0 four), omega arith)

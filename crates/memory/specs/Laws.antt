@@ -92,3 +92,7 @@ pub record ScratchRules (offset : ℕ) : Type 0 where
 -- An offset that passes the test is one.
 abbrev pub ScratchOffsets : Type 0
 ScratchOffsets = (offset : ℕ) → isScratch offset ≡ true → ScratchRules offset
+
+-- The offset of each scratch word passes it, and names that word.
+abbrev pub ScratchWords : Type 0
+ScratchWords = (k : ℕ) → k < scratchCount → (isScratch (scratchOffset k) ≡ true) × (scratchAt (scratchOffset k) ≡ k)

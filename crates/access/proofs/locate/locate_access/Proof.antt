@@ -1,4 +1,4 @@
--- A region that the address lies in, then a field there.
+-- A region that the address lies in, then a field there; or else the frame.
 use Rattle.access.specs.Locate.{locate}
 use borrow.Author.Tests.{lt-ltb, le-ltb}
 use native.Mathlib.Omega.{arith}
@@ -28,9 +28,12 @@ returns : tie.Need-returns
 unfolding locate
 returns c = rw (← c .before .before .before .region-at .ensures .0, lt-ltb _ _ (c .before .before .if1 .taken)) (c .locate-in .ensures)
 
+in-frame-requires : tie.Need-in-frame-requires
+in-frame-requires c κs = search needs
+
 returns-2 : tie.Need-returns-2
 unfolding locate
-returns-2 c = rw (← c .before .region-at .ensures .0, le-ltb _ _ (c .if1 .left))
+returns-2 c = rw (← c .before .before .region-at .ensures .0, le-ltb _ _ (c .before .if1 .left)) (c .in-frame .ensures)
 
 pub locate-access-spec : {M : Type 1} → statement M
 locate-access-spec =
@@ -43,4 +46,5 @@ locate-access-spec =
     sub-offset
     locate-in-requires
     returns
+    in-frame-requires
     returns-2)
