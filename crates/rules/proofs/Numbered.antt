@@ -1,7 +1,7 @@
 -- A condition that is broken has a number: what refuses is no 0, which stands for acceptance.
 use Prim.Native.Nat.{ℕ}
 use mathlib.Core.Path.{_≡_, refl}
-use mathlib.Core.Bool.{Bool, false, not, _&&_}
+use mathlib.Core.Bool.{Bool, false, not, _&&_, _||_}
 use mathlib.Core.List.{List, []}
 use lib.Dec.{leb, ltb, eqb}
 use Rattle.v8.specs.Signed.{bias}
@@ -22,24 +22,25 @@ use Rattle.policy.specs.declared.Found.{Found}
 use Rattle.policy.specs.declared.Found.the-variants as Found·
 use Rattle.policy.specs.Policy.{fieldAt}
 use Rattle.policy.specs.Find.{findField}
-use Rattle.access.specs.Serve.{accessWidth, serves, allows, addend}
+use Rattle.memory.specs.Frame.{isScratch}
+use Rattle.access.specs.Serve.{accessWidth, isWord, serves, allows, addend}
 use Rattle.sets.specs.declared.NumberSet.{NumberSet}
 use Rattle.sets.specs.Rules.{addSets, subSets}
 use Rattle.rows.specs.declared.Entry.{Entry}
 use Rattle.rows.specs.declared.Note.{Note}
 use Rattle.rows.specs.declared.Row.{Row}
-use Rattle.rows.specs.Entry.{isUnset, isNumber, isAddress, isStartOrNull, isZero, isConstant, isReturn, fits, fieldEntry}
+use Rattle.rows.specs.Entry.{isUnset, isNumber, isAddress, isStartOrNull, isZero, isConstant, isReturn, isFrame, wordOf, fits, fieldEntry}
 use Rattle.rows.specs.Row.{entryAt}
 use Rattle.rules.specs.declared.Operands.{Operands}
 use Rattle.rules.specs.declared.Result.{Result}
 use Rattle.rules.specs.declared.Result.the-variants.{Gives, Fails}
 use Rattle.rules.specs.declared.Reach.{Reach}
-use Rattle.rules.specs.declared.Reach.the-variants.{Inside, Outside}
+use Rattle.rules.specs.declared.Reach.the-variants.{Inside, Scratch, Outside}
 use Rattle.rules.specs.declared.Change.{Change}
 use Rattle.rules.specs.declared.Change.the-variants.{Writes, Keeps, Breaks}
 use Rattle.rules.specs.Result.{isOr, constants, bothNumbers, offsetsGive, addressSum, addressDifference, addressRule, aluResult, shiftResult}
-use Rattle.rules.specs.Reach.{reachEnd, onGrid, inField, inFound, inRegion, reachOf}
-use Rattle.rules.specs.Change.{operandsOf, ifSet, writing, aluChange, shiftChange, stores, accessed, accessedAt, accessChange, operationChange, branchChange, returnChange, changeOf}
+use Rattle.rules.specs.Reach.{reachEnd, onGrid, inField, inFound, inRegion, inFrame, frameReach, reachOf}
+use Rattle.rules.specs.Change.{operandsOf, ifSet, writing, aluChange, shiftChange, stores, accessed, keptAt, accessedAt, accessChange, operationChange, branchChange, returnChange, changeOf}
 
 -- what fails has a number
 abbrev Failing : Result → Type 0
@@ -48,6 +49,7 @@ Failing (Fails n) = eqb n 0 ≡ false
 
 abbrev Outlying : Reach → Type 0
 Outlying (Inside place) = Unit {0}
+Outlying (Scratch k) = Unit {0}
 Outlying (Outside n r) = eqb n 0 ≡ false
 
 abbrev pub Numbered : Change → Type 0
@@ -85,7 +87,8 @@ module _ (sizes : List ℕ) (a b : Entry) where
   alu-fails : (op : AluOp) → Failing (aluResult sizes op a b)
   unfolding aluResult
   alu-fails op =
-      cond-both Failing (constants a b) (λ _. tt)
+      cond-both Failing (isFrame a || isFrame b) (λ _. refl)
+      λ _. cond-both Failing (constants a b) (λ _. tt)
       λ _. cond-both Failing (isOr op && isZero a) (λ _. tt)
       λ _. cond-both Failing (isOr op && isZero b) (λ _. tt)
       λ _. cond-both Failing (bothNumbers a b) (λ _. tt) (λ _. rule-fails op)
@@ -114,13 +117,22 @@ module _ (p : Policy) (a : Access) (rs1 : ℕ) where
   unfolding inRegion
   region-outlies r s = cond-both Outlying (ltb (s .lo) bias) (λ _. refl) (λ _. found-outlies s (findField p r _ (reachEnd s (accessWidth a))))
 
-  reach-outlies : (rs2 : ℕ) (x y : Entry) → Outlying (reachOf (p .regions .fields) (p .fields) a rs1 x rs2 y)
-  unfolding reachOf
-  reach-outlies rs2 x y =
+  frame-outlies : (offset : ℕ) → Outlying (inFrame a rs1 offset)
+  unfolding inFrame
+  frame-outlies offset =
+      cond-both Outlying (not (isScratch offset)) (λ _. refl)
+      λ _. cond-both Outlying (not (isWord a)) (λ _. refl) (λ _. tt)
+
+  reach-outlies : (frame : Bool) (rs2 : ℕ) (x y : Entry) → Outlying (reachOf (p .regions .fields) (p .fields) a frame rs1 x rs2 y)
+  unfolding reachOf frameReach
+  reach-outlies frame rs2 x y =
       cond-both Outlying (isStartOrNull x) (λ _. refl)
       λ _. cond-both Outlying (isStartOrNull y) (λ _. refl)
+      λ _. cond-both Outlying frame (λ _. refl)
       λ _. cond-both Outlying (isAddress x && isNumber y) (λ _. region-outlies (x .region) (addSets (x .set) (y .set)))
-      λ _. cond-both Outlying (isNumber x && isAddress y) (λ _. region-outlies (y .region) (addSets (x .set) (y .set))) (λ _. refl)
+      λ _. cond-both Outlying (isNumber x && isAddress y) (λ _. region-outlies (y .region) (addSets (x .set) (y .set)))
+      λ _. cond-both Outlying (isFrame x && isConstant y) (λ _. frame-outlies (wordOf y))
+      λ _. cond-both Outlying (isConstant x && isFrame y) (λ _. frame-outlies (wordOf x)) (λ _. refl)
 
 writing-numbered : (rd rs1 : ℕ) (n : Note) (r : Result) → Failing r → Numbered (writing rd n rs1 r)
 writing-numbered rd rs1 n (Gives e) f = tt
@@ -130,12 +142,17 @@ accessed-numbered : (n : Note) (a : Access) (to rd : ℕ) (e held : Entry) → N
 accessed-numbered n (Loads op) to rd e held = tt
 accessed-numbered n (Stores op) to rd e held = cond-both Numbered (fits e held) (λ _. tt) (λ _. refl)
 
-reached-numbered : (p : Policy) (n : Note) (a : Access) (to rd : ℕ) (e : Entry) (r : Reach) → Outlying r → Numbered (accessedAt p n a to rd e r)
-reached-numbered p n a to rd e (Inside place) o = accessed-numbered n a to rd e (fieldEntry (fieldAt p place))
-reached-numbered p n a to rd e (Outside k r) o = o
-
 if-set : (r : ℕ) (e : Entry) (rest : Change) → Numbered rest → Numbered (ifSet r e rest)
 if-set r e rest n = cond-both Numbered (isUnset e) (λ _. refl) (λ _. n)
+
+kept-numbered : (row : Row) (a : Access) (to : ℕ) (e : Entry) (i : ℕ) → Numbered (keptAt row a to e i)
+kept-numbered row (Loads op) to e i = if-set _ (entryAt row i) _ tt
+kept-numbered row (Stores op) to e i = tt
+
+reached-numbered : (p : Policy) (row : Row) (a : Access) (to rd : ℕ) (r : Reach) → Outlying r → Numbered (accessedAt p row a to rd r)
+reached-numbered p row a to rd (Inside place) o = accessed-numbered (row .note) a to rd (entryAt row rd) (fieldEntry (fieldAt p place))
+reached-numbered p row a to rd (Scratch k) o = kept-numbered row a to (entryAt row rd) _
+reached-numbered p row a to rd (Outside k r) o = o
 
 module _ (n : Note) (to : ℕ) (o : Operands) where
   if-both : (rest : Change) → Numbered rest → Numbered (ifSet (o .rs1) (o .first) (ifSet (o .rs2) (o .second) rest))
@@ -149,18 +166,20 @@ module _ (n : Note) (to : ℕ) (o : Operands) where
   unfolding shiftChange
   shift-numbered op = if-both _ (writing-numbered to (o .rs1) _ (shiftResult op (o .first) (o .second)) (shift-fails [] (o .first) (o .second) op))
 
-  access-numbered : (p : Policy) (a : Access) (rd : ℕ) (e : Entry) → Numbered (accessChange p n a to rd e o)
+  access-numbered : (p : Policy) (row : Row) (a : Access) (rd : ℕ) → Numbered (accessChange p row a to rd o)
   unfolding accessChange
-  access-numbered p a rd e =
+  access-numbered p row a rd =
       if-both _
-      (cond-both Numbered (stores a && isUnset e) (λ _. refl)
-      λ _. reached-numbered p n a to rd e (reachOf (p .regions .fields) (p .fields) a (o .rs1) (o .first) (o .rs2) (o .second)) (reach-outlies p a (o .rs1) (o .rs2) (o .first) (o .second)))
+      (cond-both Numbered (stores a && isUnset (entryAt row rd)) (λ _. refl)
+      λ _. reached-numbered p row a to rd
+      (reachOf (p .regions .fields) (p .fields) a (stores a && isFrame (entryAt row rd)) (o .rs1) (o .first) (o .rs2) (o .second))
+      (reach-outlies p a (o .rs1) (stores a && isFrame (entryAt row rd)) (o .rs2) (o .first) (o .second)))
 
 pub operation-numbered : (p : Policy) (row : Row) (x : Operation) → Numbered (operationChange p row x)
 operation-numbered p row (Sethi rd imm22) = tt
 operation-numbered p row (Alu op cc rd rs1 x) = alu-numbered (row .note) rd (operandsOf row rs1 x) (p .regions .sizes) op cc
 operation-numbered p row (Shift op rd rs1 x) = shift-numbered (row .note) rd (operandsOf row rs1 x) op
-operation-numbered p row (Memory a rd rs1 d) = access-numbered (row .note) (accessWrites a rd) (operandsOf row rs1 (addend d)) p a rd (entryAt row rd)
+operation-numbered p row (Memory a rd rs1 d) = access-numbered (row .note) (accessWrites a rd) (operandsOf row rs1 (addend d)) p row a rd
 
 pub change-numbered : (p : Policy) (row : Row) (x : Instruction) → Numbered (changeOf p row x)
 unfolding branchChange returnChange

@@ -1,9 +1,10 @@
 -- An access that passed the conditions lies where the machine needs it: the field that was found holds every byte from the lowest to the
--- highest offset, so it holds those of the offset that is there; the offsets' grid is a multiple of the width.
+-- highest offset, so it holds those of the offset that is there; the offsets' grid is a multiple of the width. The frame address and the offset of a
+-- scratch word add up to that word's address, since the frame ends below 2^32.
 use Prim.Native.Nat.{ℕ, _+_, _-_, _%_, _≤_, _<_}
-use mathlib.Core.Path.{_≡_, refl, sym, subst}
-use mathlib.Core.Logic.{_⊎_, inl, inr}
-use mathlib.Core.Bool.{true, not, _&&_}
+use mathlib.Core.Path.{_≡_, refl, sym, ap, _∙_, subst}
+use mathlib.Core.Logic.{_⊎_, inl, inr, ⊎-elim}
+use mathlib.Core.Bool.{Bool, true, not, _&&_}
 use native.Mathlib.Omega.{arith}
 use lib.ListN.{getD}
 use lib.Dec.{ltb, eqb}
@@ -24,7 +25,9 @@ use Rattle.policy.specs.Policy.{sizeOf, placeOf, fieldAt, fieldEnd}
 use Rattle.policy.specs.Find.{findField}
 use Rattle.policy.specs.Laws.{WellFormed, FoundHere}
 use Rattle.policy.proofs.FoundField.{found-holds}
-use Rattle.access.specs.Serve.{accessWidth, serves, allows}
+use Rattle.memory.specs.Frame.{scratchOffset, isScratch, scratchAt}
+use Rattle.memory.proofs.Scratch.{scratch-offsets}
+use Rattle.access.specs.Serve.{accessWidth, isWord, serves, allows}
 use Rattle.sets.specs.declared.NumberSet.{NumberSet}
 use Rattle.sets.specs.Sets.{Step, s1, s2, s4, SetRules, Member}
 use Rattle.sets.specs.Rules.{addSets}
@@ -33,15 +36,15 @@ use Rattle.sets.proofs.Steps.{by-step, sum-on, difference-on, finer-on, finer-o
 use Rattle.sets.proofs.Arithmetic.{alu-formed}
 use Rattle.sets.proofs.Offsets.{adds-offset}
 use Rattle.rows.specs.declared.Entry.{Entry}
-use Rattle.rows.specs.Entry.{isNumber, isAddress, isStartOrNull, sizeIn}
+use Rattle.rows.specs.Entry.{isNumber, isAddress, isStartOrNull, isFrame, isConstant, wordOf, sizeIn}
 use Rattle.rows.specs.Matches.{Host, baseOf, Holds}
 use Rattle.rows.specs.Laws.{EntryRules}
-use Rattle.rows.proofs.ByKind.{held-number, held-address, ruled-number, ruled-address}
+use Rattle.rows.proofs.ByKind.{held-number, held-address, held-frame, ruled-number, ruled-address}
 use Rattle.rules.specs.declared.Reach.{Reach}
 use Rattle.rules.specs.declared.Reach.the-variants.{Inside, Outside}
-use Rattle.rules.specs.Reach.{reachEnd, onGrid, inField, inFound, inRegion, reachOf}
-use Rattle.rules.specs.Laws.{Laid, Reached, Reaches}
-use Rattle.rules.proofs.RightResult.{size-in, adds-turn}
+use Rattle.rules.specs.Reach.{reachEnd, onGrid, inField, inFound, inRegion, inFrame, frameReach, reachOf}
+use Rattle.rules.specs.Laws.{Laid, Reached, ReachedScratch, ReachedAs, Reaches}
+use Rattle.rules.proofs.RightResult.{constant-holds, size-in, adds-turn}
 
 -- a width is a step
 pub width-step : (a : Access) → Step (accessWidth a)
@@ -65,11 +68,13 @@ on-width {w} s n o step rules g m e =
     apart : s .lo ≤ n → n ≡ o + bias → s .lo + (n - s .lo) - bias ≡ o
     apart l e = omega arith
 
+turned : (x y : ℕ) → add32 x y ≡ add32 y x
+turned x y = omega arith
+
 module _ (p : Policy) (h : Host) (wf : WellFormed p) (laid : Laid (p .regions .count) (p .regions .sizes) h) (a : Access) (rs1 x y : ℕ) where
-  -- a reach, if it is inside, is as the law says
+  -- a reach is as the law says
   abbrev Good : Reach → Type 0
-  Good (Inside place) = Reached p h a x y place
-  Good (Outside number r) = Unit {0}
+  Good = ReachedAs p h a x y
 
   abbrev Near : ℕ → Type 0
   Near r = ((baseOf h r ≤ x) × (x ≤ baseOf h r + sizeOf p r)) ⊎ ((baseOf h r ≤ y) × (y ≤ baseOf h r + sizeOf p r))
@@ -144,6 +149,30 @@ module _ (p : Policy) (h : Host) (wf : WellFormed p) (laid : Laid (p .regions .c
         cond-both Good (ltb (s .lo) bias) (λ _. tt)
         (λ t. found-good (ltb-false (s .lo) bias t) (findField p r (s .lo - bias) (reachEnd s (accessWidth a))) refl)
 
+  -- the frame address and the offset of a scratch word
+  abbrev Sums : ℕ → Type 0
+  Sums offset = ((x ≡ h .frame) × (y ≡ offset)) ⊎ ((x ≡ offset) × (y ≡ h .frame))
+
+  frame-sum : (offset : ℕ) → offset < 120 → Sums offset → add32 x y ≡ h .frame + offset
+  frame-sum offset l s =
+      ⊎-elim (λ k. at x y (k .0) (k .1) (laid .frame-below)) (λ k. turned x y ∙ at y x (k .1) (k .0) (laid .frame-below)) s
+    where
+      at : (u v : ℕ) → u ≡ h .frame → v ≡ offset → h .frame + 120 < 4294967296 → add32 u v ≡ h .frame + offset
+      at u v p q b = omega arith
+
+  frame-good : (offset : ℕ) → Sums offset → Good (inFrame a rs1 offset)
+  unfolding inFrame
+  frame-good offset s =
+      cond-both Good (not (isScratch offset)) (λ _. tt)
+      λ t. cond-both Good (not (isWord a)) (λ _. tt)
+      λ u. let o = scratch-offsets offset (not-false (isScratch offset) t) in
+      record {
+        word = o .word;
+        wide = not-false (isWord a) u;
+        address = frame-sum offset (o .high) s ∙ ap (λ (n : ℕ). h .frame + n) (o .here);
+        sum = subst Sums (o .here) s;
+      }
+
 -- an address that an entry holds lies in its region
 in-region : (p : Policy) (h : Host) → Laid (p .regions .count) (p .regions .sizes) h → (e : Entry) (v : ℕ) → EntryRules (p .regions .count) (p .regions .sizes) e → isAddress e ≡ true → Holds h e v
     → (baseOf h (e .region) ≤ v) × (v ≤ baseOf h (e .region) + sizeOf p (e .region))
@@ -154,17 +183,15 @@ in-region p h laid e v w k m =
     at : (b hi s t : ℕ) → b ≤ v → v - b + bias ≤ hi → hi ≤ bias + s → s ≡ t → v ≤ b + t
     at b hi s t a c d q = omega arith
 
-turned : (x y : ℕ) → add32 x y ≡ add32 y x
-turned x y = omega arith
-
-module _ (p : Policy) (h : Host) (wf : WellFormed p) (laid : Laid (p .regions .count) (p .regions .sizes) h) (a : Access) (rs1 rs2 : ℕ) (d e : Entry) (x y : ℕ)
+module _ (p : Policy) (h : Host) (wf : WellFormed p) (laid : Laid (p .regions .count) (p .regions .sizes) h) (a : Access) (frame : Bool) (rs1 rs2 : ℕ) (d e : Entry) (x y : ℕ)
     (wd : EntryRules (p .regions .count) (p .regions .sizes) d) (we : EntryRules (p .regions .count) (p .regions .sizes) e) (lx : x < 4294967296) (ly : y < 4294967296)
     (md : Holds h d x) (me : Holds h e y) where
-  reach-good : Good p h wf laid a rs1 x y (reachOf (p .regions .fields) (p .fields) a rs1 d rs2 e)
-  unfolding reachOf
+  reach-good : Good p h wf laid a rs1 x y (reachOf (p .regions .fields) (p .fields) a frame rs1 d rs2 e)
+  unfolding reachOf frameReach
   reach-good =
       cond-both (Good p h wf laid a rs1 x y) (isStartOrNull d) (λ _. tt)
       λ _. cond-both (Good p h wf laid a rs1 x y) (isStartOrNull e) (λ _. tt)
+      λ _. cond-both (Good p h wf laid a rs1 x y) frame (λ _. tt)
       λ _. cond-both (Good p h wf laid a rs1 x y) (isAddress d && isNumber e)
       (λ t. let k = and-went (isAddress d) (isNumber e) t in
       let da = ruled-address (k .0) wd in
@@ -183,8 +210,13 @@ module _ (p : Policy) (h : Host) (wf : WellFormed p) (laid : Laid (p .regions .c
       (λ low high below. subst (Offset (baseOf h (e .region)) (addSets (e .set) (d .set))) (turned y x)
       (adds-offset (e .set) (d .set) (baseOf h (e .region)) (sizeIn (p .regions .sizes) (e .region)) y x (de .set) (ruled-number (k .0) wd) lx below low high
       (held-address (k .1) me) (held-number (k .0) md)))))
+      λ _. cond-both (Good p h wf laid a rs1 x y) (isFrame d && isConstant e)
+      (λ t. let k = and-went (isFrame d) (isConstant e) t in
+      frame-good p h wf laid a rs1 x y (wordOf e) (inl (held-frame (k .0) md, sym (constant-holds h e y ly (k .1) me))))
+      λ _. cond-both (Good p h wf laid a rs1 x y) (isConstant d && isFrame e)
+      (λ t. let k = and-went (isConstant d) (isFrame e) t in
+      frame-good p h wf laid a rs1 x y (wordOf d) (inr (sym (constant-holds h d x lx (k .0) md), held-frame (k .1) me)))
       λ _. tt
 
 pub reaches : Reaches
-reaches p h wf laid a rs1 rs2 d e x y place wd we lx ly md me q =
-    subst (Good p h wf laid a rs1 x y) q (reach-good p h wf laid a rs1 rs2 d e x y wd we lx ly md me)
+reaches = reach-good

@@ -3,7 +3,7 @@
 -- operand on.
 use Prim.Native.Nat.{ℕ, _+_, _%_, _≤_, _<_, min}
 use mathlib.Core.Path.{_≡_, refl, sym, ap, _∙_, subst}
-use mathlib.Core.Bool.{true, _&&_}
+use mathlib.Core.Bool.{true, _&&_, _||_}
 use mathlib.Core.List.{List}
 use native.Mathlib.Omega.{arith}
 use lib.Bits.{or-zero-l, or-zero-r}
@@ -26,7 +26,7 @@ use Rattle.sets.proofs.Arithmetic.{alu-formed, alu-holds}
 use Rattle.sets.proofs.Shifts.{shift-formed, shift-holds}
 use Rattle.sets.proofs.Offsets.{adds-offset, subs-offset}
 use Rattle.rows.specs.declared.Entry.{Entry}
-use Rattle.rows.specs.Entry.{isNumber, isAddress, isStartOrNull, isZero, isConstant, wordOf, constant, numberIn, sizeIn}
+use Rattle.rows.specs.Entry.{isNumber, isAddress, isStartOrNull, isFrame, isZero, isConstant, wordOf, constant, numberIn, sizeIn}
 use Rattle.rows.specs.Matches.{Host, baseOf, Holds}
 use Rattle.rows.specs.Laws.{EntryRules}
 use Rattle.rows.proofs.ByKind.{holds-number, holds-address, held-number, held-address, number-rules, address-rules, ruled-number, ruled-address}
@@ -172,7 +172,8 @@ module _ (regions : ℕ) (sizes : List ℕ) (h : Host) where
 pub alu-right : AluRight
 unfolding aluResult
 alu-right regions sizes h laid op a b x y wa wb lx ly ma mb =
-    cond-both R (constants a b) (given-constants regions sizes h (aluOf op) a b x y lx ly ma mb)
+    cond-both R (isFrame a || isFrame b) (λ _. tt)
+    λ _. cond-both R (constants a b) (given-constants regions sizes h (aluOf op) a b x y lx ly ma mb)
     λ _. cond-both R (isOr op && isZero a)
     (λ t. let p = and-went (isOr op) (isZero a) t in (wb, subst (Holds h b) (or-left op x y (p .0) (zero-holds h a x lx (p .1) ma)) mb))
     λ _. cond-both R (isOr op && isZero b)

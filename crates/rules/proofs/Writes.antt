@@ -1,4 +1,4 @@
--- A row that is written as the register is matches, and notes stay right: the entry of the register written is the new one, the others are as
+-- A row that is written as the register or scratch word is matches, and notes stay right: the entry written is the new one, the others are as
 -- they were; a note of the register written becomes "set".
 use Prim.Native.Nat.{ℕ, _≤_, _<_}
 use mathlib.Core.Path.{_≡_, refl, sym, ap, _∙_, subst}
@@ -18,6 +18,7 @@ use Rattle.rows.specs.declared.Entry.{Entry}
 use Rattle.rows.specs.declared.Note.{Note}
 use Rattle.rows.specs.declared.Row.{Row}
 use Rattle.rows.specs.Entry.{noEntry, isConstant, isComparison, codesSet, comparison}
+use Rattle.rows.specs.Geometry.{entryCount}
 use Rattle.rows.specs.Row.{entryAt, entriesWith, rowWith}
 use Rattle.rows.specs.Matches.{Host, Holds, Matches, Held, NoteMatches}
 use Rattle.rows.specs.Laws.{EntryRules}
@@ -27,18 +28,18 @@ use Rattle.rules.specs.Change.{noteAfter, codesNote}
 use Rattle.rules.specs.Laws.{Wrote, WritesRow, KeepsNote, MakesNote}
 use Rattle.rules.proofs.RightResult.{constant-holds}
 
--- register r of the row written, whatever is asked of what stands there
+-- entry r of the row written, whatever is asked of what stands there
 module _ (P : ℕ → Entry → Type 0) (row : Row) (rd : ℕ) (e : Entry) (n : Note) (old : (r : ℕ) → P r noEntry) where
   -- where nothing is written, and elsewhere, the old entry
   pub entry-after : (r : ℕ)
-      → (1 ≤ rd → rd < 32 → r ≡ rd → P r e) → ((r ≡ rd → 1 ≤ rd → rd < 32 → ⊥) → P r (entryAt row r)) → P r (entryAt (rowWith row rd e n) r)
+      → (1 ≤ rd → rd < entryCount → r ≡ rd → P r e) → ((r ≡ rd → 1 ≤ rd → rd < entryCount → ⊥) → P r (entryAt row r)) → P r (entryAt (rowWith row rd e n) r)
   unfolding entryAt entriesWith
   entry-after r here other =
-      cond-both (λ (es : List Entry). P r (cond (ltb r 32) (getD es r noEntry) noEntry)) (eqb rd 0)
+      cond-both (λ (es : List Entry). P r (cond (ltb r entryCount) (getD es r noEntry) noEntry)) (eqb rd 0)
       (λ t. other (λ _ q _. omega (arith, eqb-true rd 0 t)))
-      λ t. cond-both (λ (es : List Entry). P r (cond (ltb r 32) (getD es r noEntry) noEntry)) (ltb rd 32)
-      (λ u. at (eqb r rd) refl (eqb-false rd 0 t) (ltb-true rd 32 u))
-      λ u. other (λ _ _ q. omega (arith, ltb-false rd 32 u))
+      λ t. cond-both (λ (es : List Entry). P r (cond (ltb r entryCount) (getD es r noEntry) noEntry)) (ltb rd entryCount)
+      (λ u. at (eqb r rd) refl (eqb-false rd 0 t) (ltb-true rd entryCount u))
+      λ u. other (λ _ _ q. omega (arith, ltb-false rd entryCount u))
     where
       some : (rd ≡ 0 → ⊥) → 1 ≤ rd
       some z = omega arith
@@ -51,9 +52,9 @@ module _ (P : ℕ → Entry → Type 0) (row : Row) (rd : ℕ) (e : Entry) (n : 
           (sym (ap (λ (k : ℕ). getD (set (row .entries) rd e) k noEntry) q ∙ List·getD-eq-default (set (row .entries) rd e) noEntry (rw (length-set (row .entries) rd e) (ltb-false rd (length (row .entries)) l))))
           (old r)
 
-      at : (t : Bool) → eqb r rd ≡ t → (rd ≡ 0 → ⊥) → rd < 32 → P r (cond (ltb r 32) (getD (set (row .entries) rd e) r noEntry) noEntry)
+      at : (t : Bool) → eqb r rd ≡ t → (rd ≡ 0 → ⊥) → rd < entryCount → P r (cond (ltb r entryCount) (getD (set (row .entries) rd e) r noEntry) noEntry)
       at true q z l =
-          cond-both (P r) (ltb r 32) (λ _. in-list (eqb-true r rd q) (here (some z) l (eqb-true r rd q)) (ltb rd (length (row .entries))) refl) (λ _. old r)
+          cond-both (P r) (ltb r entryCount) (λ _. in-list (eqb-true r rd q) (here (some z) l (eqb-true r rd q)) (ltb rd (length (row .entries))) refl) (λ _. old r)
       at false q z l =
           rw (getD-set-other (row .entries) rd r e noEntry (eqb-false r rd q)) (other (λ p _ _. eqb-false r rd q p))
 

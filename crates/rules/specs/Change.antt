@@ -24,14 +24,14 @@ use Rattle.access.specs.Serve.{addend}
 use Rattle.rows.specs.declared.Entry.{Entry}
 use Rattle.rows.specs.declared.Note.{Note}
 use Rattle.rows.specs.declared.Row.{Row}
-use Rattle.rows.specs.Entry.{isUnset, isConstant, isReturn, constant, fits, fieldEntry, isComparison, codesSet, comparison}
-use Rattle.rows.specs.Geometry.{noteName}
+use Rattle.rows.specs.Entry.{isUnset, isConstant, isReturn, isFrame, constant, fits, fieldEntry, isComparison, codesSet, comparison}
+use Rattle.rows.specs.Geometry.{scratchEntry, noteName, entryName}
 use Rattle.rows.specs.Row.{entryAt}
 use Rattle.rules.specs.declared.Operands.{Operands}
 use Rattle.rules.specs.declared.Result.{Result}
 use Rattle.rules.specs.declared.Result.the-variants.{Gives, Fails}
 use Rattle.rules.specs.declared.Reach.{Reach}
-use Rattle.rules.specs.declared.Reach.the-variants.{Inside, Outside}
+use Rattle.rules.specs.declared.Reach.the-variants.{Inside, Scratch, Outside}
 use Rattle.rules.specs.declared.Change.{Change}
 use Rattle.rules.specs.declared.Change.the-variants.{Writes, Keeps, Breaks}
 use Rattle.rules.specs.Result.{isSub, aluResult, shiftResult}
@@ -91,24 +91,32 @@ abbrev pub accessed : Note → Access → ℕ → ℕ → Entry → Entry → Ch
 accessed n (Loads op) to rd e held = Writes to held (noteAfter n to)
 accessed n (Stores op) to rd e held = cond (fits e held) Keeps (Breaks wrongValue rd)
 
--- the same, by where the access lies
-abbrev pub accessedAt : Policy → Note → Access → ℕ → ℕ → Entry → Reach → Change
-accessedAt p n a to rd e (Inside place) = accessed n a to rd e (fieldEntry (fieldAt p place))
-accessedAt p n a to rd e (Outside number r) = Breaks number r
+-- an access of a register, whose entry is e, to a scratch word whose entry has an index: "LD and ST through r14 with a single number read or replace
+-- the scratch entry"; "4 for an unset word"
+abbrev pub keptAt : Row → Access → ℕ → Entry → ℕ → Change
+keptAt row (Loads op) to e i = ifSet (entryName i) (entryAt row i) (Writes to (entryAt row i) (noteAfter (row .note) to))
+keptAt row (Stores op) to e i = Writes i e (row .note)
 
--- a load, or a store of rd, whose entry is e, at the sum of a word's operands
-unfoldable pub accessChange : Policy → Note → Access → ℕ → ℕ → Entry → Operands → Change
-accessChange p n a to rd e o =
+-- the same of rd, by where the access lies
+abbrev pub accessedAt : Policy → Row → Access → ℕ → ℕ → Reach → Change
+accessedAt p row a to rd (Inside place) = accessed (row .note) a to rd (entryAt row rd) (fieldEntry (fieldAt p place))
+accessedAt p row a to rd (Scratch k) = keptAt row a to (entryAt row rd) (scratchEntry k)
+accessedAt p row a to rd (Outside number r) = Breaks number r
+
+-- a load, or a store of rd, at the sum of a word's operands
+unfoldable pub accessChange : Policy → Row → Access → ℕ → ℕ → Operands → Change
+accessChange p row a to rd o =
     ifSet (o .rs1) (o .first) (ifSet (o .rs2) (o .second)
-    (cond (stores a && isUnset e) (Breaks unsetOperand rd)
-    (accessedAt p n a to rd e (reachOf (p .regions .fields) (p .fields) a (o .rs1) (o .first) (o .rs2) (o .second)))))
+    (cond (stores a && isUnset (entryAt row rd)) (Breaks unsetOperand rd)
+    (accessedAt p row a to rd
+    (reachOf (p .regions .fields) (p .fields) a (stores a && isFrame (entryAt row rd)) (o .rs1) (o .first) (o .rs2) (o .second)))))
 
 -- what an operation that writes a register does to a row
 abbrev pub changeTo : Policy → Row → ℕ → Operation → Change
 changeTo p row to (Sethi rd imm22) = Writes to (constant (sethiOf imm22)) (noteAfter (row .note) to)
 changeTo p row to (Alu op cc rd rs1 x) = aluChange (p .regions .sizes) (row .note) op cc to (operandsOf row rs1 x)
 changeTo p row to (Shift op rd rs1 x) = shiftChange (row .note) op to (operandsOf row rs1 x)
-changeTo p row to (Memory a rd rs1 d) = accessChange p (row .note) a to rd (entryAt row rd) (operandsOf row rs1 (addend d))
+changeTo p row to (Memory a rd rs1 d) = accessChange p row a to rd (operandsOf row rs1 (addend d))
 
 -- .. by the one definition of which that is
 abbrev pub operationChange : Policy → Row → Operation → Change

@@ -3,7 +3,7 @@
 use Prim.Native.Nat.{ℕ, _+_, _-_, _%_, _≤_, _<_}
 use mathlib.Core.Path.{_≡_}
 use mathlib.Core.Logic.{_⊎_}
-use mathlib.Core.Bool.{true}
+use mathlib.Core.Bool.{Bool, true}
 use mathlib.Core.List.{List}
 use lib.ListN.{getD}
 use Rattle.v8.specs.Signed.{bias}
@@ -17,23 +17,27 @@ use Rattle.policy.specs.declared.Policy.{Policy}
 use Rattle.policy.specs.Policy.{sizeOf, countOf, placeOf, fieldAt, fieldEnd}
 use Rattle.policy.specs.Find.{fieldHolding}
 use Rattle.policy.specs.Laws.{WellFormed}
-use Rattle.access.specs.Serve.{accessWidth, serves, allows}
+use Rattle.memory.specs.Frame.{frameBytes, scratchCount, scratchOffset}
+use Rattle.access.specs.Serve.{accessWidth, isWord, serves, allows}
 use Rattle.sets.specs.declared.NumberSet.{NumberSet}
 use Rattle.rows.specs.declared.Entry.{Entry}
 use Rattle.rows.specs.declared.Note.{Note}
 use Rattle.rows.specs.declared.Row.{Row}
+use Rattle.rows.specs.Geometry.{entryCount}
 use Rattle.rows.specs.Row.{rowWith}
 use Rattle.rows.specs.Matches.{Host, baseOf, Holds, Held, NoteMatches, RowMatches}
 use Rattle.rows.specs.Laws.{EntryRules, RowRules}
 use Rattle.rules.specs.declared.Result.{Result}
 use Rattle.rules.specs.declared.Result.the-variants.{Gives, Fails}
-use Rattle.rules.specs.declared.Reach.the-variants.{Inside}
+use Rattle.rules.specs.declared.Reach.{Reach}
+use Rattle.rules.specs.declared.Reach.the-variants.{Inside, Scratch, Outside}
 use Rattle.rules.specs.Result.{aluResult, shiftResult}
 use Rattle.rules.specs.Reach.{reachEnd, inFound, inRegion, reachOf}
 use Rattle.rules.specs.Change.{noteAfter, codesNote}
 use Rattle.rules.specs.Narrow.{RowLeft, left, nothing, narrowRow}
 
--- the regions as the host must lay them: "bases are nonzero multiples of 8, base + size is below 2^32, regions are disjoint"
+-- the regions as the host must lay them: "bases are nonzero multiples of 8, base + size is below 2^32, regions are disjoint"; request 7: "The frame
+-- address is a nonzero multiple of 8, with 120 added it is below 2^32, and the frame overlaps no region"
 pub record Laid (regions : ℕ) (sizes : List ℕ) (h : Host) : Type 0 where
   pub regions-most : regions ≤ 8
   pub some : (r : ℕ) → r < regions → 1 ≤ baseOf h r
@@ -42,6 +46,11 @@ pub record Laid (regions : ℕ) (sizes : List ℕ) (h : Host) : Type 0 where
   -- an address lies in one region
   pub one : (r q a : ℕ) → r < regions → q < regions → baseOf h r ≤ a → a < baseOf h r + getD sizes r 0
       → baseOf h q ≤ a → a < baseOf h q + getD sizes q 0 → r ≡ q
+  pub frame-some : 1 ≤ h .frame
+  pub frame-aligned : h .frame % 8 ≡ 0
+  pub frame-below : h .frame + frameBytes < 4294967296
+  -- no address lies in a region and in the frame
+  pub frame-apart : (r a : ℕ) → r < regions → baseOf h r ≤ a → a < baseOf h r + getD sizes r 0 → h .frame ≤ a → a < h .frame + frameBytes → ⊥
 
 module _ (regions : ℕ) (sizes : List ℕ) (h : Host) where
   -- a result, if there is one, is well formed and holds the word
@@ -67,12 +76,12 @@ ShiftRight =
     → (op : ShiftOp) (a b : Entry) (x y : ℕ) → EntryRules regions sizes a → EntryRules regions sizes b → x < 4294967296 → y < 4294967296
     → Holds h a x → Holds h b y → Right regions sizes h (shiftResult op a b) (shiftOf op x y)
 
--- register rd has been written with v: "writes to it vanish" for r0
+-- register or scratch word rd, by the index of its entry, has been written with v: "writes to it vanish" for r0
 pub record Wrote (g g′ : Held) (rd v : ℕ) : Type 0 where
-  pub here : 1 ≤ rd → rd < 32 → (g′ .mark rd ≡ true) × (g′ .value rd ≡ v)
-  pub others : (r : ℕ) → (r ≡ rd → 1 ≤ rd → rd < 32 → ⊥) → (g′ .mark r ≡ g .mark r) × (g′ .value r ≡ g .value r)
+  pub here : 1 ≤ rd → rd < entryCount → (g′ .mark rd ≡ true) × (g′ .value rd ≡ v)
+  pub others : (r : ℕ) → (r ≡ rd → 1 ≤ rd → rd < entryCount → ⊥) → (g′ .mark r ≡ g .mark r) × (g′ .value r ≡ g .value r)
 
--- A row that is written as the register is stays well formed and matches, whatever note matches then.
+-- A row that is written as the register or scratch word is stays well formed and matches, whatever note matches then.
 abbrev pub WritesRow : Type 0
 WritesRow =
     (regions : ℕ) (sizes : List ℕ) (h : Host) (row : Row) (g g′ : Held) (rd v : ℕ) (e : Entry) (n : Note)
@@ -109,11 +118,27 @@ pub record Reached (p : Policy) (h : Host) (a : Access) (x y place : ℕ) : Type
   pub allowing : allows a (fieldAt p place .permission) ≡ true
   pub near : ((baseOf h region ≤ x) × (x ≤ baseOf h region + sizeOf p region)) ⊎ ((baseOf h region ≤ y) × (y ≤ baseOf h region + sizeOf p region))
 
+-- an access that passed the conditions as one of a scratch word: it is of a word, at the address of that one, and of the two numbers that it adds
+-- one is the frame address and the other the word's offset
+pub record ReachedScratch (h : Host) (a : Access) (x y k : ℕ) : Type 0 where
+  pub word : k < scratchCount
+  pub wide : isWord a ≡ true
+  pub address : add32 x y ≡ h .frame + scratchOffset k
+  pub sum : ((x ≡ h .frame) × (y ≡ scratchOffset k)) ⊎ ((x ≡ scratchOffset k) × (y ≡ h .frame))
+
+-- what is reached is as the records say
+abbrev pub ReachedAs : Policy → Host → Access → ℕ → ℕ → Reach → Type 0
+ReachedAs p h a x y (Inside place) = Reached p h a x y place
+ReachedAs p h a x y (Scratch k) = ReachedScratch h a x y k
+ReachedAs p h a x y (Outside number r) = Unit {0}
+
 abbrev pub Reaches : Type 0
 Reaches =
     (p : Policy) (h : Host) → WellFormed p → Laid (p .regions .count) (p .regions .sizes) h
-    → (a : Access) (rs1 rs2 : ℕ) (d e : Entry) (x y place : ℕ) → EntryRules (p .regions .count) (p .regions .sizes) d → EntryRules (p .regions .count) (p .regions .sizes) e
-    → x < 4294967296 → y < 4294967296 → Holds h d x → Holds h e y → reachOf (p .regions .fields) (p .fields) a rs1 d rs2 e ≡ Inside place → Reached p h a x y place
+    → (a : Access) (frame : Bool) (rs1 rs2 : ℕ) (d e : Entry) (x y : ℕ)
+    → EntryRules (p .regions .count) (p .regions .sizes) d → EntryRules (p .regions .count) (p .regions .sizes) e
+    → x < 4294967296 → y < 4294967296 → Holds h d x → Holds h e y
+    → ReachedAs p h a x y (reachOf (p .regions .fields) (p .fields) a frame rs1 d rs2 e)
 
 -- 7 and what comes after it are of the lowest field of the region that holds the bytes, though the search ends early (document 02, request 3: "No outcome
 -- changes"). The machine's locating is told exactly by `access`' laws.

@@ -1,6 +1,6 @@
 -- What an instruction makes of its operands' entries (document 01, "What each word does to a row": "First matching rule", rules 1 to 6).
 use Prim.Native.Nat.{ℕ, _+_, _%_}
-use mathlib.Core.Bool.{Bool, true, false, cond, _&&_}
+use mathlib.Core.Bool.{Bool, true, false, cond, _&&_, _||_}
 use mathlib.Core.List.{List}
 use lib.Dec.{leb}
 use Rattle.v8.specs.Signed.{bias}
@@ -15,7 +15,7 @@ use Rattle.sets.specs.Rules.{addSets, subSets, aluSets, shiftSet}
 use Rattle.rows.specs.declared.Entry.{Entry}
 use Rattle.rules.specs.declared.Result.{Result}
 use Rattle.rules.specs.declared.Result.the-variants.{Gives, Fails}
-use Rattle.rows.specs.Entry.{isNumber, isAddress, isStartOrNull, isZero, isConstant, wordOf, constant, numberIn, addressIn, sizeIn}
+use Rattle.rows.specs.Entry.{isNumber, isAddress, isStartOrNull, isFrame, isZero, isConstant, wordOf, constant, numberIn, addressIn, sizeIn}
 
 -- both operands are single numbers, both are numbers
 abbrev pub constants : Entry → Entry → Bool
@@ -75,15 +75,16 @@ isSub Andn = false
 isSub Orn = false
 isSub Xnor = false
 
--- what arithmetic and logic make: 1 "All operands single numbers: the number V8 gives"; 2 "OR, ORcc with one operand the single 0: the other
+-- what arithmetic and logic make: request 7, "6 for any other use of the frame"; 1 "All operands single numbers: the number V8 gives"; 2 "OR, ORcc with one operand the single 0: the other
 -- operand's entry (first operand tested first)"; 3 and 5 on numbers; 4 on addresses
 unfoldable pub aluResult : List ℕ → AluOp → Entry → Entry → Result
 aluResult sizes op a b =
-    cond (constants a b) (Gives (constant (aluOf op (wordOf a) (wordOf b))))
+    cond (isFrame a || isFrame b) (Fails noRule)
+    (cond (constants a b) (Gives (constant (aluOf op (wordOf a) (wordOf b))))
     (cond (isOr op && isZero a) (Gives b)
     (cond (isOr op && isZero b) (Gives a)
     (cond (bothNumbers a b) (Gives (numberIn (aluSets op (a .set) (b .set))))
-    (addressRule sizes op a b))))
+    (addressRule sizes op a b)))))
 
 -- 6. "Shifts of numbers by a single count s"; "Other number counts: full."
 unfoldable pub shiftResult : ShiftOp → Entry → Entry → Result

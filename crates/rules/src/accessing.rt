@@ -1,6 +1,9 @@
 // Loads and stores (specs/Change.antt).
 ghost use mathlib.Core.Path.{_≡_};
-ghost use Rattle.rules.specs.Change.{stores, accessed, accessChange};
+ghost use Rattle.memory.specs.Frame.{scratchCount};
+ghost use Prim.Native.Nat.{_<_};
+ghost use Rattle.rows.specs.Geometry.{scratchEntry};
+ghost use Rattle.rules.specs.Change.{stores, accessed, keptAt, accessChange};
 use crate::Change;
 use crate::Operands;
 use crate::Reach;
@@ -10,9 +13,14 @@ use policy::Policy;
 use policy::field_in;
 use rows::Entry;
 use rows::Note;
+use rows::Row;
+use rows::entries::FRAME_ADDRESS;
 use rows::entries::UNSET;
+use rows::entry_at;
 use rows::field_entry;
 use rows::fits;
+use rows::geometry::scratch_entry;
+use rows::geometry::scratch_name;
 use v8::Access;
 use v8::numbers::UNSET_OPERAND;
 use v8::numbers::WRONG_VALUE;
@@ -33,6 +41,26 @@ fn accessed(n: Note, a: Access, to: u8, rd: u8, e: Entry, held: Entry) -> Change
     }
 }
 
+// An access of a register, whose entry is `e`, to scratch word k: a load writes the entry kept there to
+// its register, `to`, and a store keeps `e`.
+fn kept_at(row: Row, a: Access, to: u8, e: Entry, k: u8) -> Change
+    requires { ⌜ k < scratchCount ⌝ }
+    ensures { λ r. ⌜ r ≡ keptAt row a to e (scratchEntry k) ⌝ }
+{
+    let i = scratch_entry(k);
+    let note = row.note;
+    match a {
+        Access::Loads(_) => {
+            let held = entry_at(row, i);
+            if held.kind == UNSET {
+                return Change::Breaks(UNSET_OPERAND, scratch_name(k));
+            }
+            Change::Writes(to, held, note_after(note, to))
+        }
+        Access::Stores(_) => Change::Writes(i, e, note),
+    }
+}
+
 // Whether an access reads rd, as a store does.
 fn stores(a: Access) -> bool
     ensures { λ r. ⌜ r ≡ stores a ⌝ }
@@ -43,25 +71,19 @@ fn stores(a: Access) -> bool
     }
 }
 
-// A load to the register `to`, or a store of rd, whose entry is `e`, at the sum of a word's operands.
-pub fn access_change(
-    policy: Policy,
-    n: Note,
-    a: Access,
-    to: u8,
-    rd: u8,
-    e: Entry,
-    o: Operands,
-) -> Change
-    ensures { λ r. ⌜ r ≡ accessChange policy n a to rd e o ⌝ }
+// A load to the register `to`, or a store of rd, at the sum of a word's operands.
+pub fn access_change(policy: Policy, row: Row, a: Access, to: u8, rd: u8, o: Operands) -> Change
+    ensures { λ r. ⌜ r ≡ accessChange policy row a to rd o ⌝ }
 {
+    let e = entry_at(row, rd);
     if o.first.kind == UNSET {
         return Change::Breaks(UNSET_OPERAND, o.rs1);
     }
     if o.second.kind == UNSET {
         return Change::Breaks(UNSET_OPERAND, o.rs2);
     }
-    if stores(a) & (e.kind == UNSET) {
+    let reads = stores(a);
+    if reads & (e.kind == UNSET) {
         return Change::Breaks(UNSET_OPERAND, rd);
     }
     match reach_of(
@@ -71,6 +93,7 @@ pub fn access_change(
         &policy.fields.offsets,
         &policy.fields.counts,
         a,
+        reads & (e.kind == FRAME_ADDRESS),
         o,
     ) {
         Reach::Inside(place) => {
@@ -84,8 +107,9 @@ pub fn access_change(
                 &policy.values.highs,
                 place,
             );
-            accessed(n, a, to, rd, e, field_entry(f))
+            accessed(row.note, a, to, rd, e, field_entry(f))
         }
+        Reach::Scratch(k) => kept_at(row, a, to, e, k),
         Reach::Outside(number, named) => Change::Breaks(number, named),
     }
 }

@@ -100,7 +100,7 @@ fn operation_change(policy: Policy, row: Row, x: Operation) -> Change
             displacement,
         } => {
             let o = operands_of(row, rs1, addend_of(displacement));
-            access_change(policy, row.note, access, to, rd, entry_at(row, rd), o)
+            access_change(policy, row, access, to, rd, o)
         }
     }
 }

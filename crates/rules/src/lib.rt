@@ -38,15 +38,16 @@ pub enum Result {
     Fails(u8),
 }
 
-// Where an access lies: the place of its field in the policy, or the number of the condition that is
-// broken and the register named.
+// Where an access lies: the place of its field in the policy, the scratch word that it is of, or the
+// number of the condition that is broken and the register named.
 pub enum Reach {
     Inside(usize),
+    Scratch(u8),
     Outside(u8, u8),
 }
 
-// What a word does to a row: it writes a register and leaves a note, it keeps the row, or it breaks a
-// condition, given by its number and the register named.
+// What a word does to a row: it writes an entry, a register's or a scratch word's, and leaves a note;
+// it keeps the row; or it breaks a condition, given by its number and the register named.
 pub enum Change {
     Writes(u8, Entry, Note),
     Keeps,

@@ -3,19 +3,26 @@
 ghost use mathlib.Core.Path.{_≡_};
 ghost use Prim.Native.Nat.{_-_, _<_, _≤_};
 ghost use Rattle.access.specs.Serve.{accessWidth};
-ghost use Rattle.rules.specs.Reach.{reachEnd, onGrid, inField, inRegion, reachOf};
+ghost use Rattle.rules.specs.Reach.{reachEnd, onGrid, inField, inRegion, inFrame, frameReach, reachOf};
 ghost use Rattle.policy.specs.Policy.{fieldsFrom};
 ghost use Rattle.v8.specs.Signed.{bias};
 use crate::Operands;
 use crate::Reach;
+use crate::results::word_of;
 use access::allowed;
+use access::is_word;
 use access::serves_element;
 use access::width_of;
+use memory::frame::is_scratch;
+use memory::frame::scratch_at;
 use policy::Found;
 use policy::find_in;
+use rows::Entry;
 use rows::entries::ADDRESS;
+use rows::entries::FRAME_ADDRESS;
 use rows::entries::NUMBER;
 use rows::entries::START_OR_NULL;
+use rows::entries::is_constant;
 use sets::NumberSet;
 use sets::add_sets;
 use v8::Access;
@@ -102,7 +109,35 @@ fn in_region<'a>(
     }
 }
 
-// Where an access lies whose address is the sum of its operands.
+// Where an access to an offset of the frame lies: at a scratch word, if it is of a word.
+fn in_frame(a: Access, rs1: u8, offset: u32) -> Reach
+    ensures { λ r. ⌜ r ≡ inFrame a rs1 offset ⌝ }
+{
+    let at = ByteOffset(offset);
+    if !is_scratch(at) {
+        return Reach::Outside(OUTSIDE_FIELDS, rs1);
+    }
+    if !is_word(a) {
+        return Reach::Outside(WRONG_ELEMENT, rs1);
+    }
+    Reach::Scratch(scratch_at(at))
+}
+
+// Where an access lies that adds no region's address: at an offset of the frame, or there is no rule.
+fn frame_reach(a: Access, rs1: u8, x: Entry, y: Entry) -> Reach
+    ensures { λ r. ⌜ r ≡ frameReach a rs1 x y ⌝ }
+{
+    if (x.kind == FRAME_ADDRESS) & is_constant(y) {
+        return in_frame(a, rs1, word_of(y));
+    }
+    if is_constant(x) & (y.kind == FRAME_ADDRESS) {
+        return in_frame(a, rs1, word_of(x));
+    }
+    Reach::Outside(NO_RULE, rs1)
+}
+
+// Where an access lies whose address is the sum of its operands; `frame` says that it would store the
+// frame address.
 pub fn reach_of<'a>(
     fields: &'a [u8; 8],
     elements: &'a [u8; 128],
@@ -110,12 +145,13 @@ pub fn reach_of<'a>(
     offsets: &'a [u32; 128],
     counts: &'a [u16; 128],
     a: Access,
+    frame: bool,
     o: Operands,
 ) -> Reach
     ensures { λ r. ⌜
         r
         ≡ reachOf (now (fields .entry))
-        (fieldsFrom (now (elements .entry)) (now (permissions .entry)) (now (offsets .entry)) (now (counts .entry))) a (o .rs1)
+        (fieldsFrom (now (elements .entry)) (now (permissions .entry)) (now (offsets .entry)) (now (counts .entry))) a frame (o .rs1)
         (o .first) (o .rs2) (o .second)
         ⌝ }
 {
@@ -126,6 +162,9 @@ pub fn reach_of<'a>(
     }
     if y.kind == START_OR_NULL {
         return Reach::Outside(MAYBE_NULL, o.rs2);
+    }
+    if frame {
+        return Reach::Outside(NO_RULE, o.rs1);
     }
     if (x.kind == ADDRESS) & (y.kind == NUMBER) {
         let s = add_sets(x.set, y.set);
@@ -155,5 +194,5 @@ pub fn reach_of<'a>(
             s,
         );
     }
-    Reach::Outside(NO_RULE, o.rs1)
+    frame_reach(a, o.rs1, x, y)
 }

@@ -8,6 +8,7 @@ use alu::alu;
 use alu::shift;
 use rows::Entry;
 use rows::entries::ADDRESS;
+use rows::entries::FRAME_ADDRESS;
 use rows::entries::NUMBER;
 use rows::entries::START_OR_NULL;
 use rows::entries::address_in;
@@ -30,7 +31,7 @@ use v8::signed::BIAS;
 use v8::signed::excess;
 
 // The word of a single number.
-fn word_of(e: Entry) -> u32
+pub fn word_of(e: Entry) -> u32
     ensures { λ r. ⌜ r ≡ wordOf e ⌝ }
 {
     excess(e.set.lo)
@@ -139,6 +140,9 @@ pub fn is_sub(op: AluOp) -> bool
 pub fn alu_result(sizes: &[u16; 8], op: AluOp, a: Entry, b: Entry) -> Result
     ensures { λ r. ⌜ r ≡ aluResult (now (sizes .entry)) op a b ⌝ }
 {
+    if (a.kind == FRAME_ADDRESS) | (b.kind == FRAME_ADDRESS) {
+        return Result::Fails(NO_RULE);
+    }
     let constants = both_constants(a, b);
     let numbers = both_numbers(a, b);
     let or = is_or(op);

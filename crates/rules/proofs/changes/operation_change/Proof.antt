@@ -45,9 +45,6 @@ addend-of-requires c κs = search needs
 operands-of-requires-3 : tie.Need-operands-of-requires-3
 operands-of-requires-3 c κs = search needs
 
-entry-at-requires : tie.Need-entry-at-requires
-entry-at-requires c κs = search needs
-
 access-change-requires : tie.Need-access-change-requires
 access-change-requires c κs = search needs
 
@@ -68,9 +65,9 @@ returns-3 c =
 
 returns-4 : tie.Need-returns-4
 returns-4 c =
-    let at-x = c .before .before .before .before .before in
+    let at-x = c .before .before .before .before in
     rw
-    (← at-x .before .before .operation-writes .ensures, at-x .x4 .given .1, ← c .before .entry-at .ensures, ← c .before .before .before .addend-of .ensures, ← c .before .before .operands-of3 .ensures)
+    (← at-x .before .before .operation-writes .ensures, at-x .x4 .given .1, ← c .before .before .addend-of .ensures, ← c .before .operands-of3 .ensures)
     (c .access-change .ensures)
 
 pub operation-change-spec : {M : Type 1} → statement M
@@ -91,7 +88,6 @@ operation-change-spec =
     enum-known-x-4
     addend-of-requires
     operands-of-requires-3
-    entry-at-requires
     access-change-requires
     returns
     returns-2

@@ -5,6 +5,10 @@ use borrow.Author.Needs.{needs}
 use Rattle.rules.proofs.results.alu_result.Statement.{statement}
 use Rattle.rules.proofs.results.alu_result.Tie as tie
 
+returns : tie.Need-returns
+unfolding aluResult
+returns c = rw (c .if1 .taken)
+
 both-constants-requires : tie.Need-both-constants-requires
 both-constants-requires c κs = search needs
 
@@ -26,32 +30,32 @@ alu-requires c κs = search needs
 constant-requires : tie.Need-constant-requires
 constant-requires c κs = search needs
 
-returns : tie.Need-returns
+returns-2 : tie.Need-returns-2
 unfolding aluResult
-returns c =
+returns-2 c =
     let one = c .before .before .before .before in
     rw
-    (sym (one .before .before .before .both-constants .ensures) ∙ one .if1 .taken, c .constant .ensures, c .before .alu .ensures, c .before .before .word-of2 .ensures, c .before .before .before .word-of .ensures)
+    (one .before .before .before .before .if1 .left, sym (one .before .before .before .both-constants .ensures) ∙ one .if2 .taken, c .constant .ensures, c .before .alu .ensures, c .before .before .word-of2 .ensures, c .before .before .before .word-of .ensures)
 
 is-zero-requires : tie.Need-is-zero-requires
 is-zero-requires c κs = search needs
 
-returns-2 : tie.Need-returns-2
+returns-3 : tie.Need-returns-3
 unfolding aluResult
-returns-2 c =
+returns-3 c =
     let one = c .before .before in
-    rw (← one .before .before .before .both-constants .ensures, one .if1 .left, ← one .before .is-or .ensures, ← c .before .is-zero .ensures, c .if2 .taken)
+    rw (one .before .before .before .before .if1 .left, ← one .before .before .before .both-constants .ensures, one .if2 .left, ← one .before .is-or .ensures, ← c .before .is-zero .ensures, c .if3 .taken)
 
 is-zero-requires-2 : tie.Need-is-zero-requires-2
 is-zero-requires-2 c κs = search needs
 
-returns-3 : tie.Need-returns-3
+returns-4 : tie.Need-returns-4
 unfolding aluResult
-returns-3 c =
+returns-4 c =
     let two = c .before .before in
     let one = two .before .before in
     rw
-    (← one .before .before .before .both-constants .ensures, one .if1 .left, ← one .before .is-or .ensures, ← two .before .is-zero .ensures, two .if2 .left, ← c .before .is-zero2 .ensures, c .if3 .taken)
+    (one .before .before .before .before .if1 .left, ← one .before .before .before .both-constants .ensures, one .if2 .left, ← one .before .is-or .ensures, ← two .before .is-zero .ensures, two .if3 .left, ← c .before .is-zero2 .ensures, c .if4 .taken)
 
 alu-sets-requires : tie.Need-alu-sets-requires
 alu-sets-requires c κs = search needs
@@ -59,32 +63,33 @@ alu-sets-requires c κs = search needs
 number-in-requires : tie.Need-number-in-requires
 number-in-requires c κs = search needs
 
-returns-4 : tie.Need-returns-4
+returns-5 : tie.Need-returns-5
 unfolding aluResult
-returns-4 c =
+returns-5 c =
     let three = c .before .before .before in
     let two = three .before .before in
     let one = two .before .before in
     rw
-    (← one .before .before .before .both-constants .ensures, one .if1 .left, ← one .before .is-or .ensures, ← two .before .is-zero .ensures, two .if2 .left, ← three .before .is-zero2 .ensures, three .if3 .left, ← one .before .before .both-numbers .ensures, c .before .before .if4 .taken, c .number-in .ensures, c .before .alu-sets .ensures)
+    (one .before .before .before .before .if1 .left, ← one .before .before .before .both-constants .ensures, one .if2 .left, ← one .before .is-or .ensures, ← two .before .is-zero .ensures, two .if3 .left, ← three .before .is-zero2 .ensures, three .if4 .left, ← one .before .before .both-numbers .ensures, c .before .before .if5 .taken, c .number-in .ensures, c .before .alu-sets .ensures)
 
 address-rule-requires : tie.Need-address-rule-requires
 address-rule-requires c κs = search needs
 
-returns-5 : tie.Need-returns-5
+returns-6 : tie.Need-returns-6
 unfolding aluResult
-returns-5 c =
+returns-6 c =
     let three = c .before .before in
     let two = three .before .before in
     let one = two .before .before in
     rw
-    (← one .before .before .before .both-constants .ensures, one .if1 .left, ← one .before .is-or .ensures, ← two .before .is-zero .ensures, two .if2 .left, ← three .before .is-zero2 .ensures, three .if3 .left, ← one .before .before .both-numbers .ensures, c .before .if4 .left)
+    (one .before .before .before .before .if1 .left, ← one .before .before .before .both-constants .ensures, one .if2 .left, ← one .before .is-or .ensures, ← two .before .is-zero .ensures, two .if3 .left, ← three .before .is-zero2 .ensures, three .if4 .left, ← one .before .before .both-numbers .ensures, c .before .if5 .left)
     (c .address-rule .ensures)
 
 pub alu-result-spec : {M : Type 1} → statement M
 alu-result-spec =
     tie.close
     (tie.spec
+    returns
     both-constants-requires
     both-numbers-requires
     is-or-requires
@@ -92,13 +97,13 @@ alu-result-spec =
     word-of-requires-2
     alu-requires
     constant-requires
-    returns
-    is-zero-requires
     returns-2
-    is-zero-requires-2
+    is-zero-requires
     returns-3
+    is-zero-requires-2
+    returns-4
     alu-sets-requires
     number-in-requires
-    returns-4
+    returns-5
     address-rule-requires
-    returns-5)
+    returns-6)
