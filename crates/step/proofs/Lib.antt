@@ -1,3 +1,4 @@
 pub mod Arrived
 pub mod Writing
+pub mod ScratchMarks
 pub mod NoOther

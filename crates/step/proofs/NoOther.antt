@@ -1,4 +1,5 @@
--- A step changes no register but the one that its word writes: an operation writes that one, or memory alone; a transfer writes none.
+-- A step changes no register but the one that its word writes: an operation writes that one, or memory and the mark of a scratch word; a transfer writes
+-- none.
 use Prim.Native.Nat.{ℕ, _%_}
 use mathlib.Core.Path.{refl}
 use mathlib.Core.Bool.{Bool, true, false, not, _&&_}
@@ -21,7 +22,7 @@ use Rattle.flow.specs.Written.{accessWrites, operationWrites, registerWritten, 
 use Rattle.flow.specs.Edge.{edgeOf}
 use Rattle.flow.specs.Readings.{readingAt}
 use Rattle.access.specs.declared.Located.{Located}
-use Rattle.access.specs.declared.Located.the-variants.{At, Nowhere}
+use Rattle.access.specs.declared.Located.the-variants.{At, Scratch, Nowhere}
 use Rattle.access.specs.Serve.{accessWidth}
 use Rattle.access.specs.Layout.{Layout}
 use Rattle.access.specs.Locate.{locate}
@@ -29,12 +30,13 @@ use Rattle.step.specs.declared.Registers.{Registers}
 use Rattle.step.specs.declared.Control.{Control}
 use Rattle.step.specs.declared.Aim.{Aim}
 use Rattle.step.specs.declared.Aim.the-variants.{Address, Missed}
-use Rattle.step.specs.Registers.{valueIn, setIn, valuesWith, marksWith, valueOf, isSet, operandSet, written}
+use Rattle.step.specs.Registers.{valueIn, setIn, valuesWith, marksWith, valueOf, isSet, operandSet, written, scratchSet}
 use Rattle.step.specs.Control.{inSlot, dueAt}
-use Rattle.step.specs.Effect.{Core, Effect, fault, done, movedSet, aimOf, touching, accessAt, accessAimed, effectOf}
+use Rattle.step.specs.Effect.{Core, Effect, fault, done, movedSet, aimOf, touching, scratchAccess, accessAt, accessAimed, effectOf}
 use Rattle.step.specs.Step.{State, advance, follow, plainStep, execute, stepWith, stepOf}
 use Rattle.step.specs.Laws.{OthersUnchanged, Leaves, WritesNoOther}
 use Rattle.step.proofs.Writing.{write-others}
+use Rattle.step.proofs.ScratchMarks.{marking-keeps}
 
 -- of the registers that an effect leaves
 abbrev EffectLeaves : (Registers → Type 0) → Effect → Type 0
@@ -58,8 +60,13 @@ module _ (l : Layout) (c : Core) where
   touching-leaves (Loads op) rd place = one-written g rd _
   touching-leaves (Stores op) rd place = none-changed g 0
 
-  located-leaves : (a : Access) (rd : ℕ) (at : Located) → EffectLeaves (OthersUnchanged (accessWrites a rd) g) (accessAt (l .regions .sizes) c a rd at)
+  scratch-leaves : (a : Access) (rd k place : ℕ) → EffectLeaves (OthersUnchanged (accessWrites a rd) g) (scratchAccess c a rd k place)
+  scratch-leaves (Loads op) rd k place = cond-both (EffectLeaves (OthersUnchanged rd g)) (scratchSet g k) (λ _. one-written g rd _) (λ _. tt)
+  scratch-leaves (Stores op) rd k place = λ r n. marking-keeps g k r
+
+  located-leaves : (a : Access) (rd : ℕ) (at : Located) → EffectLeaves (OthersUnchanged (accessWrites a rd) g) (accessAt (l .regions) c a rd at)
   located-leaves a rd (At r offset) = touching-leaves a rd _
+  located-leaves a rd (Scratch k) = scratch-leaves a rd k _
   located-leaves a rd Nowhere = tt
 
   aimed-leaves : (a : Access) (rd : ℕ) (aim : Aim) → EffectLeaves (OthersUnchanged (accessWrites a rd) g) (accessAimed l c a rd aim)

@@ -1,5 +1,6 @@
 -- V8's effect of each operation on registers, codes and memory, or the first fault in document 01's order: 102
--- unset read, 104 unaligned, 103 not inside one field of matching element and permission. "A faulting step changes nothing."
+-- unset read, 104 unaligned, 103 not inside one field of matching element and permission; for scratch words (document 02, request 7) "102 on an LD of an
+-- unset one, and 103 for the rest of the frame and other widths". "A faulting step changes nothing."
 use Prim.Native.Nat.{ℕ, _+_, _%_}
 use mathlib.Core.Bool.{Bool, true, cond, _&&_}
 use mathlib.Core.List.{List}
@@ -16,13 +17,14 @@ use Rattle.v8.specs.Numbers.{unsetRead, noField, unaligned}
 use Rattle.alu.specs.Result.{add32, aluOf, shiftOf, sethiOf}
 use Rattle.alu.specs.Codes.{codesOf}
 use Rattle.memory.specs.Memory.{loadOf, storeOf}
-use Rattle.memory.specs.Place.{partStart}
+use Rattle.memory.specs.Place.{partStart, scratchPlace}
+use Rattle.policy.specs.declared.Regions.{Regions}
 use Rattle.step.specs.declared.Registers.{Registers}
 use Rattle.step.specs.declared.Aim.{Aim}
 use Rattle.step.specs.declared.Aim.the-variants.{Address, Missed}
 use Rattle.access.specs.declared.Located.{Located}
-use Rattle.access.specs.declared.Located.the-variants.{At, Nowhere}
-use Rattle.step.specs.Registers.{valueIn, setIn, operandIn, operandSetIn, valueOf, isSet, written, withCodes, operandValue, operandSet}
+use Rattle.access.specs.declared.Located.the-variants.{At, Scratch, Nowhere}
+use Rattle.step.specs.Registers.{valueIn, setIn, operandIn, operandSetIn, valueOf, isSet, written, withCodes, scratchSet, withScratch, operandValue, operandSet}
 use Rattle.access.specs.Serve.{accessWidth, addend}
 use Rattle.access.specs.Layout.{Layout}
 use Rattle.access.specs.Locate.{locate}
@@ -86,14 +88,20 @@ abbrev pub touching : Core → Access → ℕ → ℕ → Effect
 touching c (Loads op) rd place = keeping c (written (c .registers) rd (loadOf op (c .memory) place))
 touching c (Stores op) rd place = done (record { registers = c .registers; memory = storeOf op (valueOf (c .registers) rd) place (c .memory) })
 
+-- an access to scratch word k, at its place: a load needs it set, "a store sets one"
+abbrev pub scratchAccess : Core → Access → ℕ → ℕ → ℕ → Effect
+scratchAccess c (Loads op) rd k place = ifSet (scratchSet (c .registers) k) (touching c (Loads op) rd place)
+scratchAccess c (Stores op) rd k place = touching (record { registers = withScratch (c .registers) k; memory = c .memory }) (Stores op) rd place
+
 -- an access where it lies
-abbrev pub accessAt : List ℕ → Core → Access → ℕ → Located → Effect
-accessAt sizes c a rd (At r offset) = touching c a rd (partStart sizes r + offset .0)
-accessAt sizes c a rd Nowhere = fault noField
+abbrev pub accessAt : Regions → Core → Access → ℕ → Located → Effect
+accessAt regions c a rd (At r offset) = touching c a rd (partStart (regions .sizes) r + offset .0)
+accessAt regions c a rd (Scratch k) = scratchAccess c a rd k (scratchPlace (regions .sizes) (regions .count) k)
+accessAt regions c a rd Nowhere = fault noField
 
 -- an access to an address
 abbrev pub accessTo : Layout → Core → Access → ℕ → ℕ → Effect
-accessTo l c a rd address = accessAt (l .regions .sizes) c a rd (locate l a address)
+accessTo l c a rd address = accessAt (l .regions) c a rd (locate l a address)
 
 -- an access, by where it aims
 abbrev pub accessAimed : Layout → Core → Access → ℕ → Aim → Effect

@@ -1,6 +1,7 @@
 -- Registers and codes with their marks (document 01: "registers are r0 to r31. r0 reads as zero and writes to it vanish";
--- "r0 counts as a set zero, and ends a run as one").
-use Prim.Native.Nat.{ℕ}
+-- "r0 counts as a set zero, and ends a run as one"), and the marks of the six scratch words (document 02, request 7: "In the machine the six start unset and a
+-- store sets one; outcomes give their marks").
+use Prim.Native.Nat.{ℕ, zero, suc, _+_}
 use mathlib.Core.Bool.{Bool, true, false, cond}
 use mathlib.Core.List.{List}
 use lib.Dec.{ltb, eqb}
@@ -8,18 +9,23 @@ use lib.ListN.{getD, set}
 use Rattle.v8.specs.declared.Operand.{Operand}
 use Rattle.v8.specs.declared.Operand.the-variants.{Reg, Imm}
 use Rattle.alu.specs.declared.codes.Codes.{Codes}
+use Rattle.memory.specs.Frame.{scratchCount}
 use Rattle.step.specs.declared.Registers.{Registers}
 use Rattle.step.specs.declared.Marked.{Marked}
 
--- how many marks there are: one for each register
+-- the mark of scratch word k, after those of the 32 registers
+abbrev pub scratchMark : ℕ → ℕ
+scratchMark k = 32 + k
+
+-- how many marks there are: one for each register and for each scratch word
 abbrev pub markCount : ℕ
-markCount = 32
+markCount = scratchMark scratchCount
 
 -- what register r reads as, of 32 values; a number above 31 names no register
 unfoldable pub valueIn : List ℕ → ℕ → ℕ
 valueIn values r = cond (eqb r 0) 0 (cond (ltb r 32) (getD values r 0) 0)
 
--- whether register r is set, of 32 marks
+-- whether register r is set, of the marks
 unfoldable pub setIn : List Bool → ℕ → Bool
 setIn marks r = cond (eqb r 0) true (cond (ltb r 32) (getD marks r false) false)
 
@@ -49,6 +55,23 @@ withCodes g f = record { values = g .values; marks = g .marks; codes = record { 
 -- the registers with r0 a set zero
 abbrev pub withZero : Registers → Registers
 withZero g = record { values = set (g .values) 0 0; marks = set (g .marks) 0 true; codes = g .codes }
+
+-- whether scratch word k is set
+abbrev pub scratchSet : Registers → ℕ → Bool
+scratchSet g k = getD (g .marks) (scratchMark k) false
+
+-- the registers with scratch word k set
+abbrev pub withScratch : Registers → ℕ → Registers
+withScratch g k = record { values = g .values; marks = set (g .marks) (scratchMark k) true; codes = g .codes }
+
+-- n marks from place i on become unset
+abbrev pub unsetFrom : List Bool → ℕ → ℕ → List Bool
+unsetFrom marks i zero = marks
+unsetFrom marks i (suc n) = unsetFrom (set marks i false) (i + 1) n
+
+-- the registers with the six scratch words unset
+abbrev pub unsetScratch : Registers → Registers
+unsetScratch g = record { values = g .values; marks = unsetFrom (g .marks) (scratchMark 0) scratchCount; codes = g .codes }
 
 -- what a second operand gives
 abbrev pub operandIn : List ℕ → Operand → ℕ

@@ -3,6 +3,8 @@
 
 // Registers in lent arrays.
 pub mod regs;
+// The marks of scratch words, in a lent array.
+pub mod scratch;
 // Instructions that change registers and codes alone.
 mod compute;
 // Loads and stores, up to the access itself.
@@ -17,8 +19,10 @@ use flow::Destination;
 use v8::Access;
 use v8::WordIndex;
 
-// How many marks there are: one for each register.
-pub const MARKS: usize = 32;
+// How many marks there are: one for each register, and after them one for each scratch word.
+pub const MARKS: usize = 38;
+// The mark of the first scratch word.
+pub const FIRST_SCRATCH: usize = 32;
 
 // The condition codes, marked set or unset.
 pub struct MarkedCodes {
@@ -26,7 +30,8 @@ pub struct MarkedCodes {
     pub set: bool,
 }
 
-// Registers r0 to r31 and the condition codes, each marked set or unset.
+// Registers r0 to r31 and the condition codes, each marked set or unset, with the marks of the six
+// scratch words.
 pub struct Registers {
     pub values: [u32; 32],
     pub marks: [bool; MARKS],
