@@ -41,6 +41,7 @@ module _ (t : Routine) where
         some = s .some;
         most = s .most;
         entry-formed = flawless-none (formFault (t .policy .regions .count) (t .policy .regions .sizes) (t .entry) 0) (s .formed);
+        entry-unset = s .unset;
         result-formed = result-holds (t .policy) (count t) (t .rows) (t .entry) (t .result) right;
         rows-formed = λ w l. row-holds (t .policy) (t .rows) w (each-passes (rowPass (t .policy) (t .rows)) (count t) (c .0) w l);
         reads = each-passes (readPass (t .readings)) (count t) (d .0);

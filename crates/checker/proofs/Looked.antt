@@ -21,9 +21,9 @@ use Rattle.rules.specs.Narrow.{RowLeft, left, narrows, narrowRow}
 use Rattle.rules.proofs.Numbered.{Numbered, change-numbered}
 use Rattle.passes.specs.declared.Answer.{Answer}
 use Rattle.passes.specs.Answer.{accepted, passes}
-use Rattle.passes.specs.Passes.{rowAt}
+use Rattle.passes.specs.Passes.{resultRegister, rowAt}
 use Rattle.checker.specs.Routine.{resultEntry}
-use Rattle.checker.specs.Passes.{made, changeBy, arrive, cross, ifLeft, narrowedEdge, edgePass, resultRegister}
+use Rattle.checker.specs.Passes.{made, changeBy, arrive, cross, ifLeft, narrowedEdge, edgePass}
 use Rattle.checker.specs.Laws.{After, WordMakes, EdgesLooked, SlotApplied, SlotSkipped, Arrives}
 use Rattle.passes.proofs.Accepting.{both-pass, need-holds, no-fault}
 

@@ -22,15 +22,15 @@ use Rattle.rows.specs.declared.Flaw.the-variants.{None}
 use Rattle.rows.specs.declared.Row.{Row}
 use Rattle.rows.specs.Entry.{fits}
 use Rattle.rows.specs.Geometry.{rowBytes}
-use Rattle.rows.specs.Row.{entryAt, rowWith, entryFormed, formFault, misfit}
+use Rattle.rows.specs.Row.{entryAt, rowWith, entryFormedAs, formFault, scratchUnset, misfit}
 use Rattle.rules.specs.declared.Change.{Change}
 use Rattle.rules.specs.declared.Change.the-variants.{Writes, Keeps, Breaks}
 use Rattle.rules.specs.Narrow.{left, narrowRow}
 use Rattle.passes.specs.declared.Answer.{Answer}
 use Rattle.passes.specs.Answer.{accepted, passes}
-use Rattle.passes.specs.Passes.{rowAt, entryRow, readPass}
+use Rattle.passes.specs.Passes.{resultRegister, rowAt, entryRow, readPass}
 use Rattle.checker.specs.Routine.{Routine, routineOf, count, resultEntry}
-use Rattle.checker.specs.Passes.{arrive, changeBy, applied, cross, edges, look, resultRegister, checkOf}
+use Rattle.checker.specs.Passes.{arrive, changeBy, applied, cross, edges, look, checkOf}
 
 pub record Checked (t : Routine) : Type 0 where
   -- 20
@@ -39,7 +39,8 @@ pub record Checked (t : Routine) : Type 0 where
   pub some : 1 ≤ count t
   pub most : count t ≤ mostWords
   pub entry-formed : formFault (t .policy .regions .count) (t .policy .regions .sizes) (t .entry) 0 ≡ None
-  pub result-formed : entryFormed (t .policy .regions .count) (t .policy .regions .sizes) (t .result) 0 ≡ true
+  pub entry-unset : scratchUnset (t .entry) 0 ≡ true
+  pub result-formed : entryFormedAs (t .policy .regions .count) (t .policy .regions .sizes) (t .result) 0 resultRegister ≡ true
   -- 1
   pub rows-formed : (w : ℕ) → w < count t → formFault (t .policy .regions .count) (t .policy .regions .sizes) (t .rows) (rowBytes * w) ≡ None
   -- 2, 24
