@@ -6,6 +6,7 @@ use borrow.Author.Tests.{eq-eqb, ne-eqb}
 use Rattle.v8.specs.declared.Edition.{Edition}
 use Rattle.policy.specs.declared.Policy.{Policy}
 use Rattle.step.specs.declared.Registers.{Registers}
+use Rattle.step.specs.Registers.{unsetScratch}
 use Rattle.machine.specs.Run.{Run, settingOf, startState, runOf, traceFrom, refused}
 use Rattle.rows.specs.Row.{entryOf}
 use Rattle.passes.specs.declared.Answer.{Answer}
@@ -21,7 +22,7 @@ accepted-run a run g memory e = rw e
 
 -- what is left where the check refuses, and where it accepts
 pub refused-left : (a b : Answer) (run : Run) (g : Registers) (memory : List ℕ) → a ≡ b → (a .number ≡ 0 → ⊥)
-    → record { answer = a; run = refused (a .number) g memory } ≡ checkedWith b run g memory
+    → record { answer = a; run = refused (a .number) (unsetScratch g) memory } ≡ checkedWith b run g memory
 unfolding checkedWith
 refused-left a b run g memory e n = rw (← e, ne-eqb (a .number) 0 n)
 
@@ -31,19 +32,19 @@ unfolding checkedWith
 accepted-left a b run ran g memory e q z = rw (← e, ← q, eq-eqb (a .number) 0 z)
 
 -- whatever gives the checked run holds to demand 3
-pub holds-to : (e : Edition) (p : Policy) (words rows entry result bases : List ℕ) (returns : ℕ) (g : Registers) (allowance : ℕ) (memory : List ℕ) (c : Checked)
-    → c ≡ checkedRunOf e p words rows entry result bases returns g allowance memory → HoldsTo e p words entry result bases returns g allowance memory c
+pub holds-to : (e : Edition) (p : Policy) (words rows entry result bases : List ℕ) (returns frame : ℕ) (g : Registers) (allowance : ℕ) (memory : List ℕ) (c : Checked)
+    → c ≡ checkedRunOf e p words rows entry result bases returns frame g allowance memory → HoldsTo e p words entry result bases returns frame g allowance memory c
 unfolding checkedWith
-holds-to e p words rows entry result bases returns g allowance memory c q a start =
+holds-to e p words rows entry result bases returns frame g allowance memory c q a start =
     let accepts : checkOf e p words rows entry result ≡ accepted = sym (ap (λ (x : Checked). x .answer) q) ∙ a in
-    let r : c .run ≡ runOf e p words bases returns g allowance memory =
-    ap (λ (x : Checked). x .run) q ∙ accepted-run (checkOf e p words rows entry result) (runOf e p words bases returns g allowance memory) g memory accepts in
-    subst (λ (x : Run). Guaranteed p (entryOf result 0) (settingOf e p words bases returns) (hostOf bases returns) (startState g memory) allowance x
-    (traceFrom (settingOf e p words bases returns) allowance (startState g memory)))
-    (sym r) (running-guarantee e p words rows entry result accepts bases returns g memory start allowance)
+    let r : c .run ≡ runOf e p words bases returns frame g allowance memory =
+    ap (λ (x : Checked). x .run) q ∙ accepted-run (checkOf e p words rows entry result) (runOf e p words bases returns frame g allowance memory) g memory accepts in
+    subst (λ (x : Run). Guaranteed p (entryOf result 0) (settingOf e p words bases returns frame) (hostOf bases returns frame) (startState g memory) allowance x
+    (traceFrom (settingOf e p words bases returns frame) allowance (startState g memory)))
+    (sym r) (running-guarantee e p words rows entry result accepts bases returns frame g memory start allowance)
 
-pub given-checked : (e : Edition) (p : Policy) (words rows entry result bases : List ℕ) (returns : ℕ) (g : Registers) (allowance : ℕ) (memory : List ℕ) (c : Checked)
-    → c ≡ checkedRunOf e p words rows entry result bases returns g allowance memory
-    → (c ≡ checkedRunOf e p words rows entry result bases returns g allowance memory) × HoldsTo e p words entry result bases returns g allowance memory c
-given-checked e p words rows entry result bases returns g allowance memory c q =
-    (q, holds-to e p words rows entry result bases returns g allowance memory c q)
+pub given-checked : (e : Edition) (p : Policy) (words rows entry result bases : List ℕ) (returns frame : ℕ) (g : Registers) (allowance : ℕ) (memory : List ℕ) (c : Checked)
+    → c ≡ checkedRunOf e p words rows entry result bases returns frame g allowance memory
+    → (c ≡ checkedRunOf e p words rows entry result bases returns frame g allowance memory) × HoldsTo e p words entry result bases returns frame g allowance memory c
+given-checked e p words rows entry result bases returns frame g allowance memory c q =
+    (q, holds-to e p words rows entry result bases returns frame g allowance memory c q)

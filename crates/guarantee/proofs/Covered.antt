@@ -17,10 +17,10 @@ use Rattle.guarantee.proofs.Numbers.{addend-small}
 use Rattle.guarantee.proofs.Computed.{sethi-covers, alu-covers, shift-covers}
 use Rattle.guarantee.proofs.Accessed.{access-covers}
 
-module _ (p : Policy) (bases : List ℕ) (returns : ℕ) (wf : WellFormed p) (laid : Laid (p .regions .count) (p .regions .sizes) (hostOf bases returns)) where
-  pub covered : (x : Operation) → OperationSmall x → (row : Row) (c : Core) → CoreOk p (hostOf bases returns) c → Fitted p (hostOf bases returns) row c
-      → Covers p (hostOf bases returns) row c x (effectOf (layoutOf p bases) c x) (operationChange p row x)
-  covered (Sethi rd imm22) l row c ck f = sethi-covers p (hostOf bases returns) row c ck f bases rd imm22
-  covered (Alu op cc rd rs1 x) l row c ck f = alu-covers p (hostOf bases returns) row c ck f bases laid op cc rd rs1 x l
-  covered (Shift op rd rs1 x) l row c ck f = shift-covers p (hostOf bases returns) row c ck f bases op rd rs1 x l
-  covered (Memory a rd rs1 d) l row c ck f = access-covers p bases returns wf laid row c ck f rs1 d (addend-small d l) a rd
+module _ (p : Policy) (bases : List ℕ) (returns frame : ℕ) (wf : WellFormed p) (laid : Laid (p .regions .count) (p .regions .sizes) (hostOf bases returns frame)) where
+  pub covered : (x : Operation) → OperationSmall x → (row : Row) (c : Core) → CoreOk p (hostOf bases returns frame) c → Fitted p (hostOf bases returns frame) row c
+      → Covers p (hostOf bases returns frame) row c x (effectOf (layoutOf p bases frame) c x) (operationChange p row x)
+  covered (Sethi rd imm22) l row c ck f = sethi-covers p (hostOf bases returns frame) row c ck f bases frame rd imm22 l
+  covered (Alu op cc rd rs1 x) l row c ck f = alu-covers p (hostOf bases returns frame) row c ck f bases frame laid op cc rd rs1 x l
+  covered (Shift op rd rs1 x) l row c ck f = shift-covers p (hostOf bases returns frame) row c ck f bases frame op rd rs1 x l
+  covered (Memory a rd rs1 d) l row c ck f = access-covers p bases returns frame wf laid row c ck f rs1 d (l .1) (addend-small d (l .2)) a rd (l .0)

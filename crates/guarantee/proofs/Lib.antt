@@ -1,9 +1,10 @@
-pub mod Writing
+pub mod Held
 pub mod Placed
 pub mod Numbers
 pub mod Computed
 pub mod Elements
 pub mod Stored
+pub mod Scratch
 pub mod Accessed
 pub mod Covered
 pub mod Stepping

@@ -29,16 +29,16 @@ use Rattle.guarantee.proofs.Stepping.{step-sound}
 
 framed-on : (p : Policy) (a b c : List ℕ) → Framed p a b → Framed p b c → Framed p a c
 framed-on p a b c f g =
-    record { length-kept = g .length-kept ∙ f .length-kept; bytes-kept = λ i o. g .bytes-kept i o ∙ f .bytes-kept i o }
+    record { length-kept = g .length-kept ∙ f .length-kept; bytes-kept = λ i o s. g .bytes-kept i o s ∙ f .bytes-kept i o s }
 
-module _ (t : Routine) (bases : List ℕ) (returns : ℕ) (wf : WellFormed (t .policy)) (laid : Laid (t .policy .regions .count) (t .policy .regions .sizes) (hostOf bases returns))
+module _ (t : Routine) (bases : List ℕ) (returns frame : ℕ) (wf : WellFormed (t .policy)) (laid : Laid (t .policy .regions .count) (t .policy .regions .sizes) (hostOf bases returns frame))
     (four : returns % 4 ≡ 0) (ch : Checked t) (sound : (w : ℕ) → ReadingSound (readingAt (t .readings) w))
     (result : EntryRules (t .policy .regions .count) (t .policy .regions .sizes) (resultEntry (t .result))) where
   abbrev h : Host
-  h = hostOf bases returns
+  h = hostOf bases returns frame
 
   abbrev s : Setting
-  s = record { layout = layoutOf (t .policy) bases; readings = t .readings; returns = returns }
+  s = record { layout = layoutOf (t .policy) bases frame; readings = t .readings; returns = returns }
 
   -- what is claimed of a run, but for the count of its steps
   record Claimed (start : State) (run : Run) (trace : List State) : Type 0 where
@@ -70,7 +70,7 @@ module _ (t : Routine) (bases : List ℕ) (returns : ℕ) (wf : WellFormed (t .p
   claimed zero k st i =
       record { ends = tt; follows = halts; safe = tt; declared = i .core .declared; framed = framed-self (t .policy) (st .core .memory) }
   claimed (suc n) k st i =
-      let g = step-sound t bases returns wf laid four ch sound result st i in
+      let g = step-sound t bases returns frame wf laid four ch sound result st i in
       extend st n k (g .0) (claimed n (k + 1)) (stepOf s st) refl (g .1)
 
   -- the guarantee from any state of the invariant

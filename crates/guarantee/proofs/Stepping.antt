@@ -5,6 +5,7 @@ use Prim.Native.Nat.{ℕ, _+_, _*_, _%_, _<_}
 use mathlib.Core.Path.{_≡_, refl, sym, ap, _∙_, subst}
 use mathlib.Core.Bool.{Bool, true, false, not, cond, _&&_, and-false}
 use mathlib.Core.List.{List}
+use native.Mathlib.Omega.{arith}
 use lib.Dec.{eqb}
 use borrow.Author.Tests.{eqb-true, eq-eqb}
 use Rattle.v8.proofs.Choice.{cond-both, false-true}
@@ -55,16 +56,16 @@ use Rattle.rules.specs.Laws.{Laid, LeftMatches}
 use Rattle.rows.proofs.ByKind.{held-return}
 use Rattle.rules.proofs.Narrowed.{narrows-row}
 use Rattle.passes.specs.Answer.{passes}
-use Rattle.passes.specs.Passes.{rowAt, ifRead, readPass}
+use Rattle.passes.specs.Passes.{resultRegister, rowAt, ifRead, readPass}
 use Rattle.checker.specs.Routine.{Routine, count, resultEntry}
-use Rattle.checker.specs.Passes.{arrive, changeBy, applied, cross, edges, resultRegister}
+use Rattle.checker.specs.Passes.{arrive, changeBy, applied, cross, edges}
 use Rattle.checker.specs.Laws.{Checked, After}
 use Rattle.checker.proofs.Looked.{word-makes, edges-looked, slot-applied, slot-skipped, arrives}
 use Rattle.guarantee.specs.Safe.{OperationSafe, ReadingSafe}
 use Rattle.guarantee.specs.Guarantee.{hostOf, heldOf}
 use Rattle.guarantee.specs.Invariant.{CoreOk, Fitted, Kept, Good, Covers, At, Arrived, Due, SlotDue, Ready, Invariant, StepGood}
-use Rattle.guarantee.proofs.Writing.{read-small}
-use Rattle.guarantee.proofs.Computed.{framed-self}
+use Rattle.guarantee.proofs.Held.{read-small, held-small}
+use Rattle.guarantee.proofs.Computed.{framed-self, register-held}
 use Rattle.guarantee.proofs.Covered.{covered}
 
 -- what covers a change covers the row after it
@@ -100,14 +101,14 @@ unnarrowed : (row : Row) → narrowRow Unrelated row ≡ left row
 unfolding narrowRow
 unnarrowed row = refl
 
-module _ (t : Routine) (bases : List ℕ) (returns : ℕ) (wf : WellFormed (t .policy)) (laid : Laid (t .policy .regions .count) (t .policy .regions .sizes) (hostOf bases returns))
+module _ (t : Routine) (bases : List ℕ) (returns frame : ℕ) (wf : WellFormed (t .policy)) (laid : Laid (t .policy .regions .count) (t .policy .regions .sizes) (hostOf bases returns frame))
     (four : returns % 4 ≡ 0) (ch : Checked t) (sound : (w : ℕ) → ReadingSound (readingAt (t .readings) w))
     (result : EntryRules (t .policy .regions .count) (t .policy .regions .sizes) (resultEntry (t .result))) where
   abbrev h : Host
-  h = hostOf bases returns
+  h = hostOf bases returns frame
 
   abbrev l : Layout
-  l = layoutOf (t .policy) bases
+  l = layoutOf (t .policy) bases frame
 
   abbrev word : ℕ → Reading
   word w = readingAt (t .readings) w
@@ -124,14 +125,14 @@ module _ (t : Routine) (bases : List ℕ) (returns : ℕ) (wf : WellFormed (t .p
         fitted =
             record {
               rules = row-rules (i .0) (lands .0);
-              matches = row-fits h (t .policy .regions .count) (t .policy .regions .sizes) row (rowAt (t .rows) (i .0)) (heldOf (c .registers)) (read-small (c .registers) (ck .words))
+              matches = row-fits h (t .policy .regions .count) (t .policy .regions .sizes) row (rowAt (t .rows) (i .0)) (heldOf (t .policy) c) (held-small (t .policy) c (ck .words) (ck .bytes))
                   (f .rules) (row-rules (i .0) (lands .0)) (arrives (t .rows) (t .result) w (To i) row e) (f .matches);
             };
       }
   arrive-sound w Caller row lands e c ck f =
       fits-matches h (t .policy .regions .count) (t .policy .regions .sizes) (entryAt row resultRegister) (resultEntry (t .result)) (isSet (c .registers) resultRegister)
       (valueOf (c .registers) resultRegister) (read-small (c .registers) (ck .words) resultRegister) (f .rules .entries resultRegister) result
-      (arrives (t .rows) (t .result) w Caller row e) (f .matches .entries resultRegister)
+      (arrives (t .rows) (t .result) w Caller row e) (register-held (t .policy) h row c ck f resultRegister (omega arith))
 
   -- control goes where a row has arrived
   landed : (row : Row) (c c′ : Core) (d : Destination) → Kept (t .policy) h row c c′ → Arrived t h d c′ → StepGood t h c (advance c′ d)
@@ -148,7 +149,7 @@ module _ (t : Routine) (bases : List ℕ) (returns : ℕ) (wf : WellFormed (t .p
       → OperationSafe (t .policy) h (c .registers) x × StepGood t h c (stepWith l returns (record { control = k; core = c }) (Read (Plain x)))
   plain-step k x c s ck due =
       let g = covers-after (t .policy) h (due .row) (due .after) c x (effectOf l c x) (operationChange (t .policy) (due .row) x)
-      (covered (t .policy) bases returns wf laid x s (due .row) c ck (due .fitted)) (due .change) in
+      (covered (t .policy) bases returns frame wf laid x s (due .row) c ck (due .fitted)) (due .change) in
       (g .0, rw and-false (advanced k (due .after) c (effectOf l c x) (g .1) (due .arrives)))
 
   -- a word of the code is read
@@ -223,11 +224,11 @@ module _ (t : Routine) (bases : List ℕ) (returns : ℕ) (wf : WellFormed (t .p
     -- an edge of a transfer that there is, where narrowing leaves a row that matches
     edge-followed : (x : Instruction) → word w ≡ Read x → transfers (Read x) ≡ true → At t h w c → (row : Row)
         → passes (edges (t .policy) (t .rows) (t .result) w (Read x) (word (w + 1)) row) ≡ true → (taken : Bool) → edgeOf w x taken .exists ≡ true
-        → LeftMatches (t .policy .regions .count) (t .policy .regions .sizes) h (narrowRow (edgeOf w x taken .narrowing) row) (heldOf (c .registers))
+        → LeftMatches (t .policy .regions .count) (t .policy .regions .sizes) h (narrowRow (edgeOf w x taken .narrowing) row) (heldOf (t .policy) c)
         → StepGood t h c (follow w (edgeOf w x taken) c)
     edge-followed x q tr at row p taken e m = by (narrowRow (edgeOf w x taken .narrowing) row) refl m
       where
-        by : (n : RowLeft) → narrowRow (edgeOf w x taken .narrowing) row ≡ n → LeftMatches (t .policy .regions .count) (t .policy .regions .sizes) h n (heldOf (c .registers))
+        by : (n : RowLeft) → narrowRow (edgeOf w x taken .narrowing) row ≡ n → LeftMatches (t .policy .regions .count) (t .policy .regions .sizes) h n (heldOf (t .policy) c)
             → StepGood t h c (follow w (edgeOf w x taken) c)
         by (left narrowed) k m =
             edge-sound (edgeOf w x taken) narrowed (λ _. (flows (t .readings) (ch .flows) w (at .inside) x q .slot tr, ap transfers q ∙ tr)) (lands-on w x c q at taken e)
@@ -285,11 +286,11 @@ module _ (t : Routine) (bases : List ℕ) (returns : ℕ) (wf : WellFormed (t .p
   -- the condition that holds on an edge narrows to a row that matches
   module _ (w : ℕ) (b : Bicc) (c : Core) (ck : CoreOk (t .policy) h c) (row : Row) (fit : Fitted (t .policy) h row c) where
     narrowed : (taken : Bool) → condHolds (b .cond) (c .registers .codes .value) ≡ taken
-        → LeftMatches (t .policy .regions .count) (t .policy .regions .sizes) h (narrowRow (edgeOf w (Branch b) taken .narrowing) row) (heldOf (c .registers))
+        → LeftMatches (t .policy .regions .count) (t .policy .regions .sizes) h (narrowRow (edgeOf w (Branch b) taken .narrowing) row) (heldOf (t .policy) c)
     narrowed true e =
-        narrows-row (t .policy .regions .count) (t .policy .regions .sizes) h (b .cond) row (heldOf (c .registers)) (read-small (c .registers) (ck .words)) (fit .rules) (fit .matches) e
+        narrows-row (t .policy .regions .count) (t .policy .regions .sizes) h (b .cond) row (heldOf (t .policy) c) (held-small (t .policy) c (ck .words) (ck .bytes)) (fit .rules) (fit .matches) e
     narrowed false e =
-        narrows-row (t .policy .regions .count) (t .policy .regions .sizes) h (oppositeOf (b .cond)) row (heldOf (c .registers)) (read-small (c .registers) (ck .words)) (fit .rules) (fit .matches)
+        narrows-row (t .policy .regions .count) (t .policy .regions .sizes) h (oppositeOf (b .cond)) row (heldOf (t .policy) c) (held-small (t .policy) c (ck .words) (ck .bytes)) (fit .rules) (fit .matches)
         (opposite-holds (b .cond) (c .registers .codes .value) ∙ ap not e)
 
   branch-step : (w : ℕ) (b : Bicc) (c : Core) → CoreOk (t .policy) h c → At t h w c → word w ≡ Read (Branch b)
@@ -311,13 +312,13 @@ module _ (t : Routine) (bases : List ℕ) (returns : ℕ) (wf : WellFormed (t .p
       read false y s = refl
 
   -- the return finds the return address in r15, and keeps the row
-  return-held : (row after : Row) (c : Core) → Fitted (t .policy) h row c → After row (returnChange (entryAt row link)) after
+  return-held : (row after : Row) (c : Core) → CoreOk (t .policy) h c → Fitted (t .policy) h row c → After row (returnChange (entryAt row link)) after
       → (isSet (c .registers) link ≡ true) × (valueOf (c .registers) link ≡ returns) × (after ≡ row)
   unfolding returnChange
-  return-held row after c f =
+  return-held row after c ck f =
       cond-both (λ (k : Change). After row k after → R) (isUnset (entryAt row link)) (λ _ x. absurd x)
       λ u. cond-both (λ (k : Change). After row k after → R) (isReturn (entryAt row link))
-      (λ r x. let m = f .matches .entries link u in (m .0, held-return r (m .1), x)) (λ _ x. absurd x)
+      (λ r x. let m = register-held (t .policy) h row c ck f link (omega arith) u in (m .0, held-return r (m .1), x)) (λ _ x. absurd x)
     where
       R : Type 0
       R = (isSet (c .registers) link ≡ true) × (valueOf (c .registers) link ≡ returns) × (after ≡ row)
@@ -326,13 +327,13 @@ module _ (t : Routine) (bases : List ℕ) (returns : ℕ) (wf : WellFormed (t .p
       → ((isSet (c .registers) link ≡ true) × (valueOf (c .registers) link ≡ returns)) × StepGood t h c (returnStep returns (record { control = goTo w; core = c }))
   return-step w c ck at q =
       let m = looks w c at (Read Return) q in
-      let r = return-held (rowAt (t .rows) w) (m .after) c (at .fitted) (m .change) in
-      let here : LeftMatches (t .policy .regions .count) (t .policy .regions .sizes) h (left (rowAt (t .rows) w)) (heldOf (c .registers)) = (at .fitted .rules, at .fitted .matches) in (
+      let r = return-held (rowAt (t .rows) w) (m .after) c ck (at .fitted) (m .change) in
+      let here : LeftMatches (t .policy .regions .count) (t .policy .regions .sizes) h (left (rowAt (t .rows) w)) (heldOf (t .policy) c) = (at .fitted .rules, at .fitted .matches) in (
         (r .0, r .1),
         rw (r .0, eq-eqb (valueOf (c .registers) link % 4) 0 (ap (λ (v : ℕ). v % 4) (r .1) ∙ four), eq-eqb (valueOf (c .registers) link) returns (r .1))
             (edge-followed w c ck Return q refl at (rowAt (t .rows) w)
             (subst (λ (x : Row). passes (edges (t .policy) (t .rows) (t .result) w (Read Return) (word (w + 1)) x) ≡ true) (r .2) (m .passed)) true refl
-            (subst (λ (n : RowLeft). LeftMatches (t .policy .regions .count) (t .policy .regions .sizes) h n (heldOf (c .registers))) (sym (unnarrowed (rowAt (t .rows) w))) here)),
+            (subst (λ (n : RowLeft). LeftMatches (t .policy .regions .count) (t .policy .regions .sizes) h n (heldOf (t .policy) c)) (sym (unnarrowed (rowAt (t .rows) w))) here)),
       )
 
   abbrev Steps : Core → Reading → Step → Type 0

@@ -20,7 +20,7 @@ use Rattle.policy.specs.Element.{widthOf}
 use Rattle.policy.specs.Policy.{readable, sizeOf, countOf, fieldEnd}
 use Rattle.policy.specs.Laws.{WellFormed, FieldRules}
 use Rattle.memory.specs.Memory.{loadWidth, loadOf, storeWidth, storeOf}
-use Rattle.memory.specs.Place.{partStart, lengthOf}
+use Rattle.memory.specs.Place.{partStart, frameStart, lengthOf}
 use Rattle.memory.specs.Laws.{Apart, lowOf}
 use Rattle.memory.proofs.Memory.{store-keeps-length, store-keeps-others, load-kept, load-after-store}
 use Rattle.memory.proofs.Starts.{part-ends}
@@ -104,13 +104,13 @@ module _ (p : Policy) (h : Host) (wf : WellFormed p) (memory : List ℕ) (long :
       let read : loadOf (loadFor (f .element)) after (byteOf p r offset) ≡ v =
       load-after-store (loadFor (f .element)) op v (byteOf p r offset) memory
       (load-wide (f .element) (rules .element-least) (rules .element-most) ∙ sym wide)
-      (room (partStart (p .regions .sizes) r) (lengthOf (p .regions .sizes) (p .regions .count)) (length memory) (sizeOf p r) (storeWidth op) (fieldEnd f)
+      (room (partStart (p .regions .sizes) r) (frameStart (p .regions .sizes) (p .regions .count)) (length memory) (sizeOf p r) (storeWidth op) (fieldEnd f)
       (part-ends (p .regions .sizes) r (p .regions .count) (here .region)) long (rules .inside) (here .high))
       ∙ value-whole (p .regions .count) (sizeOf p r) h f v rules small holds in
       subst (λ (n : ℕ). Holds h (fieldEntry f) (loadOf (loadFor (f .element)) after (byteOf p r n))) (stored .here)
       (subst (Holds h (fieldEntry f)) (sym read) holds)
     where
-      room : (start whole n size w end : ℕ) → start + size ≤ whole → n ≡ whole → end ≤ size → offset + w ≤ end → start + offset + w ≤ n
+      room : (start whole n size w end : ℕ) → start + size ≤ whole → n ≡ whole + 120 → end ≤ size → offset + w ≤ end → start + offset + w ≤ n
       room start whole n size w end a b c d = omega arith
 
   -- every other element is as it was
@@ -178,7 +178,7 @@ store-framed p memory op r k offset v here writable =
     let start = partStart (p .regions .sizes) r in
     record {
       length-kept = store-keeps-length op v (byteOf p r offset) memory;
-      bytes-kept = λ a outside. store-keeps-others op v (byteOf p r offset) memory a
+      bytes-kept = λ a outside _. store-keeps-others op v (byteOf p r offset) memory a
           (λ l m. outside r k (a - start) (here .region) (here .field) writable
           (inside start (fieldOf p r k .offset .0) (storeWidth op) (fieldEnd (fieldOf p r k)) a l m (here .low) (here .high))
           (whole start a l));

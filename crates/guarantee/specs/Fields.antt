@@ -1,5 +1,5 @@
 -- What the lent memory holds (document 01, "A readable field matches if each element holds a value of the entry its load gives"), and the
--- bytes that a run may change.
+-- bytes that a run may change: those of writable fields and, by request 7, of the six scratch words.
 use Prim.Native.Nat.{ℕ, _+_, _*_, _<_}
 use mathlib.Core.Path.{_≡_}
 use mathlib.Core.Bool.{true, cond}
@@ -14,7 +14,8 @@ use Rattle.policy.specs.Element.{widthOf}
 use Rattle.policy.specs.Policy.{readable, writable, countOf, placeOf, fieldAt}
 use Rattle.policy.specs.Laws.{InField}
 use Rattle.memory.specs.Memory.{byteAt, loadOf}
-use Rattle.memory.specs.Place.{partStart}
+use Rattle.memory.specs.Frame.{scratchCount}
+use Rattle.memory.specs.Place.{partStart, scratchPlace}
 use Rattle.rows.specs.Entry.{fieldEntry}
 use Rattle.rows.specs.Matches.{Host, Holds}
 
@@ -46,7 +47,16 @@ abbrev pub OutsideWritable : Policy → ℕ → Type 0
 OutsideWritable p a =
     (r k b : ℕ) → r < p .regions .count → k < countOf p r → writable (fieldOf p r k .permission) ≡ true → InField (fieldOf p r k) b → a ≡ byteOf p r b → ⊥
 
--- "every byte of the lent memory outside writable fields is as it was at the start"
+-- where scratch word k stands in the lent memory
+abbrev pub scratchOf : Policy → ℕ → ℕ
+scratchOf p k = scratchPlace (p .regions .sizes) (p .regions .count) k
+
+-- place a of the lent memory lies outside the scratch words
+abbrev pub OutsideScratch : Policy → ℕ → Type 0
+OutsideScratch p a = (k b : ℕ) → k < scratchCount → b < 4 → a ≡ scratchOf p k + b → ⊥
+
+-- "every byte of the lent memory outside writable fields is as it was at the start"; request 7: "The running guarantee allows these six words,
+-- nothing else in the frame"
 pub record Framed (p : Policy) (before after : List ℕ) : Type 0 where
   pub length-kept : length after ≡ length before
-  pub bytes-kept : (a : ℕ) → OutsideWritable p a → byteAt after a ≡ byteAt before a
+  pub bytes-kept : (a : ℕ) → OutsideWritable p a → OutsideScratch p a → byteAt after a ≡ byteAt before a

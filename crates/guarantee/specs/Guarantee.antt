@@ -1,16 +1,17 @@
 -- Demand 3, the running guarantee: "one claim about the whole run, not one for each step: for every input that demand 2's check answers with
 -- 0 0 0, every matching start and every allowance, 0 too". `RunningGuarantee`, at the end, is the claim; its proof is
 -- proofs/Whole.antt's `running-guarantee`.
-use Prim.Native.Nat.{ℕ, _<_}
+use Prim.Native.Nat.{ℕ, _-_, _<_}
 use mathlib.Core.Path.{_≡_}
-use mathlib.Core.Bool.{true}
+use mathlib.Core.Bool.{Bool, true, cond}
 use mathlib.Core.List.{List, [], _∷_}
+use lib.Dec.{ltb}
 use lib.ListN.{length, getD}
 use Rattle.v8.specs.declared.Edition.{Edition}
 use Rattle.policy.specs.declared.Policy.{Policy}
-use Rattle.memory.specs.Memory.{Bytes}
+use Rattle.memory.specs.Memory.{Bytes, wordAt}
 use Rattle.step.specs.declared.Registers.{Registers}
-use Rattle.step.specs.Registers.{markCount, valueOf, isSet}
+use Rattle.step.specs.Registers.{markCount, valueOf, isSet, scratchSet}
 use Rattle.flow.specs.Readings.{readingAt}
 use Rattle.flow.specs.Written.{isCallers}
 use Rattle.step.specs.Setting.{Setting}
@@ -22,22 +23,31 @@ use Rattle.machine.specs.declared.End.the-variants.{Returned, Spent, Fault, Ref
 use Rattle.machine.specs.Placement.{placedIn}
 use Rattle.machine.specs.Run.{Run, settingOf, startState, runOf, traceFrom}
 use Rattle.rows.specs.declared.Entry.{Entry}
+use Rattle.rows.specs.Geometry.{registerCount}
 use Rattle.rows.specs.Row.{entryOf, rowOf}
 use Rattle.rows.specs.Matches.{Host, Matches, Held, RowMatches}
 use Rattle.passes.specs.Answer.{accepted}
-use Rattle.checker.specs.Passes.{checkOf, resultRegister}
-use Rattle.guarantee.specs.Fields.{Declared, Framed}
+use Rattle.passes.specs.Passes.{resultRegister}
+use Rattle.checker.specs.Passes.{checkOf}
+use Rattle.guarantee.specs.Fields.{scratchOf, Declared, Framed}
 use Rattle.guarantee.specs.Safe.{ReadingSafe}
 
 -- what the host has chosen
-abbrev pub hostOf : List ℕ → ℕ → Host
-hostOf bases returns = record { bases = bases; returns = returns }
+abbrev pub hostOf : List ℕ → ℕ → ℕ → Host
+hostOf bases returns frame = record { bases = bases; returns = returns; frame = frame }
 
--- what the registers and codes of the machine hold; "r0 counts as a set zero"
-abbrev pub heldOf : Registers → Held
-heldOf g = record { value = valueOf g; mark = isSet g; codes = g .codes .value; coded = g .codes .set }
+-- What registers, scratch words and codes of the machine hold, by the index of the entry in a row: the 32 registers, "r0 counts as a set zero", and after
+-- them the scratch words in their places of the lent memory. Request 7: a scratch word matches its entry as a register does.
+unfoldable pub valueAt : Policy → Core → ℕ → ℕ
+valueAt p c i = cond (ltb i registerCount) (valueOf (c .registers) i) (wordAt (c .memory) (scratchOf p (i - registerCount)))
 
--- 32 registers of 32 bits, each with its mark
+unfoldable pub markAt : Core → ℕ → Bool
+markAt c i = cond (ltb i registerCount) (isSet (c .registers) i) (scratchSet (c .registers) (i - registerCount))
+
+abbrev pub heldOf : Policy → Core → Held
+heldOf p c = record { value = valueAt p c; mark = markAt c; codes = c .registers .codes .value; coded = c .registers .codes .set }
+
+-- 32 registers of 32 bits, each with its mark, and the six scratch words' marks
 pub record Words (g : Registers) : Type 0 where
   pub values : length (g .values) ≡ 32
   pub marks : length (g .marks) ≡ markCount
@@ -45,12 +55,12 @@ pub record Words (g : Registers) : Type 0 where
 
 -- "A start matches if 22 finds nothing wrong in it, registers and codes match the entry row, and readable fields (permission 1 or 3) match,
 -- that is hold declared values."
-pub record Start (p : Policy) (entry bases : List ℕ) (returns : ℕ) (g : Registers) (memory : List ℕ) : Type 0 where
+pub record Start (p : Policy) (entry bases : List ℕ) (returns frame : ℕ) (g : Registers) (memory : List ℕ) : Type 0 where
   pub words : Words g
   pub bytes : Bytes memory
-  pub placed : placedIn (p .regions .count) (p .regions .sizes) bases returns memory ≡ true
-  pub row : RowMatches (hostOf bases returns) (rowOf entry 0) (heldOf g)
-  pub fields : Declared p (hostOf bases returns) memory
+  pub placed : placedIn (p .regions .count) (p .regions .sizes) bases returns frame memory ≡ true
+  pub row : RowMatches (hostOf bases returns frame) (rowOf entry 0) (heldOf p (startState g memory .core))
+  pub fields : Declared p (hostOf bases returns frame) memory
 
 -- "isn't refused and ends at no fault"; "if it returned, r8 matches the result entry"
 abbrev pub EndsWell : Host → Entry → Registers → End → Type 0
@@ -96,11 +106,11 @@ pub record Guaranteed (p : Policy) (result : Entry) (s : Setting) (h : Host) (st
   pub spent : run .outcome .end ≡ Spent → run .outcome .steps ≡ allowance
   -- "Each of its steps is demand 2's step on what the one before left"
   pub follows : Follows s start trace (run .outcome .end) (coreLeft run)
-  -- no step reads anything unset, uses a null or unaligned address, or leaves the fields that its policy allows
+  -- no step reads anything unset, uses a null or unaligned address, or leaves the fields that its policy allows and the six scratch words
   pub safe : Each (StepSafe p h s) trace
   -- "every readable field still holds declared values"
   pub declared : Declared p h (run .memory)
-  -- "every byte of the lent memory outside writable fields is as it was at the start"
+  -- "every byte of the lent memory outside writable fields is as it was at the start", but for the six scratch words
   pub framed : Framed p (start .core .memory) (run .memory)
   -- request 6: "The running guarantee adds that these never change.": r14 and r16 to r31 are at the end, however it ends, as at the start ..
   pub callers : CallersUnchanged (start .core .registers) (run .outcome .registers)
@@ -111,8 +121,8 @@ pub record Guaranteed (p : Policy) (result : Entry) (s : Setting) (h : Host) (st
 abbrev pub RunningGuarantee : Type 0
 RunningGuarantee =
     (e : Edition) (p : Policy) (words rows entry result : List ℕ) → checkOf e p words rows entry result ≡ accepted
-    → (bases : List ℕ) (returns : ℕ) (g : Registers) (memory : List ℕ) → Start p entry bases returns g memory
+    → (bases : List ℕ) (returns frame : ℕ) (g : Registers) (memory : List ℕ) → Start p entry bases returns frame g memory
     → (allowance : ℕ)
-    → Guaranteed p (entryOf result 0) (settingOf e p words bases returns) (hostOf bases returns) (startState g memory) allowance
-    (runOf e p words bases returns g allowance memory)
-    (traceFrom (settingOf e p words bases returns) allowance (startState g memory))
+    → Guaranteed p (entryOf result 0) (settingOf e p words bases returns frame) (hostOf bases returns frame) (startState g memory) allowance
+    (runOf e p words bases returns frame g allowance memory)
+    (traceFrom (settingOf e p words bases returns frame) allowance (startState g memory))

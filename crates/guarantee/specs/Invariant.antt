@@ -26,9 +26,8 @@ use Rattle.rows.specs.Laws.{RowRules}
 use Rattle.rules.specs.declared.Change.{Change}
 use Rattle.rules.specs.declared.Change.the-variants.{Writes, Keeps, Breaks}
 use Rattle.rules.specs.Change.{operationChange}
-use Rattle.passes.specs.Passes.{rowAt}
+use Rattle.passes.specs.Passes.{resultRegister, rowAt}
 use Rattle.checker.specs.Routine.{Routine, count, resultEntry}
-use Rattle.checker.specs.Passes.{resultRegister}
 use Rattle.checker.specs.Laws.{After}
 use Rattle.guarantee.specs.Fields.{Declared, Framed}
 use Rattle.guarantee.specs.Safe.{OperationSafe}
@@ -41,10 +40,10 @@ pub record CoreOk (p : Policy) (h : Host) (c : Core) : Type 0 where
   pub long : length (c .memory) ≡ lengthOf (p .regions .sizes) (p .regions .count)
   pub declared : Declared p h (c .memory)
 
--- registers and codes match a well formed row
+-- registers, scratch words and codes match a well formed row
 pub record Fitted (p : Policy) (h : Host) (row : Row) (c : Core) : Type 0 where
   pub rules : RowRules (p .regions .count) (p .regions .sizes) row
-  pub matches : RowMatches h row (heldOf (c .registers))
+  pub matches : RowMatches h row (heldOf p c)
 
 -- what an operation leaves: its row matches, and memory outside writable fields is as it was
 pub record Kept (p : Policy) (h : Host) (row : Row) (c c′ : Core) : Type 0 where

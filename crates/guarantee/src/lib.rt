@@ -9,6 +9,7 @@ use machine::run;
 use passes::Answer;
 use policy::Policy;
 use step::Registers;
+use step::scratch::unset_scratch;
 use v8::Edition;
 use v8::numbers::ACCEPTED;
 
@@ -29,6 +30,7 @@ pub fn checked_run(
     result: &[u8],
     bases: &[u32],
     returns: u32,
+    frame: u32,
     registers: Registers,
     allowance: u64,
     memory: &mut [u8],
@@ -36,22 +38,30 @@ pub fn checked_run(
     ensures ran { λ r. ⌜
         checkedLeft r (now (memory .exit))
         ≡ checkedRunOf edition policy (now (words .entry)) (now (rows .entry)) (now (entry .entry)) (now (result .entry))
-        (now (bases .entry)) returns registers allowance (now (memory .entry))
+        (now (bases .entry)) returns frame registers allowance (now (memory .entry))
         ⌝ }
     ensures guaranteed { λ r. ⌜
-        HoldsTo edition policy (now (words .entry)) (now (entry .entry)) (now (result .entry)) (now (bases .entry)) returns registers allowance
+        HoldsTo edition policy (now (words .entry)) (now (entry .entry)) (now (result .entry)) (now (bases .entry)) returns frame registers allowance
         (now (memory .entry)) (checkedLeft r (now (memory .exit)))
         ⌝ }
 {
     let answer = check(edition, policy, words, rows, entry, result);
     if answer.number != ACCEPTED {
         let number = answer.number;
+        let values = registers.values;
+        let mut marks = registers.marks;
+        let codes = registers.codes;
+        unset_scratch(&mut marks);
         return CheckedRun {
             answer,
             outcome: Outcome {
                 end: End::Refused(number),
                 steps: 0,
-                registers,
+                registers: Registers {
+                    values,
+                    marks,
+                    codes,
+                },
             },
         };
     }
@@ -61,6 +71,7 @@ pub fn checked_run(
         words,
         bases,
         returns,
+        frame,
         registers,
         allowance,
         memory,

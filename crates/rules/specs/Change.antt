@@ -92,10 +92,10 @@ accessed n (Loads op) to rd e held = Writes to held (noteAfter n to)
 accessed n (Stores op) to rd e held = cond (fits e held) Keeps (Breaks wrongValue rd)
 
 -- an access of a register, whose entry is e, to a scratch word whose entry has an index: "LD and ST through r14 with a single number read or replace
--- the scratch entry"; "4 for an unset word"
+-- the scratch entry"; "4 for an unset word". A note names a register, so that a store leaves it.
 abbrev pub keptAt : Row → Access → ℕ → Entry → ℕ → Change
 keptAt row (Loads op) to e i = ifSet (entryName i) (entryAt row i) (Writes to (entryAt row i) (noteAfter (row .note) to))
-keptAt row (Stores op) to e i = Writes i e (row .note)
+keptAt row (Stores op) to e i = Writes i e (noteAfter (row .note) i)
 
 -- the same of rd, by where the access lies
 abbrev pub accessedAt : Policy → Row → Access → ℕ → ℕ → Reach → Change

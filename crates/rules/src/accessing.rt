@@ -57,7 +57,7 @@ fn kept_at(row: Row, a: Access, to: u8, e: Entry, k: u8) -> Change
             }
             Change::Writes(to, held, note_after(note, to))
         }
-        Access::Stores(_) => Change::Writes(i, e, note),
+        Access::Stores(_) => Change::Writes(i, e, note_after(note, i)),
     }
 }
 

@@ -9,7 +9,7 @@ check-requires : tie.Need-check-requires
 check-requires c κs = search needs
 
 returns : tie.Need-returns
-returns c = given-checked _ _ _ _ _ _ _ _ _ _ _ _ (refused-left _ _ _ _ _ (c .before .before .check .ensures) (c .if1 .taken))
+returns c = given-checked _ _ _ _ _ _ _ _ _ _ _ _ _ (refused-left _ _ _ _ _ (c .before .before .check .ensures) (c .if1 .taken))
 
 run-requires : tie.Need-run-requires
 run-requires c κs = search needs
@@ -19,7 +19,7 @@ same-length c = search needs
 
 returns-2 : tie.Need-returns-2
 returns-2 c =
-    given-checked _ _ _ _ _ _ _ _ _ _ _ _
+    given-checked _ _ _ _ _ _ _ _ _ _ _ _ _
     (accepted-left _ _ _ _ _ _ (c .before .before .before .before .before .before .check .ensures) (c .before .before .run .ensures .0) (c .before .before .before .before .if1 .left))
 
 pub checked-run-spec : {M : Type 1} → statement M

@@ -27,13 +27,16 @@ note-after-requires c κs = search needs
 enum-told-2 : tie.Need-enum-told-2
 enum-told-2 c = search needs
 
+note-after-requires-2 : tie.Need-note-after-requires-2
+note-after-requires-2 c κs = search needs
+
 returns-2 : tie.Need-returns-2
 returns-2 c =
     let at = c .before .before .before in
     rw (at .before .enum-told .given .1, ← at .before .before .before .before .scratch-entry .ensures, ← at .entry-at .ensures, ne-eqb _ 0 (c .before .if1 .left), c .note-after .ensures)
 
 returns-3 : tie.Need-returns-3
-returns-3 c = rw (c .enum-told2 .given .1, c .before .before .before .scratch-entry .ensures)
+returns-3 c = rw (c .note-after2 .ensures, c .before .enum-told2 .given .1, c .before .before .before .before .scratch-entry .ensures)
 
 pub kept-at-spec : {M : Type 1} → statement M
 kept-at-spec =
@@ -46,5 +49,6 @@ kept-at-spec =
     returns
     note-after-requires
     enum-told-2
+    note-after-requires-2
     returns-2
     returns-3)
