@@ -1,20 +1,15 @@
 -- One turn of the run's loop: what a step of the word fetched answers, over lent arrays, is one step of the run, and the rest of the run goes on from
 -- what it left; a fault leaves everything as it was.
 use Prim.Native.Nat.{ℕ, suc, _+_, _-_, _<_, _≤_}
-use mathlib.Core.Path.{_≡_, refl, sym, ap, _∙_}
+use mathlib.Core.Path.{_≡_, refl, sym, ap, subst, _∙_}
 use mathlib.Core.Bool.{Bool}
 use mathlib.Core.List.{List}
 use native.Mathlib.Nat.{sub-zero}
 use native.Mathlib.Omega.{arith}
-use Rattle.v8.specs.Numbers.{notRead, noWord, noField}
+use Rattle.v8.specs.Numbers.{notRead, noWord}
 use Rattle.v8.specs.declared.Access.{Access}
-use Rattle.v8.specs.declared.ByteOffset.{ByteOffset}
 use Rattle.v8.specs.declared.Reading.{Reading}
 use Rattle.v8.specs.declared.Reading.the-variants.{Unread}
-use Rattle.memory.specs.Place.{partStart}
-use Rattle.access.specs.declared.Located.{Located}
-use Rattle.access.specs.declared.Located.the-variants.{At, Nowhere}
-use Rattle.access.specs.Locate.{locate}
 use Rattle.flow.specs.declared.Destination.{Destination}
 use Rattle.step.specs.declared.Went.{Went}
 use Rattle.step.specs.declared.Progress.{Progress}
@@ -22,12 +17,16 @@ use Rattle.step.specs.declared.Progress.the-variants.{Goes, Returned, Stopped, 
 use Rattle.flow.specs.Readings.{readingAt}
 use Rattle.step.specs.Setting.{Setting}
 use Rattle.step.specs.Control.{dueAt}
-use Rattle.step.specs.Effect.{Core, done, touching, accessAt}
+use Rattle.step.specs.Effect.{Core, accessTo}
 use Rattle.step.specs.Step.{State, Step, stopped, next, returned, advance, plainStep, stepWith, stepOf}
 use Rattle.step.specs.Lent.{Stepped, coreOf, leaving, stepFrom, completed}
 use Rattle.machine.specs.declared.End.the-variants as End·
+use Rattle.machine.specs.declared.Moved.{Moved}
+use Rattle.machine.specs.declared.Moved.the-variants.{Done, Missed}
+use Rattle.machine.specs.Moved.{Moves}
 use Rattle.machine.specs.Run.{ended, afterStep, runFrom}
 use Rattle.machine.proofs.RunLaws.{runs-nothing, runs-one-more}
+use Rattle.machine.proofs.Moving.{did, met}
 
 leaving-step : (c : Core) (x : Step) → leaving c x .step ≡ x
 leaving-step c (stopped n) = refl
@@ -106,15 +105,15 @@ module _ {s : Setting} {allowance steps : ℕ} {st : State} {w : Went} {values :
   pub turn-stopped : (f : ℕ) → w .progress ≡ Stopped f → runFrom s (allowance - steps) steps st ≡ ended (End·.Fault f) steps left
   turn-stopped f q = stops f (ap saying q)
 
-  -- an access that lies nowhere, and one that lies somewhere and was done there
-  module _ (a : Access) (rd address : ℕ) (q : w .progress ≡ Accesses a rd address) where
-    accesses : (at : Located) → locate (s .layout) a address ≡ at → said ≡ plainStep (st .control) (accessAt (s .layout .regions .sizes) left a rd at)
-    accesses at f = ap saying q ∙ ap (λ (x : Located). plainStep (st .control) (accessAt (s .layout .regions .sizes) left a rd x)) f
+  -- an access that met a fault, and one that was done
+  module _ (a : Access) (rd address : ℕ) (q : w .progress ≡ Accesses a rd address) (x : Moved) (c : Core) (m : Moves x c left (accessTo (s .layout) left a rd address)) where
+    pub turn-missed : (f : ℕ) → x ≡ Missed f → runFrom s (allowance - steps) steps st ≡ ended (End·.Fault f) steps c
+    turn-missed f e =
+        let missed = met c left f (accessTo (s .layout) left a rd address) (subst (λ (y : Moved). Moves y c left (accessTo (s .layout) left a rd address)) e m) in
+        stops f (ap saying q ∙ ap (plainStep (st .control)) (missed .0)) ∙ ap (ended (End·.Fault f) steps) (sym (missed .1))
 
-    pub turn-nowhere : locate (s .layout) a address ≡ Nowhere → runFrom s (allowance - steps) steps st ≡ ended (End·.Fault noField) steps left
-    turn-nowhere f = stops noField (accesses Nowhere f)
-
-    pub turn-moved : (r : ℕ) (offset : ByteOffset) (c : Core) (d : Destination) → locate (s .layout) a address ≡ At r offset
-        → done c ≡ touching left a rd (partStart (s .layout .regions .sizes) r + offset .0) → dueAt (st .control .at .0) (st .control .pending) ≡ d
+    pub turn-moved : (d : Destination) → x ≡ Done → dueAt (st .control .at .0) (st .control .pending) ≡ d
         → runFrom s (allowance - steps) steps st ≡ afterStep steps st (runFrom s (allowance - (steps + 1)) (steps + 1)) (advance c d)
-    turn-moved r offset c d f m to = one _ (accesses (At r offset) f ∙ sym (ap (plainStep (st .control)) m) ∙ ap (advance c) to)
+    turn-moved d e to =
+        let moved = did c left (accessTo (s .layout) left a rd address) (subst (λ (y : Moved). Moves y c left (accessTo (s .layout) left a rd address)) e m) in
+        one _ (ap saying q ∙ ap (plainStep (st .control)) moved ∙ ap (advance c) to)

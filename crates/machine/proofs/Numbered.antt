@@ -27,7 +27,7 @@ use Rattle.flow.specs.Edge.{edgeOf}
 use Rattle.flow.specs.Transfer.{isTransfer, readsCodes, link}
 use Rattle.flow.specs.Readings.{readingAt}
 use Rattle.access.specs.declared.Located.{Located}
-use Rattle.access.specs.declared.Located.the-variants.{At, Nowhere}
+use Rattle.access.specs.declared.Located.the-variants.{At, Scratch, Nowhere}
 use Rattle.access.specs.Layout.{Layout}
 use Rattle.access.specs.Serve.{accessWidth, addend}
 use Rattle.access.specs.Locate.{locate}
@@ -37,7 +37,7 @@ use Rattle.step.specs.declared.Control.{Control}
 use Rattle.step.specs.declared.Registers.{Registers}
 use Rattle.step.specs.Setting.{Setting}
 use Rattle.step.specs.Control.{inSlot, dueAt}
-use Rattle.step.specs.Registers.{valueOf, isSet, operandSet}
+use Rattle.step.specs.Registers.{valueOf, isSet, scratchSet, operandSet}
 use Rattle.step.specs.Effect.{Core, Effect, fault, done, addressIn, aimIn, aimOf, movedSet, accessAt, accessAimed, effectOf}
 use Rattle.step.specs.Step.{State, Step, stopped, next, returned, advance, follow, plainStep, execute, stepWith, stepOf}
 use Rattle.machine.specs.Placement.{placedIn}
@@ -78,9 +78,11 @@ wrong-return : IsFault wrongReturn
 wrong-return = (omega arith, omega arith)
 
 module _ (l : Layout) (c : Core) where
-  touched : (a : Access) (rd : ℕ) (at : Located) → EffectNumbered (accessAt (l .regions .sizes) c a rd at)
+  touched : (a : Access) (rd : ℕ) (at : Located) → EffectNumbered (accessAt (l .regions) c a rd at)
   touched (Loads op) rd (At r offset) = tt
   touched (Stores op) rd (At r offset) = tt
+  touched (Loads op) rd (Scratch k) = cond-both EffectNumbered (scratchSet (c .registers) k) (λ _. tt) (λ _. unset-read)
+  touched (Stores op) rd (Scratch k) = tt
   touched a rd Nowhere = no-field
 
   aimed : (others : Bool) (rs1 : ℕ) (d : Displacement) (width : ℕ) → AimNumbered (aimOf (c .registers) others rs1 d width)
@@ -152,13 +154,13 @@ abbrev RefusalNumbered : ℕ → Type 0
 RefusalNumbered zero = Unit {0}
 RefusalNumbered (suc n) = (20 ≤ suc n) × (suc n ≤ 22)
 
-refusal-numbered : (p : Policy) (words bases : List ℕ) (returns : ℕ) (memory : List ℕ) → RefusalNumbered (refusalOf p words bases returns memory)
+refusal-numbered : (p : Policy) (words bases : List ℕ) (returns frame : ℕ) (memory : List ℕ) → RefusalNumbered (refusalOf p words bases returns frame memory)
 unfolding refusalOf
-refusal-numbered p words bases returns memory =
+refusal-numbered p words bases returns frame memory =
     cond-both RefusalNumbered (policyOk p)
     (λ _. cond-both RefusalNumbered (ltb (length words) 1) (λ _. (omega arith, omega arith))
     (λ _. cond-both RefusalNumbered (ltb mostWords (length words)) (λ _. (omega arith, omega arith))
-    (λ _. cond-both RefusalNumbered (placedIn (p .regions .count) (p .regions .sizes) bases returns memory) (λ _. tt) (λ _. (omega arith, omega arith)))))
+    (λ _. cond-both RefusalNumbered (placedIn (p .regions .count) (p .regions .sizes) bases returns frame memory) (λ _. tt) (λ _. (omega arith, omega arith)))))
     (λ _. (omega arith, omega arith))
 
 if-numbered : (n : ℕ) (run : Run) (g : Registers) (memory : List ℕ) → RefusalNumbered n → Numbered (run .outcome .end) → Numbered (runIf n run g memory .outcome .end)
@@ -167,6 +169,6 @@ if-numbered (suc n) run g memory r h = r
 
 pub ends-numbered : EndsNumbered
 unfolding runOf
-ends-numbered e p words bases returns g allowance memory =
-    if-numbered (refusalOf p words bases returns memory) _ g memory (refusal-numbered p words bases returns memory)
-    (run-numbered (settingOf e p words bases returns) allowance 0 (startState g memory))
+ends-numbered e p words bases returns frame g allowance memory =
+    if-numbered (refusalOf p words bases returns frame memory) _ g memory (refusal-numbered p words bases returns frame memory)
+    (run-numbered (settingOf e p words bases returns frame) allowance 0 (startState g memory))

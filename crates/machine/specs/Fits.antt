@@ -1,13 +1,15 @@
 -- What the steps of a run rest on: a policy of at most 8 regions, a base for each, and a memory in which every access that is
--- located lies in its region's part.
+-- located lies in its region's part or in the frame's.
 use Prim.Native.Nat.{ℕ, _+_, _≤_, _<_}
 use mathlib.Core.List.{List}
 use lib.ListN.{getD, length}
 use Rattle.v8.specs.declared.Access.{Access}
 use Rattle.policy.specs.declared.Policy.{Policy}
-use Rattle.memory.specs.Place.{partStart}
+use Rattle.policy.specs.declared.Regions.{Regions}
+use Rattle.memory.specs.Frame.{frameBytes, scratchCount, scratchOffset}
+use Rattle.memory.specs.Place.{partStart, lengthOf}
 use Rattle.access.specs.declared.Located.{Located}
-use Rattle.access.specs.declared.Located.the-variants.{At, Nowhere}
+use Rattle.access.specs.declared.Located.the-variants.{At, Scratch, Nowhere}
 use Rattle.access.specs.Serve.{accessWidth}
 use Rattle.access.specs.Layout.{Layout, layoutOf}
 use Rattle.access.specs.Locate.{locate}
@@ -18,17 +20,25 @@ pub record Covered (sizes : List ℕ) (n width r offset : ℕ) : Type 0 where
   pub inside : offset + width ≤ getD sizes r 0
   pub part : partStart sizes r + getD sizes r 0 ≤ n
 
+-- an access to scratch word k lies in the frame's part of it, after those of the regions
+pub record Framed (sizes : List ℕ) (regions n width k : ℕ) : Type 0 where
+  pub few : regions ≤ 8
+  pub word : k < scratchCount
+  pub inside : scratchOffset k + width ≤ frameBytes
+  pub part : lengthOf sizes regions ≤ n
+
 -- an access lies so wherever it is located
-abbrev pub Lies : List ℕ → ℕ → ℕ → Located → Type 0
-Lies sizes n width (At r offset) = Covered sizes n width r (offset .0)
-Lies sizes n width Nowhere = Unit {0}
+abbrev pub Lies : Regions → ℕ → ℕ → Located → Type 0
+Lies regions n width (At r offset) = Covered (regions .sizes) n width r (offset .0)
+Lies regions n width (Scratch k) = Framed (regions .sizes) (regions .count) n width k
+Lies regions n width Nowhere = Unit {0}
 
 -- every access lies so
 abbrev pub Covers : Layout → ℕ → Type 0
-Covers l n = (a : Access) (address : ℕ) → Lies (l .regions .sizes) n (accessWidth a) (locate l a address)
+Covers l n = (a : Access) (address : ℕ) → Lies (l .regions) n (accessWidth a) (locate l a address)
 
--- a policy, bases and a memory of n bytes fit each other
-pub record Fits (p : Policy) (bases : List ℕ) (n : ℕ) : Type 0 where
+-- a policy, bases, a frame address and a memory of n bytes fit each other
+pub record Fits (p : Policy) (bases : List ℕ) (frame n : ℕ) : Type 0 where
   pub few : p .regions .count ≤ 8
   pub based : p .regions .count ≤ length bases
-  pub covers : Covers (layoutOf p bases) n
+  pub covers : Covers (layoutOf p bases frame) n

@@ -44,5 +44,5 @@ Numbered (Refused n) = (badPolicy ≤ n) × (n ≤ badPlacement)
 -- Every run's end has.
 abbrev pub EndsNumbered : Type 0
 EndsNumbered =
-    (e : Edition) (p : Policy) (words bases : List ℕ) (returns : ℕ) (g : Registers) (allowance : ℕ) (memory : List ℕ)
-    → Numbered (runOf e p words bases returns g allowance memory .outcome .end)
+    (e : Edition) (p : Policy) (words bases : List ℕ) (returns frame : ℕ) (g : Registers) (allowance : ℕ) (memory : List ℕ)
+    → Numbered (runOf e p words bases returns frame g allowance memory .outcome .end)

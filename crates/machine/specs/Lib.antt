@@ -1,5 +1,6 @@
 pub mod Placement
 pub mod Fits
+pub mod Moved
 pub mod Run
 pub mod Ended
 pub mod Laws

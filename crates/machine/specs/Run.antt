@@ -13,7 +13,7 @@ use Rattle.step.specs.declared.Registers.{Registers}
 use Rattle.machine.specs.declared.End.{End}
 use Rattle.machine.specs.declared.End.the-variants.{Returned, Spent, Fault, Refused}
 use Rattle.machine.specs.declared.Outcome.{Outcome}
-use Rattle.step.specs.Registers.{withZero}
+use Rattle.step.specs.Registers.{withZero, unsetScratch}
 use Rattle.access.specs.Layout.{layoutOf}
 use Rattle.flow.specs.Readings.{readingsOf}
 use Rattle.step.specs.Setting.{Setting}
@@ -83,17 +83,17 @@ module _ (s : Setting) where
   goOn m (going k st) = runFrom m k st
   goOn m (over r) = r
 
--- "It starts at word 0"; "r0 counts as a set zero"
+-- "It starts at word 0"; "r0 counts as a set zero"; "In the machine the six start unset" (document 02, request 7)
 abbrev pub startState : Registers → List ℕ → State
-startState g memory = record { control = goTo 0; core = record { registers = withZero g; memory = memory } }
+startState g memory = record { control = goTo 0; core = record { registers = unsetScratch (withZero g); memory = memory } }
 
--- the refusals: "20, 21 (word count), 22 if bases, return address or memory length are wrong"; 0 for none
-unfoldable pub refusalOf : Policy → List ℕ → List ℕ → ℕ → List ℕ → ℕ
-refusalOf p words bases returns memory =
+-- the refusals: "20, 21 (word count), 22 if bases, return address or memory length are wrong", "22 covers the frame"; 0 for none
+unfoldable pub refusalOf : Policy → List ℕ → List ℕ → ℕ → ℕ → List ℕ → ℕ
+refusalOf p words bases returns frame memory =
     cond (policyOk p)
     (cond (ltb (length words) 1) badShape
     (cond (ltb mostWords (length words)) badShape
-    (cond (placedIn (p .regions .count) (p .regions .sizes) bases returns memory) acceptance badPlacement)))
+    (cond (placedIn (p .regions .count) (p .regions .sizes) bases returns frame memory) acceptance badPlacement)))
     badPolicy
 
 -- "Refused, it changes nothing: 0 steps, registers and codes as handed in."
@@ -101,18 +101,18 @@ abbrev pub refused : ℕ → Registers → List ℕ → Run
 refused n g memory = record { outcome = record { end = Refused n; steps = 0; registers = g }; memory = memory }
 
 -- what is handed in, as a setting: the words as the terminal that is told reads them
-abbrev pub settingOf : Edition → Policy → List ℕ → List ℕ → ℕ → Setting
-settingOf e p words bases returns = record { layout = layoutOf p bases; readings = readingsOf e words; returns = returns }
+abbrev pub settingOf : Edition → Policy → List ℕ → List ℕ → ℕ → ℕ → Setting
+settingOf e p words bases returns frame = record { layout = layoutOf p bases frame; readings = readingsOf e words; returns = returns }
 
--- the run, if it is not refused
+-- the run, if it is not refused; the six scratch words are not handed in: a refused run gives them unset
 abbrev pub runIf : ℕ → Run → Registers → List ℕ → Run
 runIf zero run g memory = run
-runIf (suc n) run g memory = refused (suc n) g memory
+runIf (suc n) run g memory = refused (suc n) (unsetScratch g) memory
 
 -- the machine run, on a terminal of the edition
-unfoldable pub runOf : Edition → Policy → List ℕ → List ℕ → ℕ → Registers → ℕ → List ℕ → Run
-runOf e p words bases returns g allowance memory =
-    runIf (refusalOf p words bases returns memory)
-    (runFrom (settingOf e p words bases returns) allowance 0 (startState g memory))
+unfoldable pub runOf : Edition → Policy → List ℕ → List ℕ → ℕ → ℕ → Registers → ℕ → List ℕ → Run
+runOf e p words bases returns frame g allowance memory =
+    runIf (refusalOf p words bases returns frame memory)
+    (runFrom (settingOf e p words bases returns frame) allowance 0 (startState g memory))
     g
     memory

@@ -1,7 +1,7 @@
 // The machine: the run of a routine, step after step, with its allowance. (Document 01, "Machine
 // run".)
 
-// Where regions, return address and memory lie.
+// Where regions, return address, frame and memory lie.
 mod place;
 // How a run begins.
 mod begin;
@@ -22,7 +22,14 @@ pub enum End {
     Refused(u8),
 }
 
-// What a run gives: how it ended, the steps run, and the registers and codes with their marks.
+// What an access came to: it was done, or the fault that it met.
+pub enum Moved {
+    Done,
+    Missed(u8),
+}
+
+// What a run gives: how it ended, the steps run, and the registers and codes with their marks, the
+// marks of scratch words too.
 pub struct Outcome {
     pub end: End,
     pub steps: u64,

@@ -10,10 +10,8 @@ ghost use Rattle.machine.specs.Run.{runFrom, settingOf};
 ghost use Rattle.machine.specs.Ended.{ranOf};
 use crate::End;
 use crate::Ended;
-use crate::accessing::access_at;
-use access::Located;
-use access::locate_access;
-use access::width_of;
+use crate::Moved;
+use crate::accessing::access_to;
 use flow::Destination;
 use flow::readings::read_all;
 use policy::Policy;
@@ -27,7 +25,6 @@ use step::moving::due;
 use v8::Edition;
 use v8::WordIndex;
 use v8::numbers::MOST_WORDS;
-use v8::numbers::NO_FIELD;
 use v8::numbers::NO_WORD;
 
 // Runs from word 0 until the run has returned, has spent the allowance, or stops at a fault.
@@ -37,16 +34,17 @@ pub fn run_steps(
     words: &[u32],
     bases: &[u32],
     returns: u32,
+    frame: u32,
     codes: MarkedCodes,
     values: &mut [u32; 32],
     marks: &mut [bool; MARKS],
     memory: &mut [u8],
     allowance: u64,
 ) -> Ended
-    requires { ⌜ (length (now words) ≤ mostWords) × Fits policy (now bases) (length (now memory)) ⌝ }
+    requires { ⌜ (length (now words) ≤ mostWords) × Fits policy (now bases) frame (length (now memory)) ⌝ }
     ensures { λ r. ⌜
         ranOf r (now (values .exit)) (now (marks .exit)) (now (memory .exit))
-        ≡ runFrom (settingOf edition policy (now (words .entry)) (now (bases .entry)) returns) allowance 0
+        ≡ runFrom (settingOf edition policy (now (words .entry)) (now (bases .entry)) returns frame) allowance 0
         (record { control = goTo 0; core = coreOf (now (values .entry)) (now (marks .entry)) codes (now (memory .entry)) })
         ⌝ }
 {
@@ -90,7 +88,10 @@ pub fn run_steps(
                 };
             }
             Progress::Accesses(a, rd, address) => {
-                let located = locate_access(
+                let moved = access_to(
+                    values,
+                    marks,
+                    memory,
                     policy.regions.count,
                     &policy.regions.sizes,
                     bases,
@@ -99,26 +100,16 @@ pub fn run_steps(
                     &policy.fields.permissions,
                     &policy.fields.offsets,
                     &policy.fields.counts,
+                    frame,
                     a,
-                    width_of(a),
+                    rd,
                     address,
                 );
-                match located {
-                    Located::At(region, offset) => {
-                        access_at(
-                            values,
-                            marks,
-                            memory,
-                            &policy.regions.sizes,
-                            a,
-                            rd,
-                            region,
-                            offset,
-                        );
-                    }
-                    Located::Nowhere => {
+                match moved {
+                    Moved::Done => {}
+                    Moved::Missed(n) => {
                         return Ended {
-                            end: End::Fault(NO_FIELD),
+                            end: End::Fault(n),
                             steps,
                             codes: flags,
                         };

@@ -38,6 +38,9 @@ const MEMORY: [u32; 8] = [
     0x01000000,
 ];
 
+// The frame address, after the region.
+const FRAME: u32 = 8192;
+
 // Loads of the word at an offset of the region, and a branch back to the first of them, its slot a load too.
 fn loads(offset: u32) -> [u32; 8] {
     let load = 0xD4022000 | offset;
@@ -133,13 +136,14 @@ fn allowance_of(digit: u8) -> u64 {
 
 fn run_loop(policy: Policy, words: &[u32], allowance: u64) {
     let bases = [4096u32; 1];
-    let mut memory = [0u8; 64];
+    let mut memory = [0u8; 184];
     report(machine::run(
         Edition::V8,
         policy,
         words,
         &bases,
         65536,
+        FRAME,
         start(),
         allowance,
         &mut memory,

@@ -1,4 +1,5 @@
--- A run that is not refused has a policy that obeys the rules and is laid right, so that its steps can be run; refused, it changes nothing.
+-- A run that is not refused has a policy that obeys the rules and is laid right, so that its steps can be run; refused, it changes nothing. The six scratch words are
+-- unset either way.
 use Prim.Native.Nat.{ℕ}
 use mathlib.Core.Path.{_≡_, sym, ap, _∙_}
 use mathlib.Core.List.{List}
@@ -20,12 +21,15 @@ with-number o memory run e = (e, ap (λ (r : Run). endNumber (r .outcome .end)) 
 refusal-requires : tie.Need-refusal-requires
 refusal-requires c κs = search needs
 
+unset-scratch-requires : tie.Need-unset-scratch-requires
+unset-scratch-requires c κs = search needs
+
 same-length : tie.Need-same-length
 same-length c = search needs
 
 returns : tie.Need-returns
 unfolding runOf
-returns c = with-number _ _ _ (rw (← c .before .refusal .ensures) (sym (refused-run (c .before .refusal .result) _ _ _ (c .if1 .taken))))
+returns c = with-number _ _ _ (rw (← c .before .before .before .before .before .before .refusal .ensures, c .unset-scratch .ensures) (sym (refused-run (c .before .before .before .before .before .before .refusal .result) _ _ _ (c .before .before .if1 .taken))))
 
 array-write-values : tie.Need-array-write-values
 array-write-values c = search needs
@@ -33,15 +37,16 @@ array-write-values c = search needs
 array-write-marks : tie.Need-array-write-marks
 array-write-marks c = search needs
 
+unset-scratch-requires-2 : tie.Need-unset-scratch-requires-2
+unset-scratch-requires-2 c κs = search needs
+
 run-steps-requires : tie.Need-run-steps-requires
 run-steps-requires c κs =
-    let start = c .before .before .before .before .before .before .before .before .before .before .before .before in
-    let refusal = c .before .before .before .before .before .before .before .refusal in
-    let test = c .before .before .before .before .before .before .if1 in
-    let policy = start .args .policy in
-    let passed = begun _ _ _ _ _ (sym (refusal .ensures) ∙ test .left) in
-    let count = based policy _ _ _ (passed .placed) in
-    (passed .most, record { few = obeys _ (passed .ok) .regions-most; based = omega (arith, count); covers = covers _ _ _ _ (passed .placed) (passed .ok) })
+    let refusal = c .before .before .before .before .before .before .before .before .before .refusal in
+    let policy = c .before .before .before .before .before .before .before .before .before .before .before .before .before .before .args .policy in
+    let passed = begun _ _ _ _ _ _ (sym (refusal .ensures) ∙ c .before .before .before .before .before .if1 .left) in
+    let count = based policy _ _ _ _ (passed .placed) in
+    (passed .most, record { few = obeys _ (passed .ok) .regions-most; based = omega (arith, count); covers = covers _ _ _ _ _ (passed .placed) (passed .ok) })
 
 same-length-2 : tie.Need-same-length-2
 same-length-2 c = search needs
@@ -49,20 +54,21 @@ same-length-2 c = search needs
 returns-2 : tie.Need-returns-2
 unfolding runOf
 returns-2 c =
-    let refusal = c .before .before .before .before .before .before .before .before .before .before .before .refusal in
-    let test = c .before .before .before .before .before .before .before .before .before .before .if1 in
+    let refusal = c .before .before .before .before .before .before .before .before .before .before .before .before .before .refusal in
     let run-steps = c .before .before .before .run-steps in
-    with-number _ _ _ (rw (sym (refusal .ensures) ∙ test .left) (run-steps .ensures))
+    with-number _ _ _ (rw (sym (refusal .ensures) ∙ c .before .before .before .before .before .before .before .before .before .if1 .left, ← c .before .before .before .before .before .before .before .unset-scratch2 .ensures) (run-steps .ensures))
 
 pub run-spec : {M : Type 1} → statement M
 run-spec =
     tie.close
     (tie.spec
     refusal-requires
+    unset-scratch-requires
     same-length
     returns
     array-write-values
     array-write-marks
+    unset-scratch-requires-2
     run-steps-requires
     same-length-2
     returns-2)

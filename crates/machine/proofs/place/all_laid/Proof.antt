@@ -40,14 +40,26 @@ returns c = let a = c .before .before .before .before .before .before .before .a
     let fails = sym (c .before .base-ok .ensures) ∙ not-true _ (c .if1 .taken) in
     rw (all-not (basePlacedAt (a .sizes .now) (a .bases .now)) _ _ (c .before .before .before .before .loop-test .taken) fails)
 
-disjoint-below-requires : tie.Need-disjoint-below-requires Inv-loop μ-loop
-disjoint-below-requires c κs = search needs
+mul-apart-from-all : tie.Need-mul-apart-from-all Inv-loop μ-loop
+mul-apart-from-all c = search needs
+
+shared-slice-read-apart-from-all : tie.Need-shared-slice-read-apart-from-all Inv-loop μ-loop
+shared-slice-read-apart-from-all c = search needs
+
+mul-apart-from-all-2 : tie.Need-mul-apart-from-all-2 Inv-loop μ-loop
+mul-apart-from-all-2 c = search needs
+
+element-copy-out-apart-from-all : tie.Need-element-copy-out-apart-from-all Inv-loop μ-loop
+element-copy-out-apart-from-all c = search needs
+
+apart-from-all-requires : tie.Need-apart-from-all-requires Inv-loop μ-loop
+apart-from-all-requires c κs = search needs
 
 returns-2 : tie.Need-returns-2 Inv-loop μ-loop
-returns-2 c = let a = c .before .before .before .before .before .before .before .before .before .args in
-    let fails = sym (c .before .disjoint-below .ensures) ∙ not-true _ (c .if2 .taken) in
-    let within = c .before .before .before .before .before .before .loop-test .taken in
-    rw (all-not (disjointIn (a .sizes .now) (a .bases .now)) _ _ within fails, and-false)
+unfolding disjointIn
+returns-2 c = let a = c .before .before .before .before .before .before .before .before .before .before .before .args in
+    let fails = sym (c .before .apart-from-all .ensures) ∙ not-true _ (c .if2 .taken) in
+    rw (all-not (disjointIn (a .sizes .now) (a .bases .now)) _ _ (c .before .before .before .before .before .before .before .before .loop-test .taken) fails, and-false)
 
 add-i : tie.Need-add-i Inv-loop μ-loop
 add-i c = search needs
@@ -56,10 +68,11 @@ loop-less : tie.Need-loop-less Inv-loop μ-loop
 loop-less c = search needs
 
 loop-again : tie.Need-loop-again Inv-loop μ-loop
-loop-again c = let inv = c .before .before .before .before .before .before .before .loop .inv in (
+unfolding disjointIn
+loop-again c = let inv = c .before .before .before .before .before .before .before .before .before .loop .inv in (
   search needs,
-  all-more _ _ (inv .1) (sym (c .before .before .before .base-ok .ensures) ∙ not-false _ (c .before .before .if1 .left)),
-  all-more _ _ (inv .2) (sym (c .before .disjoint-below .ensures) ∙ not-false _ (c .if2 .left)),
+  all-more _ _ (inv .1) (sym (c .before .before .before .before .before .base-ok .ensures) ∙ not-false _ (c .before .before .before .before .if1 .left)),
+  all-more _ _ (inv .2) (sym (c .before .apart-from-all .ensures) ∙ not-false _ (c .if2 .left)),
 )
 
 returns-3 : tie.Need-returns-3 Inv-loop μ-loop
@@ -78,7 +91,11 @@ all-laid-spec =
     element-copy-out-base-ok
     base-ok-requires
     returns
-    disjoint-below-requires
+    mul-apart-from-all
+    shared-slice-read-apart-from-all
+    mul-apart-from-all-2
+    element-copy-out-apart-from-all
+    apart-from-all-requires
     returns-2
     add-i
     loop-less

@@ -1,8 +1,8 @@
 -- The run is the run of what is left: after some steps, the whole run is the run from the state that they left, with what is left of
 -- the allowance. That is the measure too. Each way through the loop's body ends a step as the definition says: on to the next state,
--- returned, or stopped at a fault; an access is located and done first.
+-- returned, or stopped at a fault; an access is done first, or meets a fault.
 use Prim.Native.Nat.{ℕ, _-_, _≤_}
-use mathlib.Core.Path.{_≡_, refl, sym, ap, _∙_}
+use mathlib.Core.Path.{_≡_, refl, sym, ap, subst, _∙_}
 use mathlib.Core.List.{List}
 use native.Mathlib.Omega.{arith}
 use lib.ListN.{length}
@@ -16,24 +16,24 @@ use Rattle.flow.proofs.Fetched.{array-has, past-array}
 use Rattle.step.specs.Setting.{Setting}
 use Rattle.step.specs.Step.{State}
 use Rattle.step.specs.Lent.{coreOf}
+use Rattle.machine.specs.Fits.{Covers}
 use Rattle.machine.specs.Run.{runFrom, settingOf}
-use Rattle.machine.proofs.Covered.{covered-at}
-use Rattle.machine.proofs.Loop.{Turned, turn-first, turn-spent, turn-outside, turn-goes, turn-returned, turn-stopped, turn-nowhere, turn-moved}
+use Rattle.machine.proofs.Loop.{Turned, turn-first, turn-spent, turn-outside, turn-goes, turn-returned, turn-stopped, turn-missed, turn-moved}
 use Rattle.machine.proofs.steps.run_steps.Statement.{statement}
 use Rattle.machine.proofs.steps.run_steps.Tie as tie
 
 -- the setting of the run, by the readings of the array
-abbrev settingRead : Policy → List ℕ → List ℕ → ℕ → List Reading → Setting
-settingRead policy words bases returns readings = record { layout = layoutOf policy bases; readings = codeOf readings (length words); returns = returns }
+abbrev settingRead : Policy → List ℕ → List ℕ → ℕ → ℕ → List Reading → Setting
+settingRead policy words bases returns frame readings = record { layout = layoutOf policy bases frame; readings = codeOf readings (length words); returns = returns }
 
 abbrev Inv-loop : tie.InvT-loop
-Inv-loop words bases returns values₀ marks₀ memory₀ allowance policy readings control₀ flags₀ steps₀ values marks memory control flags steps =
+Inv-loop words bases returns frame values₀ marks₀ memory₀ allowance policy readings control₀ flags₀ steps₀ values marks memory control flags steps =
     (steps ≤ allowance) × (length memory ≡ length memory₀)
-    × (runFrom (settingRead policy words bases returns readings) allowance 0 (record { control = control₀; core = coreOf values₀ marks₀ flags₀ memory₀ })
-    ≡ runFrom (settingRead policy words bases returns readings) (allowance - steps) steps (record { control = control; core = coreOf values marks flags memory }))
+    × (runFrom (settingRead policy words bases returns frame readings) allowance 0 (record { control = control₀; core = coreOf values₀ marks₀ flags₀ memory₀ })
+    ≡ runFrom (settingRead policy words bases returns frame readings) (allowance - steps) steps (record { control = control; core = coreOf values marks flags memory }))
 
 abbrev μ-loop : tie.MeasureT-loop
-μ-loop words bases returns values₀ marks₀ memory₀ allowance policy readings control₀ flags₀ steps₀ values marks memory control flags steps = allowance - steps
+μ-loop words bases returns frame values₀ marks₀ memory₀ allowance policy readings control₀ flags₀ steps₀ values marks memory control flags steps = allowance - steps
 
 -- Seen from after the step of a turn: where the turn began, its test, the test of the word's index, and the function's start.
 abbrev Stepped : Type 0
@@ -56,12 +56,12 @@ at-start o = start (at-read o)
 
 -- the setting of the run, which is that of the words; the state at a turn's begin, and what the turn has shown after its step
 abbrev setting : tie.After-read-all Inv-loop μ-loop → Setting
-setting r = let a = start r .args in settingRead (a .t2) (now (a .words)) (now (a .bases)) (a .returns) (r .read-all .result)
+setting r = let a = start r .args in settingRead (a .t2) (now (a .words)) (now (a .bases)) (a .returns) (a .frame) (r .read-all .result)
 
 run-as : (r : tie.After-read-all Inv-loop μ-loop) (n k : ℕ) (st : State)
-    → runFrom (setting r) n k st ≡ runFrom (settingOf (start r .args .edition) (start r .args .t2) (now (start r .args .words)) (now (start r .args .bases)) (start r .args .returns)) n k st
+    → runFrom (setting r) n k st ≡ runFrom (settingOf (start r .args .edition) (start r .args .t2) (now (start r .args .words)) (now (start r .args .bases)) (start r .args .returns) (start r .args .frame)) n k st
 run-as r n k st =
-    ap (λ (code : List Reading). runFrom (record { layout = layoutOf (start r .args .t2) (now (start r .args .bases)); readings = code; returns = start r .args .returns }) n k st)
+    ap (λ (code : List Reading). runFrom (record { layout = layoutOf (start r .args .t2) (now (start r .args .bases)) (start r .args .frame); readings = code; returns = start r .args .returns }) n k st)
     (r .read-all .ensures .is)
 
 abbrev state : tie.At-loop Inv-loop μ-loop → State
@@ -78,6 +78,16 @@ turned o =
       says = o .one-step .ensures _ _;
     }
 
+-- Seen from after an access: the step that asked for it; and memory is as long as it was.
+abbrev Accessed : Type 0
+Accessed = tie.After-access-to Inv-loop μ-loop
+
+abbrev at-step : Accessed → Stepped
+at-step m = m .before .before .before .before .before .before .before .before .before .before .before .before .before .before .before
+
+same-after : (m : Accessed) → length (m .access-to .last .1 .1 .0) ≡ length (now (at-start (at-step m) .args .memory))
+same-after m = m .access-to .kept .1 .1 .0 ∙ at-loop (at-step m) .loop .inv .1
+
 read-all-requires : tie.Need-read-all-requires Inv-loop μ-loop
 read-all-requires c κs = c .before .before .before .pre .0
 
@@ -91,8 +101,7 @@ same-length : tie.Need-same-length Inv-loop μ-loop
 same-length c = search needs
 
 returns : tie.Need-returns Inv-loop μ-loop
-returns c =
-    let at-begin = c .before .before .before .before in
+returns c = let at-begin = c .before .before .before .before in
     let r = c .before .before .before .before .before in
     let outside = past-array (r .read-all .result) _ (r .read-all .ensures .formed) (at-begin .loop .control .at .0) (c .if1 .taken) in
     sym (at-begin .loop .inv .2 ∙ turn-outside (setting r) _ _ (state at-begin) (sym outside) (c .before .before .before .loop-test .taken)) ∙ run-as r _ _ _
@@ -110,34 +119,29 @@ enum-told : tie.Need-enum-told Inv-loop μ-loop
 enum-told c = search needs
 
 add-steps : tie.Need-add-steps Inv-loop μ-loop
-add-steps c =
-    let o = c .before .before .before .before in
+add-steps c = let o = c .before .before .before .before in
     omega (arith, at-test o .loop-test .taken, at-start o .fits .allowance)
 
 loop-less : tie.Need-loop-less Inv-loop μ-loop
-loop-less c =
-    let o = c .before .before .before .before in
+loop-less c = let o = c .before .before .before .before in
     omega (arith, at-test o .loop-test .taken)
 
 loop-again : tie.Need-loop-again Inv-loop μ-loop
-loop-again c =
-    let o = c .before .before .before .before in
+loop-again c = let o = c .before .before .before .before in
     (omega (arith, at-test o .loop-test .taken), at-loop o .loop .inv .1, at-loop o .loop .inv .2 ∙ turn-goes (turned o) (c .before .enum-told .given .1))
 
 enum-told-2 : tie.Need-enum-told-2 Inv-loop μ-loop
 enum-told-2 c = search needs
 
 add-t41 : tie.Need-add-t41 Inv-loop μ-loop
-add-t41 c =
-    let o = c .before .before .before in
+add-t41 c = let o = c .before .before .before in
     omega (arith, at-test o .loop-test .taken, at-start o .fits .allowance)
 
 same-length-2 : tie.Need-same-length-2 Inv-loop μ-loop
 same-length-2 c = search needs
 
 returns-2 : tie.Need-returns-2 Inv-loop μ-loop
-returns-2 c =
-    let o = c .before .before .before in
+returns-2 c = let o = c .before .before .before in
     sym (at-loop o .loop .inv .2 ∙ turn-returned (turned o) (c .enum-told2 .given .1)) ∙ run-as (at-read o) _ _ _
 
 enum-known-progress : tie.Need-enum-known-progress Inv-loop μ-loop
@@ -147,89 +151,77 @@ same-length-3 : tie.Need-same-length-3 Inv-loop μ-loop
 same-length-3 c = search needs
 
 returns-3 : tie.Need-returns-3 Inv-loop μ-loop
-returns-3 c =
-    let o = c .before .before .before .before in
+returns-3 c = let o = c .before .before .before .before in
     sym (at-loop o .loop .inv .2 ∙ turn-stopped (turned o) _ (c .before .progress .given .1)) ∙ run-as (at-read o) _ _ _
 
 enum-known-progress-2 : tie.Need-enum-known-progress-2 Inv-loop μ-loop
 enum-known-progress-2 c = search needs
 
-width-of-requires : tie.Need-width-of-requires Inv-loop μ-loop
-width-of-requires c κs = search needs
-
-locate-access-requires : tie.Need-locate-access-requires Inv-loop μ-loop
-locate-access-requires c κs =
-    let fits = at-start (c .before .before .before .before .before .before .before .before .before .before .before .before) .pre .1 in
-    let width = c .width-of .ensures in
-    (fits .few, fits .based, width .0, width .2)
-
-enum-known-located : tie.Need-enum-known-located Inv-loop μ-loop
-enum-known-located c = search needs
-
-access-at-requires : tie.Need-access-at-requires Inv-loop μ-loop
-access-at-requires c κs =
-    let o = c .before .before .before .before .before .before .before .before .before .before .before .before .before .before .before .before .before .before .before .before .before in
-    let at = sym (c .before .before .before .before .before .before .before .before .locate-access .ensures) ∙ c .before .before .before .before .before .before .located .given .1 in
-    covered-at (setting (at-read o) .layout) _ _ _ _ _ _ (at-start o .pre .1 .covers) (at-loop o .loop .inv .1) at
+access-to-requires : tie.Need-access-to-requires Inv-loop μ-loop
+access-to-requires c κs =
+    let o = c .before .before .before .before .before .before .before .before .before .before .before .before .before .before in
+    let fits = at-start o .pre .1 in
+    (fits .few, fits .based, subst (Covers (setting (at-read o) .layout)) (sym (at-loop o .loop .inv .1)) (fits .covers))
 
 enum-told-3 : tie.Need-enum-told-3 Inv-loop μ-loop
 enum-told-3 c = search needs
 
+enum-known-moved : tie.Need-enum-known-moved Inv-loop μ-loop
+enum-known-moved c = search needs
+
 same-length-4 : tie.Need-same-length-4 Inv-loop μ-loop
-same-length-4 c = at-loop (c .before .before .before .before .before .before .before .before .before .before .before .before .before .before .before) .loop .inv .1
+same-length-4 c = same-after (c .before .before .before .before .before)
 
 returns-4 : tie.Need-returns-4 Inv-loop μ-loop
 returns-4 c =
-    let o = c .before .before .before .before .before .before .before .before .before .before .before .before .before .before .before in
-    let asked = c .before .before .before .before .before .before .before .before .before .before .before .before .progress2 .given .1 in
-    let nowhere = sym (c .before .before .locate-access .ensures) ∙ c .enum-told3 .given .1 in
-    sym (at-loop o .loop .inv .2 ∙ turn-nowhere (turned o) _ _ _ asked nowhere) ∙ run-as (at-read o) _ _ _
+    let m = c .before .before .before .before .before in
+    let asked = m .before .before .before .before .before .before .before .before .before .before .before .before .progress2 .given .1 in
+    let moves = m .access-to .ensures (at-step m .one-step .result .codes) in
+    sym (at-loop (at-step m) .loop .inv .2 ∙ turn-missed (turned (at-step m)) _ _ _ asked _ _ moves _ (c .before .moved .given .1)) ∙ run-as (at-read (at-step m)) _ _ _
 
 due-requires : tie.Need-due-requires Inv-loop μ-loop
-due-requires c κs = c .before .before .before .before .before .before .before .before .before .before .before .before .before .before .before .before .before .before .before .before .before .before .before .before .before .before .before .before .if1 .left
+due-requires c κs = c .before .before .before .before .before .before .before .before .before .before .before .before .before .before .before .before .before .before .before .before .before .before .before .if1 .left
 
 enum-known-to : tie.Need-enum-known-to Inv-loop μ-loop
 enum-known-to c = search needs
 
 add-steps-2 : tie.Need-add-steps-2 Inv-loop μ-loop
 add-steps-2 c =
-    let o = c .before .before .before .before .before .before .before .before .before .before .before .before .before .before .before .before .before .before .before .before .before .before .before .before .before .before .before .before in
+    let o = c .before .before .before .before .before .before .before .before .before .before .before .before .before .before .before .before .before .before .before .before .before .before .before in
     omega (arith, at-test o .loop-test .taken, at-start o .fits .allowance)
 
 loop-less-2 : tie.Need-loop-less-2 Inv-loop μ-loop
 loop-less-2 c =
-    let o = c .before .before .before .before .before .before .before .before .before .before .before .before .before .before .before .before .before .before .before .before .before .before .before .before .before .before .before .before in
+    let o = c .before .before .before .before .before .before .before .before .before .before .before .before .before .before .before .before .before .before .before .before .before .before .before in
     omega (arith, at-test o .loop-test .taken)
 
 loop-again-2 : tie.Need-loop-again-2 Inv-loop μ-loop
 loop-again-2 c =
-    let o = c .before .before .before .before .before .before .before .before .before .before .before .before .before .before .before .before .before .before .before .before .before .before .before .before .before .before .before .before in
-    let asked = c .before .before .before .before .before .before .before .before .before .before .before .before .before .before .before .before .before .before .before .before .before .before .before .before .before .progress2 .given .1 in
-    let at = sym (c .before .before .before .before .before .before .before .before .before .before .before .before .before .before .before .locate-access .ensures) ∙ c .before .before .before .before .before .before .before .before .before .before .before .before .before .located .given .1 in
-    let done = c .before .before .before .before .before .before .access-at in
+    let m = c .before .before .before .before .before .before .before .before in
+    let asked = m .before .before .before .before .before .before .before .before .before .before .before .before .progress2 .given .1 in
+    let moves = m .access-to .ensures (at-step m .one-step .result .codes) in
     let to = sym (c .before .before .before .due .ensures) ∙ c .before .to .given .1 in
-    let run = at-loop o .loop .inv .2 ∙ turn-moved (turned o) _ _ _ asked _ _ _ _ at (done .ensures (o .one-step .result .codes)) to in
-    (omega (arith, at-test o .loop-test .taken), done .kept .1 .1 .0 ∙ at-loop o .loop .inv .1, run)
+    let run = at-loop (at-step m) .loop .inv .2 ∙ turn-moved (turned (at-step m)) _ _ _ asked _ _ moves _ (c .before .before .before .before .enum-told3 .given .1) to in
+    (omega (arith, at-test (at-step m) .loop-test .taken), same-after m, run)
 
 enum-told-4 : tie.Need-enum-told-4 Inv-loop μ-loop
 enum-told-4 c = search needs
 
-add-t60 : tie.Need-add-t60 Inv-loop μ-loop
-add-t60 c =
-    let o = c .before .before .before .before .before .before .before .before .before .before .before .before .before .before .before .before .before .before .before .before .before .before .before .before .before .before .before in
+add-t57 : tie.Need-add-t57 Inv-loop μ-loop
+add-t57 c =
+    let o = c .before .before .before .before .before .before .before .before .before .before .before .before .before .before .before .before .before .before .before .before .before .before in
     omega (arith, at-test o .loop-test .taken, at-start o .fits .allowance)
 
 same-length-5 : tie.Need-same-length-5 Inv-loop μ-loop
-same-length-5 c = c .before .before .before .before .before .access-at .kept .1 .1 .0 ∙ at-loop (c .before .before .before .before .before .before .before .before .before .before .before .before .before .before .before .before .before .before .before .before .before .before .before .before .before .before .before) .loop .inv .1
+same-length-5 c = same-after (c .before .before .before .before .before .before .before)
 
 returns-5 : tie.Need-returns-5 Inv-loop μ-loop
 returns-5 c =
-    let o = c .before .before .before .before .before .before .before .before .before .before .before .before .before .before .before .before .before .before .before .before .before .before .before .before .before .before .before in
-    let asked = c .before .before .before .before .before .before .before .before .before .before .before .before .before .before .before .before .before .before .before .before .before .before .before .before .progress2 .given .1 in
-    let at = sym (c .before .before .before .before .before .before .before .before .before .before .before .before .before .before .locate-access .ensures) ∙ c .before .before .before .before .before .before .before .before .before .before .before .before .located .given .1 in
-    let done = c .before .before .before .before .before .access-at in
+    let m = c .before .before .before .before .before .before .before in
+    let asked = m .before .before .before .before .before .before .before .before .before .before .before .before .progress2 .given .1 in
+    let moves = m .access-to .ensures (at-step m .one-step .result .codes) in
     let to = sym (c .before .before .due .ensures) ∙ c .enum-told4 .given .1 in
-    sym (at-loop o .loop .inv .2 ∙ turn-moved (turned o) _ _ _ asked _ _ _ _ at (done .ensures (o .one-step .result .codes)) to) ∙ run-as (at-read o) _ _ _
+    sym (at-loop (at-step m) .loop .inv .2 ∙ turn-moved (turned (at-step m)) _ _ _ asked _ _ moves _ (c .before .before .before .enum-told3 .given .1) to) ∙ run-as (at-read (at-step m)) _ _ _
 
 same-length-6 : tie.Need-same-length-6 Inv-loop μ-loop
 same-length-6 c = search needs
@@ -263,11 +255,9 @@ run-steps-spec =
     same-length-3
     returns-3
     enum-known-progress-2
-    width-of-requires
-    locate-access-requires
-    enum-known-located
-    access-at-requires
+    access-to-requires
     enum-told-3
+    enum-known-moved
     same-length-4
     returns-4
     due-requires
@@ -276,7 +266,7 @@ run-steps-spec =
     loop-less-2
     loop-again-2
     enum-told-4
-    add-t60
+    add-t57
     same-length-5
     returns-5
     same-length-6

@@ -1,4 +1,4 @@
--- `disjoint_below` meets its contract. The loop's invariant: the region shares no byte with those passed so far.
+-- `apart_from_all` meets its contract. The loop's invariant: the bytes are none of the regions passed so far.
 use Prim.Native.Nat.{_≤_, _-_}
 use mathlib.Core.Path.{_≡_, sym, ap, _∙_}
 use mathlib.Core.Bool.{true}
@@ -7,27 +7,15 @@ use borrow.Author.Needs.{needs}
 use borrow.Author.Tests.{not-true, not-false}
 use Rattle.v8.specs.Search.{all}
 use Rattle.v8.proofs.Search.{all-none, all-more, all-not}
-use Rattle.machine.specs.Placement.{apartIn, disjointIn}
-use Rattle.machine.proofs.place.disjoint_below.Statement.{statement}
-use Rattle.machine.proofs.place.disjoint_below.Tie as tie
+use Rattle.machine.specs.Placement.{apartFromRegion}
+use Rattle.machine.proofs.place.apart_from_all.Statement.{statement}
+use Rattle.machine.proofs.place.apart_from_all.Tie as tie
 
 abbrev Inv-loop : tie.InvT-loop
-Inv-loop sizes bases region base size i₀ i = (i ≤ region) × (all (apartIn sizes bases region) i ≡ true)
+Inv-loop sizes bases base size n i₀ i = (i ≤ n) × (all (apartFromRegion sizes bases base size) i ≡ true)
 
 abbrev μ-loop : tie.MeasureT-loop
-μ-loop sizes bases region base size i₀ i = region - i
-
-mul-base : tie.Need-mul-base Inv-loop μ-loop
-mul-base c = search needs
-
-shared-slice-read-base : tie.Need-shared-slice-read-base Inv-loop μ-loop
-shared-slice-read-base c = search needs
-
-mul-size : tie.Need-mul-size Inv-loop μ-loop
-mul-size c = search needs
-
-element-copy-out-size : tie.Need-element-copy-out-size Inv-loop μ-loop
-element-copy-out-size c = search needs
+μ-loop sizes bases base size n i₀ i = n - i
 
 loop-holds : tie.Need-loop-holds Inv-loop μ-loop
 loop-holds c = (search needs, all-none _)
@@ -48,11 +36,10 @@ apart-requires : tie.Need-apart-requires Inv-loop μ-loop
 apart-requires c κs = search needs
 
 returns : tie.Need-returns Inv-loop μ-loop
-unfolding disjointIn
-returns c = let a = c .before .before .before .before .before .before .before .before .before .args in
+returns c = let a = c .before .before .before .before .before .before .before .args in
     let fails = sym (c .before .apart .ensures) ∙ not-true _ (c .if1 .taken) in
     let within = c .before .before .before .before .loop-test .taken in
-    sym (all-not (apartIn (a .sizes .now) (a .bases .now) (a .region)) _ _ within fails)
+    sym (all-not (apartFromRegion (a .sizes .now) (a .bases .now) (a .base) (a .size)) _ _ within fails)
 
 add-i : tie.Need-add-i Inv-loop μ-loop
 add-i c = search needs
@@ -65,19 +52,14 @@ loop-again c = let passes = sym (c .before .apart .ensures) ∙ not-false _ (c .
     (search needs, all-more _ _ (c .before .before .before .before .before .loop .inv .1) passes)
 
 returns-2 : tie.Need-returns-2 Inv-loop μ-loop
-unfolding disjointIn
 returns-2 c = sym (c .before .loop .inv .1) ∙ ap (all _) (le-antisymm (c .before .loop .inv .0) (c .loop-test .left))
 
-pub disjoint-below-spec : {M : Type 1} → statement M
-disjoint-below-spec =
+pub apart-from-all-spec : {M : Type 1} → statement M
+apart-from-all-spec =
     tie.close
     (tie.spec
     Inv-loop
     μ-loop
-    mul-base
-    shared-slice-read-base
-    mul-size
-    element-copy-out-size
     loop-holds
     mul-apart
     shared-slice-read-apart
