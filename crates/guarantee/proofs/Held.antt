@@ -88,11 +88,15 @@ module _ (p : Policy) (c : Core) (rd v : ℕ) (w : Words (c .registers)) where
   abbrev after : Core
   after = record { registers = written (c .registers) rd v; memory = c .memory }
 
+  registers-kept : (r : ℕ) → (r ≡ rd → 1 ≤ rd → rd < 32 → ⊥)
+      → (isSet (after .registers) r ≡ isSet (c .registers) r) × (valueOf (after .registers) r ≡ valueOf (c .registers) r)
+  unfolding valueIn setIn valuesWith marksWith
+  registers-kept r away = (write-others true false (c .registers .marks) rd true r away, write-others 0 0 (c .registers .values) rd v r away)
+
   others-kept : (r : ℕ) → (r ≡ rd → 1 ≤ rd → rd < 32 → ⊥) → (t : Bool) → ltb r registerCount ≡ t
       → (markAt after r ≡ markAt c r) × (valueAt p after r ≡ valueAt p c r)
-  unfolding markAt valueAt valueIn setIn valuesWith marksWith
-  others-kept r away true t =
-      (rw t (write-others true false (c .registers .marks) rd true r away), rw t (write-others 0 0 (c .registers .values) rd v r away))
+  unfolding markAt valueAt
+  others-kept r away true t = let k = registers-kept r away in (rw t (k .0), rw t (k .1))
   others-kept r away false t = (rw t (write-keeps-scratch (c .registers) rd v (r - registerCount)), rw t)
 
   pub wrote : rd < 32 → Wrote (heldOf p c) (heldOf p after) rd v

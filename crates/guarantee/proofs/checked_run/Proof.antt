@@ -8,8 +8,14 @@ use Rattle.guarantee.proofs.checked_run.Tie as tie
 check-requires : tie.Need-check-requires
 check-requires c κs = search needs
 
+unset-scratch-requires : tie.Need-unset-scratch-requires
+unset-scratch-requires c κs = search needs
+
 returns : tie.Need-returns
-returns c = given-checked _ _ _ _ _ _ _ _ _ _ _ _ _ (refused-left _ _ _ _ _ (c .before .before .check .ensures) (c .if1 .taken))
+returns c =
+    let refused = c .before .before .before .before .before in
+    given-checked _ _ _ _ _ _ _ _ _ _ _ _ _
+    (rw (c .unset-scratch .ensures) (refused-left _ _ _ _ _ (refused .before .before .check .ensures) (refused .if1 .taken)))
 
 run-requires : tie.Need-run-requires
 run-requires c κs = search needs
@@ -23,4 +29,4 @@ returns-2 c =
     (accepted-left _ _ _ _ _ _ (c .before .before .before .before .before .before .check .ensures) (c .before .before .run .ensures .0) (c .before .before .before .before .if1 .left))
 
 pub checked-run-spec : {M : Type 1} → statement M
-checked-run-spec = tie.close (tie.spec check-requires returns run-requires same-length returns-2)
+checked-run-spec = tie.close (tie.spec check-requires unset-scratch-requires returns run-requires same-length returns-2)
