@@ -25,7 +25,8 @@ returnAddress = 4
 abbrev pub unset : ℕ
 unset = 5
 
--- the mark of an entry's kind: unset is kind 0 there, and the other kinds have the numbers of their marks
+-- the mark of an entry's kind: unset is kind 0 there, and kinds 1 to 4 have the numbers of their marks. Request 7, of kind 5, the frame address:
+-- "the listing marks it unset", which is mark 5.
 abbrev pub markOfKind : ℕ → ℕ
 markOfKind kind = cond (eqb kind 0) unset kind
 

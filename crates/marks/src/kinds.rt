@@ -12,7 +12,7 @@ pub const ADDRESS: u8 = 2;
 // Unset: nothing is known of the register.
 pub const UNSET: u8 = 5;
 
-// The mark of an entry's kind.
+// The mark of an entry's kind. Kind 5, the frame address, has the number of the mark that it gets: unset.
 pub fn mark_of_kind(kind: u8) -> u8
     ensures { λ r. ⌜ r ≡ markOfKind kind ⌝ }
 {

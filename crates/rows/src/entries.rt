@@ -161,7 +161,9 @@ pub fn entry_ok(regions: u8, sizes: &[u16; 8], e: Entry) -> bool
     if kind == START_OR_NULL {
         return (e.region < regions) & is_blank(e.set);
     }
-    ((kind == UNSET) | (kind == RETURN_ADDRESS) | (kind == FRAME_ADDRESS)) & (e.region == 0) & is_blank(e.set)
+    ((kind == UNSET) | (kind == RETURN_ADDRESS) | (kind == FRAME_ADDRESS))
+        & (e.region == 0)
+        & is_blank(e.set)
 }
 
 // Whether what a register holds by entry `a` obeys entry `b`.
@@ -184,7 +186,8 @@ pub fn fits(a: Entry, b: Entry) -> bool
         let start = is_region_start(b.region, a);
         return (held == START_OR_NULL) & (a.region == b.region) | (zero | start);
     }
-    (held == RETURN_ADDRESS) & (asked == RETURN_ADDRESS) | (held == FRAME_ADDRESS) & (asked == FRAME_ADDRESS)
+    (held == RETURN_ADDRESS) & (asked == RETURN_ADDRESS)
+        | (held == FRAME_ADDRESS) & (asked == FRAME_ADDRESS)
 }
 
 // What a load of a field gives.

@@ -55,10 +55,7 @@ pub fn entry_formed_as(regions: u8, sizes: &[u16; 8], bytes: &[u8], at: usize, i
     let e = read_entry(bytes, at);
     let formed = entry_ok(regions, sizes, e);
     let null = is_zero(e);
-    (zero == 0)
-        & formed
-        & (!(i == 0) | null)
-        & (!(e.kind == FRAME_ADDRESS) | (i == FRAME_REGISTER))
+    (zero == 0) & formed & (!(i == 0) | null) & (!(e.kind == FRAME_ADDRESS) | (i == FRAME_REGISTER))
 }
 
 // The note that begins at a byte.

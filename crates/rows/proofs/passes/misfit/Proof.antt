@@ -35,7 +35,7 @@ fits-note-requires : tie.Need-fits-note-requires Inv-loop μ-loop
 fits-note-requires c κs = search needs
 
 returns : tie.Need-returns Inv-loop μ-loop
-returns c = 
+returns c =
     let at-if = c .before .before .before .before in
     let same = ap (fitsNote _) (sym (c .before .before .before .read-note .ensures)) ∙ sym (c .before .fits-note .ensures) in
     sym (at-if .before .before .loop .inv .1 ∙ flaw-here _ _ (at-if .before .loop-test .taken) (misfits-note _ _ _ _ (at-if .if1 .taken) ∙ ap not same ∙ c .if2 .taken))
@@ -62,7 +62,7 @@ fits-requires : tie.Need-fits-requires Inv-loop μ-loop
 fits-requires c κs = search needs
 
 returns-2 : tie.Need-returns-2 Inv-loop μ-loop
-returns-2 c = 
+returns-2 c =
     let named = c .before .before .before .before in
     let same = ap (fits _) (sym (c .before .before .read-entry .ensures)) ∙ sym (c .before .fits2 .ensures) in
     sym (named .before .before .before .loop .inv .1 ∙ flaw-here _ _ (named .before .before .loop-test .taken)
@@ -76,14 +76,14 @@ loop-less c = search needs
 
 loop-again : tie.Need-loop-again Inv-loop μ-loop
 loop-again c = (
-      omega (arith, c .before .loop-test .taken),
-      c .before .before .loop .inv .1 ∙ flaw-next _ _ (c .before .loop-test .taken)
-          (⊎-elim
-          (λ p. misfits-note _ _ _ _ (p .0 .taken) ∙ ap not (ap (fitsNote _) (sym (p .1 .ensures)) ∙ sym (p .3 .ensures)) ∙ p .4 .left)
-          (λ p. misfits-entry _ _ _ _ _ (ne-eqb _ _ (p .0 .left)) (p .1 .ensures .0) (p .1 .ensures .1)
-          ∙ ap not (ap (fits _) (sym (p .3 .ensures)) ∙ sym (p .4 .ensures)) ∙ p .5 .left)
-          (c .if1 .came)),
-    )
+  omega (arith, c .before .loop-test .taken),
+  c .before .before .loop .inv .1 ∙ flaw-next _ _ (c .before .loop-test .taken)
+      (⊎-elim
+      (λ p. misfits-note _ _ _ _ (p .0 .taken) ∙ ap not (ap (fitsNote _) (sym (p .1 .ensures)) ∙ sym (p .3 .ensures)) ∙ p .4 .left)
+      (λ p. misfits-entry _ _ _ _ _ (ne-eqb _ _ (p .0 .left)) (p .1 .ensures .0) (p .1 .ensures .1)
+      ∙ ap not (ap (fits _) (sym (p .3 .ensures)) ∙ sym (p .4 .ensures)) ∙ p .5 .left)
+      (c .if1 .came)),
+)
 
 returns-3 : tie.Need-returns-3 Inv-loop μ-loop
 returns-3 c = sym (c .before .loop .inv .1 ∙ flaw-end _ _ (c .loop-test .left))
