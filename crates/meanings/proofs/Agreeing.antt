@@ -7,7 +7,7 @@ use mathlib.Core.List.{List}
 use native.Mathlib.Omega.{arith}
 use lib.Bits.{bitOr, or-zero-l, or-zero-r}
 use lib.Dec.{ltb, eqb}
-use lib.ListN.{length}
+use lib.ListN.{length, length-set}
 use lib.Seq.{getD-set-same, getD-set-other}
 use borrow.Author.Tests.{eqb-true, eqb-false, ltb-true, ne-eqb}
 use Rattle.v8.proofs.Choice.{cond-both, and-went, false-true}
@@ -26,7 +26,7 @@ use Rattle.alu.specs.Codes.{codesOf}
 use Rattle.memory.specs.Memory.{loadOf}
 use Rattle.memory.specs.Place.{partStart}
 use Rattle.access.specs.declared.Located.{Located}
-use Rattle.access.specs.declared.Located.the-variants.{At, Nowhere}
+use Rattle.access.specs.declared.Located.the-variants.{At, Scratch, Nowhere}
 use Rattle.access.specs.Serve.{accessWidth}
 use Rattle.access.specs.Layout.{Layout}
 use Rattle.access.specs.Locate.{locate}
@@ -34,8 +34,10 @@ use Rattle.step.specs.declared.Registers.{Registers}
 use Rattle.step.specs.declared.Aim.{Aim}
 use Rattle.step.specs.declared.Aim.the-variants.{Address, Missed}
 use Rattle.step.specs.Registers as Registers·
-use Rattle.step.specs.Registers.{valueIn, setIn, valuesWith, valueOf, isSet, written, withCodes, operandValue, operandSet}
-use Rattle.step.specs.Effect.{Core, Effect, fault, done, aluRegisters, aimOf, movedSet, touching, accessAt, accessAimed, effectOf}
+use Rattle.step.specs.Registers.{markCount, valueIn, setIn, valuesWith, valueOf, isSet, written, withCodes, scratchMark, scratchSet, withScratch, operandValue, operandSet}
+use Rattle.step.specs.Effect.{Core, Effect, fault, done, aluRegisters, aimOf, movedSet, touching, scratchAccess, accessAt, accessAimed, effectOf}
+use Rattle.step.proofs.Writing.{write-length}
+use Rattle.step.proofs.ScratchMarks.{marking-keeps}
 use Rattle.flow.specs.Written.{accessWrites}
 use Rattle.rows.specs.Matches.{Host}
 use Rattle.marks.specs.Marks.{notReached, registerCount, markOf, marksWith}
@@ -48,7 +50,7 @@ use Rattle.meanings.proofs.Holding.{number-holds, numbers-hold, sum-hol
 -- 32 registers, of each of which its mark holds
 pub record Agrees (h : Host) (entry : List ℕ) (marks : List ℕ) (g : Registers) : Type 0 where
   pub values : length (g .values) ≡ registerCount
-  pub marked : length (g .marks) ≡ registerCount
+  pub marked : length (g .marks) ≡ markCount
   pub listed : length marks ≡ registerCount
   pub each : (r : ℕ) → MarkHolds h entry (markOf marks r) (isSet g r) (valueOf g r)
 
@@ -92,13 +94,25 @@ module _ (h : Host) (entry : List ℕ) where
   written-agrees m g rd k v a new =
       record {
         values = list-written (g .values) rd v (a .values);
-        marked = list-written (g .marks) rd true (a .marked);
+        marked = write-length true false (g .marks) rd true ∙ a .marked;
         listed = list-written m rd k (a .listed);
         each = written-each m g rd k v a new;
       }
 
   coded-agrees : (m : List ℕ) (g : Registers) (f : Codes) → Agrees h entry m g → Agrees h entry m (withCodes g f)
   coded-agrees m g f a = record { values = a .values; marked = a .marked; listed = a .listed; each = a .each }
+
+  -- a scratch word that is set is no register
+  kept-agrees : (m : List ℕ) (g : Registers) (k : ℕ) → Agrees h entry m g → Agrees h entry m (withScratch g k)
+  kept-agrees m g k a =
+      record {
+        values = a .values;
+        marked = length-set (g .marks) (scratchMark k) true ∙ a .marked;
+        listed = a .listed;
+        each = λ r. let u = marking-keeps g k r in
+            subst (λ (b : Bool). MarkHolds h entry (markOf m r) b (valueOf (withScratch g k) r)) (sym (u .1))
+            (subst (MarkHolds h entry (markOf m r) (isSet g r)) (sym (u .0)) (a .each r));
+      }
 
   -- a mark for r0 vanishes
   pub still-agrees : (m : List ℕ) (g : Registers) (k : ℕ) → Agrees h entry m g → Agrees h entry (marksWith m 0 k) g
@@ -166,8 +180,15 @@ module _ (h : Host) (entry : List ℕ) where
     touching-agrees (Loads op) rd place = written-agrees m (c .registers) rd _ (loadOf op (c .memory) place) a (load-holds h entry op (loadOf op (c .memory) place))
     touching-agrees (Stores op) rd place = still-agrees m (c .registers) _ a
 
-    located-agrees : (x : Access) (rd : ℕ) (at : Located) → AgreesAfter h entry (marksWith m (accessWrites x rd) (accessMark x)) (accessAt (l .regions .sizes) c x rd at)
+    -- .. or of a scratch word, which is read if it is set
+    scratch-agrees : (x : Access) (rd k place : ℕ) → AgreesAfter h entry (marksWith m (accessWrites x rd) (accessMark x)) (scratchAccess c x rd k place)
+    scratch-agrees (Loads op) rd k place =
+        cond-both (AgreesAfter h entry (marksWith m rd (accessMark (Loads op)))) (scratchSet (c .registers) k) (λ _. touching-agrees (Loads op) rd place) (λ _. tt)
+    scratch-agrees (Stores op) rd k place = still-agrees m (withScratch (c .registers) k) _ (kept-agrees m (c .registers) k a)
+
+    located-agrees : (x : Access) (rd : ℕ) (at : Located) → AgreesAfter h entry (marksWith m (accessWrites x rd) (accessMark x)) (accessAt (l .regions) c x rd at)
     located-agrees x rd (At r offset) = touching-agrees x rd (partStart (l .regions .sizes) r + offset .0)
+    located-agrees x rd (Scratch k) = scratch-agrees x rd k _
     located-agrees x rd Nowhere = tt
 
     aimed-agrees : (x : Access) (rd : ℕ) (aim : Aim) → AgreesAfter h entry (marksWith m (accessWrites x rd) (accessMark x)) (accessAimed l c x rd aim)

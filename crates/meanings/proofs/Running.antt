@@ -1,7 +1,7 @@
 -- Every state that a run comes to is as listed: word 0 takes in the entry row's kinds, which hold of a start that matches the row, and each step
 -- keeps what holds.
 use Prim.Native.Nat.{ℕ, zero, suc, _+_, _<_}
-use mathlib.Core.Path.{_≡_, refl, sym, subst}
+use mathlib.Core.Path.{_≡_, refl, sym, _∙_, subst}
 use mathlib.Core.Bool.{Bool, true, false}
 use mathlib.Core.List.{List, [], _∷_}
 use native.Mathlib.Omega.{arith}
@@ -18,21 +18,23 @@ use Rattle.v8.specs.declared.Edition.{Edition}
 use Rattle.policy.specs.declared.Policy.{Policy}
 use Rattle.access.specs.Layout.{Layout, layoutOf}
 use Rattle.step.specs.declared.Registers.{Registers}
-use Rattle.step.specs.Registers.{valueOf, isSet, withZero}
+use Rattle.step.specs.Registers.{valueOf, isSet, withZero, unsetScratch}
+use Rattle.step.specs.Effect.{Core}
 use Rattle.step.specs.Setting.{Setting}
 use Rattle.step.specs.Step.{State, Step, stopped, next, returned, stepOf}
 use Rattle.machine.specs.Run.{Walk, going, over, settingOf, startState, tracedStep, traceFrom, walkedStep, walkFrom}
 use Rattle.rows.specs.declared.Entry.{Entry}
 use Rattle.rows.specs.Geometry.{entryStart}
 use Rattle.rows.specs.Row.{entryOf, rowOf}
-use Rattle.rows.specs.Matches.{Host, Matches, RowMatches}
+use Rattle.rows.specs.Matches.{Host, Holds, Matches, RowMatches}
 use Rattle.rows.proofs.ReadRows.{entry-read}
 use Rattle.rows.proofs.ByKind.{held-start, held-return}
 use Rattle.passes.specs.Answer.{passes, passOf}
 use Rattle.passes.specs.Passes.{flowPass}
 use Rattle.passes.proofs.Accepting.{each-passes, flow-holds}
-use Rattle.guarantee.specs.Guarantee.{hostOf, heldOf, Words, Each}
-use Rattle.guarantee.proofs.Whole.{zero-words, zero-matches}
+use Rattle.guarantee.specs.Guarantee.{hostOf, valueAt, markAt, heldOf, Words, Each}
+use Rattle.guarantee.proofs.Held.{register-value, register-mark}
+use Rattle.guarantee.proofs.Whole.{start-words}
 use Rattle.marks.specs.Marks.{registerCount, markOfKind, markOf}
 use Rattle.marks.proofs.Values.{values-length}
 use Rattle.lister.specs.Rules.{entryMarks}
@@ -67,9 +69,9 @@ module _ (h : Host) (entry : List ℕ) where
       })
 
   -- registers that match the entry row agree with its kinds
-  entry-agrees : (g : Registers) → Words g → RowMatches h (rowOf entry 0) (heldOf g) → Agrees h entry (entryMarks entry) g
+  entry-agrees : (p : Policy) (c : Core) → Words (c .registers) → RowMatches h (rowOf entry 0) (heldOf p c) → Agrees h entry (entryMarks entry) (c .registers)
   unfolding entryMarks
-  entry-agrees g w m =
+  entry-agrees p c w m =
       record {
         values = w .values;
         marked = w .marks;
@@ -77,11 +79,16 @@ module _ (h : Host) (entry : List ℕ) where
         each = λ r. at r (ltb r registerCount) refl;
       }
     where
+      g : Registers
+      g = c .registers
+
       at : (r : ℕ) (t : Bool) → ltb r registerCount ≡ t → MarkHolds h entry (markOf (entryMarks entry) r) (isSet g r) (valueOf g r)
       at r true e =
           let l = ltb-true r registerCount e in
           rw (mark-by (λ (q : ℕ). markOfKind (entryOf entry (entryStart 0 q) .kind)) r l)
-          (kind-holds r l (isSet g r) (valueOf g r) (subst (λ (x : Entry). Matches h x (isSet g r) (valueOf g r)) (entry-read entry 0 r l) (m .entries r)))
+          (kind-holds r l (isSet g r) (valueOf g r)
+          (λ u. let k = subst (λ (x : Entry). Matches h x (markAt c r) (valueAt p c r)) (entry-read entry 0 r (omega arith)) (m .entries r) u in
+          (sym (register-mark p c r l) ∙ k .0, subst (Holds h (entryOf entry (entryStart 0 r))) (register-value p c r l) (k .1))))
       at r false e = rw (mark-out (entryMarks entry) r (ltb-false r registerCount e)) (unset-holds h entry (isSet g r) (valueOf g r))
 
   module _ (l : Layout) (returns : ℕ) (readings : List Reading) (ok : Flowing readings) where
@@ -92,14 +99,14 @@ module _ (h : Host) (entry : List ℕ) where
     listing = listingOf readings entry
 
     -- what holds at the start, if there is a word
-    start-listed : (g : Registers) (memory : List ℕ) → Words g → RowMatches h (rowOf entry 0) (heldOf g) → 0 < length readings
+    start-listed : (p : Policy) (g : Registers) (memory : List ℕ) → Words g → RowMatches h (rowOf entry 0) (heldOf p (startState g memory .core)) → 0 < length readings
         → Listed h l returns readings entry (startState g memory)
-    start-listed g memory w m i =
+    start-listed p g memory w m i =
         record {
           inside = i;
           free = first-examined readings;
-          agrees = taken-agrees h l returns readings entry 0 (entryMarks entry) (withZero g) i (closed-entry readings entry listing (listing-closed readings entry))
-              (entry-agrees (withZero g) (zero-words g w) (zero-matches g h (rowOf entry 0) m));
+          agrees = taken-agrees h l returns readings entry 0 (entryMarks entry) (unsetScratch (withZero g)) i (closed-entry readings entry listing (listing-closed readings entry))
+              (entry-agrees p (startState g memory .core) (start-words g w) m);
         }
 
     as-listed : (st : State) → Listed h l returns readings entry st → AsListed h entry listing st
@@ -137,22 +144,22 @@ module _ (h : Host) (entry : List ℕ) where
     walked (suc n) k st i = walked-step st n k (walked n (k + 1)) (stepOf s st) (step-keeps h l returns readings entry ok st i)
 
 -- a run of no words has no trace
-no-trace : (e : Edition) (p : Policy) (bases : List ℕ) (returns : ℕ) (g : Registers) (memory : List ℕ) (n : ℕ)
-    → traceFrom (settingOf e p [] bases returns) n (startState g memory) ≡ []
+no-trace : (e : Edition) (p : Policy) (bases : List ℕ) (returns frame : ℕ) (g : Registers) (memory : List ℕ) (n : ℕ)
+    → traceFrom (settingOf e p [] bases returns frame) n (startState g memory) ≡ []
 unfolding traceFrom stepOf
-no-trace e p bases returns g memory zero = refl
-no-trace e p bases returns g memory (suc n) = refl
+no-trace e p bases returns frame g memory zero = refl
+no-trace e p bases returns frame g memory (suc n) = refl
 
 pub runs-as-listed : RunsAsListed
-runs-as-listed e p [] entry bases returns g memory b allowance =
-    subst (Each (AsListed (hostOf bases returns) entry (listingOf (readingsOf e []) entry))) (sym (no-trace e p bases returns g memory allowance)) tt
-runs-as-listed e p (x ∷ xs) entry bases returns g memory b allowance =
-    traced (hostOf bases returns) entry (layoutOf p bases) returns (readingsOf e (x ∷ xs)) (flowing (readingsOf e (x ∷ xs)) (b .flows)) allowance (startState g memory)
-    (start-listed (hostOf bases returns) entry (layoutOf p bases) returns (readingsOf e (x ∷ xs)) (flowing (readingsOf e (x ∷ xs)) (b .flows)) g memory (b .registers) (b .row) (omega arith))
+runs-as-listed e p [] entry bases returns frame g memory b allowance =
+    subst (Each (AsListed (hostOf bases returns frame) entry (listingOf (readingsOf e []) entry))) (sym (no-trace e p bases returns frame g memory allowance)) tt
+runs-as-listed e p (x ∷ xs) entry bases returns frame g memory b allowance =
+    traced (hostOf bases returns frame) entry (layoutOf p bases frame) returns (readingsOf e (x ∷ xs)) (flowing (readingsOf e (x ∷ xs)) (b .flows)) allowance (startState g memory)
+    (start-listed (hostOf bases returns frame) entry (layoutOf p bases frame) returns (readingsOf e (x ∷ xs)) (flowing (readingsOf e (x ∷ xs)) (b .flows)) p g memory (b .registers) (b .row) (omega arith))
 
 pub stands-as-listed : StandsAsListed
-stands-as-listed e p words entry bases returns g memory b some n k st q =
-    subst (WalkListed (hostOf bases returns) entry (layoutOf p bases) returns (readingsOf e words) (flowing (readingsOf e words) (b .flows))) q
-    (walked (hostOf bases returns) entry (layoutOf p bases) returns (readingsOf e words) (flowing (readingsOf e words) (b .flows)) n 0 (startState g memory)
-    (start-listed (hostOf bases returns) entry (layoutOf p bases) returns (readingsOf e words) (flowing (readingsOf e words) (b .flows)) g memory (b .registers) (b .row)
+stands-as-listed e p words entry bases returns frame g memory b some n k st q =
+    subst (WalkListed (hostOf bases returns frame) entry (layoutOf p bases frame) returns (readingsOf e words) (flowing (readingsOf e words) (b .flows))) q
+    (walked (hostOf bases returns frame) entry (layoutOf p bases frame) returns (readingsOf e words) (flowing (readingsOf e words) (b .flows)) n 0 (startState g memory)
+    (start-listed (hostOf bases returns frame) entry (layoutOf p bases frame) returns (readingsOf e words) (flowing (readingsOf e words) (b .flows)) p g memory (b .registers) (b .row)
     (omega (arith, some, read-count e words))))

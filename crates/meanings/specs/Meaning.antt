@@ -50,22 +50,22 @@ abbrev pub AsListed : Host → List ℕ → List ℕ → State → Type 0
 AsListed h entry listing st = ListingHolds h entry listing (st .control .at .0) (st .core .registers)
 
 -- words that the flow pass accepts, 32 registers, and a start that matches the entry row; the routine may be refused
-pub record Begins (e : Edition) (words entry bases : List ℕ) (returns : ℕ) (g : Registers) : Type 0 where
+pub record Begins (e : Edition) (p : Policy) (words entry bases : List ℕ) (returns frame : ℕ) (g : Registers) (memory : List ℕ) : Type 0 where
   pub flows : passes (passOf (flowPass (readingsOf e words)) (length (readingsOf e words))) ≡ true
   pub registers : Words g
-  pub row : RowMatches (hostOf bases returns) (rowOf entry 0) (heldOf g)
+  pub row : RowMatches (hostOf bases returns frame) (rowOf entry 0) (heldOf p (startState g memory .core))
 
 -- Each state of a run's trace is as listed.
 abbrev pub RunsAsListed : Type 0
 RunsAsListed =
-    (e : Edition) (p : Policy) (words entry bases : List ℕ) (returns : ℕ) (g : Registers) (memory : List ℕ) → Begins e words entry bases returns g
+    (e : Edition) (p : Policy) (words entry bases : List ℕ) (returns frame : ℕ) (g : Registers) (memory : List ℕ) → Begins e p words entry bases returns frame g memory
     → (allowance : ℕ)
-    → Each (AsListed (hostOf bases returns) entry (listingOf (readingsOf e words) entry))
-    (traceFrom (settingOf e p words bases returns) allowance (startState g memory))
+    → Each (AsListed (hostOf bases returns frame) entry (listingOf (readingsOf e words) entry))
+    (traceFrom (settingOf e p words bases returns frame) allowance (startState g memory))
 
 -- So is the state that n steps lead to, if there is a word: where the next step would fault, too, which is no state of the trace.
 abbrev pub StandsAsListed : Type 0
 StandsAsListed =
-    (e : Edition) (p : Policy) (words entry bases : List ℕ) (returns : ℕ) (g : Registers) (memory : List ℕ) → Begins e words entry bases returns g → 1 ≤ length words
-    → (n k : ℕ) (st : State) → walkFrom (settingOf e p words bases returns) n 0 (startState g memory) ≡ going k st
-    → AsListed (hostOf bases returns) entry (listingOf (readingsOf e words) entry) st
+    (e : Edition) (p : Policy) (words entry bases : List ℕ) (returns frame : ℕ) (g : Registers) (memory : List ℕ) → Begins e p words entry bases returns frame g memory → 1 ≤ length words
+    → (n k : ℕ) (st : State) → walkFrom (settingOf e p words bases returns frame) n 0 (startState g memory) ≡ going k st
+    → AsListed (hostOf bases returns frame) entry (listingOf (readingsOf e words) entry) st
