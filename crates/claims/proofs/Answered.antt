@@ -58,7 +58,7 @@ module _ (v : Edition) (p : Policy) (rows entry result : List ℕ) (f : WellForm
 
     alone-shape : shapeOk p 1 rows entry result ≡ true
     unfolding shapeOk
-    alone-shape = rw (long, f .entry-long, f .result-long, f .entry-formed, f .result-formed)
+    alone-shape = rw (long, f .entry-long, f .result-long, f .entry-formed, f .entry-unset, f .result-formed)
 
     alone-rows : passOf (rowPass p rows) 1 ≡ accepted
     alone-rows = all-pass (rowPass p rows) 1 (below-one (λ (w : ℕ). passes (rowPass p rows w) ≡ true) (row-passes p rows 0 formed))
@@ -103,7 +103,7 @@ module _ (v : Edition) (p : Policy) (rows entry result : List ℕ) (f : WellForm
 
     pair-shape : shapeOk p 2 rows entry result ≡ true
     unfolding shapeOk
-    pair-shape = rw (e .long, f .entry-long, f .result-long, f .entry-formed, f .result-formed)
+    pair-shape = rw (e .long, f .entry-long, f .result-long, f .entry-formed, f .entry-unset, f .result-formed)
 
     pair-rows : passOf (rowPass p rows) 2 ≡ accepted
     pair-rows = all-pass (rowPass p rows) 2 (λ w l. row-passes p rows w (row-formed w l))

@@ -30,9 +30,9 @@ branching c = record { control = goTo 0; core = c }
 abbrev slotted : Core → State
 slotted c = record { control = atSlot 0 (toWord 0); core = c }
 
-module _ (e : Edition) (p : Policy) (bases : List ℕ) (returns : ℕ) where
+module _ (e : Edition) (p : Policy) (bases : List ℕ) (returns frame : ℕ) where
   abbrev setting : Setting
-  setting = settingOf e p (alwaysHere ∷ nop ∷ []) bases returns
+  setting = settingOf e p (alwaysHere ∷ nop ∷ []) bases returns frame
 
   branch-step : (c : Core) → stepOf setting (branching c) ≡ next (slotted c)
   unfolding stepOf readingOf format00 signExtend condHolds slotRuns targetOf
@@ -58,18 +58,18 @@ module _ (e : Edition) (p : Policy) (bases : List ℕ) (returns : ℕ) where
       sum : (k n : ℕ) → k + 1 + n ≡ k + suc n
       sum k n = omega arith
 
-  module _ (entry result : List ℕ) (f : WellFormedEntry p entry result) (g : Registers) (memory : List ℕ) (start : Start p entry bases returns g memory) where
-    not-refused : refusalOf p (alwaysHere ∷ nop ∷ []) bases returns memory ≡ 0
+  module _ (entry result : List ℕ) (f : WellFormedEntry p entry result) (g : Registers) (memory : List ℕ) (start : Start p entry bases returns frame g memory) where
+    not-refused : refusalOf p (alwaysHere ∷ nop ∷ []) bases returns frame memory ≡ 0
     unfolding refusalOf
     not-refused = rw (f .policy, start .placed)
 
-    run-is : (allowance : ℕ) → runOf e p (alwaysHere ∷ nop ∷ []) bases returns g allowance memory ≡ ended Spent (0 + allowance) (startState g memory .core)
+    run-is : (allowance : ℕ) → runOf e p (alwaysHere ∷ nop ∷ []) bases returns frame g allowance memory ≡ ended Spent (0 + allowance) (startState g memory .core)
     unfolding runOf
     run-is allowance = rw not-refused (spins allowance 0 (startState g memory .core) .0)
 
 pub loop-never-returns : LoopNeverReturns
-loop-never-returns e p entry result f bases returns g memory start allowance =
-    let run = run-is e p bases returns entry result f g memory start allowance in
+loop-never-returns e p entry result f bases returns frame g memory start allowance =
+    let run = run-is e p bases returns frame entry result f g memory start allowance in
     (ap (λ (r : Run). r .outcome .end) run, ap (λ (r : Run). r .outcome .steps) run ∙ none allowance)
   where
     none : (n : ℕ) → 0 + n ≡ n

@@ -1,5 +1,5 @@
--- Starts that match, by tests that compute. A test for each kind says whether a word is one of an entry's values; registers are tested up to the
--- last, after which no entry is set, and fields element by element, so a test that passes for each of finitely many places says it of all.
+-- Starts that match, by tests that compute. A test for each kind says whether a word is one of an entry's values; registers and scratch words are tested up
+-- to the last, after which no entry is set, and fields element by element, so a test that passes for each of finitely many places says it of all.
 use Prim.Native.Nat.{ℕ, zero, suc, _+_, _-_, _<_}
 use mathlib.Core.Path.{_≡_, refl, sym, _∙_}
 use mathlib.Core.Logic.{inl, inr}
@@ -15,17 +15,15 @@ use Rattle.v8.specs.Signed.{excess, bias}
 use Rattle.policy.specs.declared.Policy.{Policy}
 use Rattle.policy.specs.Policy.{countOf}
 use Rattle.memory.specs.Memory.{loadOf}
-use Rattle.step.specs.declared.Registers.{Registers}
-use Rattle.step.specs.Registers.{valueOf, isSet}
 use Rattle.sets.specs.Narrow.{isMember}
 use Rattle.sets.proofs.Narrowing.{is-member}
 use Rattle.rows.specs.declared.Entry.{Entry}
 use Rattle.rows.specs.declared.Row.{Row}
-use Rattle.rows.specs.Kind.{Kind, unset, number, address, start, returnAddress, none, kindOf}
+use Rattle.rows.specs.Kind.{Kind, unset, number, address, start, returnAddress, frameAddress, none, kindOf}
 use Rattle.rows.specs.Entry.{isUnset, fieldEntry}
 use Rattle.rows.specs.Geometry.{entryCount}
 use Rattle.rows.specs.Row.{entryAt}
-use Rattle.rows.specs.Matches.{Host, baseOf, HoldsAs, Holds, Matches}
+use Rattle.rows.specs.Matches.{Host, baseOf, HoldsAs, Holds, Matches, Held}
 use Rattle.guarantee.specs.Fields.{loadFor, fieldOf, elementAt, Declared}
 
 -- every number of a list lies below m
@@ -46,6 +44,7 @@ module _ (h : Host) (e : Entry) (v : ℕ) where
   holdsAs address = leb (baseOf h (e .region)) v && isMember (e .set) (v - baseOf h (e .region) + bias)
   holdsAs start = eqb v 0 || eqb v (baseOf h (e .region))
   holdsAs returnAddress = eqb v (h .returns)
+  holdsAs frameAddress = eqb v (h .frame)
   holdsAs none = true
 
   abbrev pub holds : Bool
@@ -60,31 +59,32 @@ module _ (h : Host) (e : Entry) (v : ℕ) where
   holds-as start t =
       or-went (eqb v 0) (eqb v (baseOf h (e .region))) t (λ z. inl (eqb-true v 0 z)) (λ b. inr (eqb-true v (baseOf h (e .region)) b))
   holds-as returnAddress t = eqb-true v (h .returns) t
+  holds-as frameAddress t = eqb-true v (h .frame) t
   holds-as none t = tt
 
   holds-by : holds ≡ true → Holds h e v
   holds-by t = record { by-kind = holds-as (kindOf (e .kind)) t }
 
-module _ (h : Host) (row : Row) (g : Registers) where
-  -- register r matches its entry
+module _ (h : Host) (row : Row) (g : Held) where
+  -- what stands at index r matches its entry
   abbrev pub registerMatches : ℕ → Bool
-  registerMatches r = isUnset (entryAt row r) || isSet g r && holds h (entryAt row r) (valueOf g r)
+  registerMatches r = isUnset (entryAt row r) || g .mark r && holds h (entryAt row r) (g .value r)
 
-  matching : (r : ℕ) → registerMatches r ≡ true → Matches h (entryAt row r) (isSet g r) (valueOf g r)
+  matching : (r : ℕ) → registerMatches r ≡ true → Matches h (entryAt row r) (g .mark r) (g .value r)
   matching r t u =
-      or-went (isUnset (entryAt row r)) (isSet g r && holds h (entryAt row r) (valueOf g r)) t
+      or-went (isUnset (entryAt row r)) (g .mark r && holds h (entryAt row r) (g .value r)) t
       (λ s. false-true (sym u ∙ s))
-      (λ s. let both = and-went (isSet g r) (holds h (entryAt row r) (valueOf g r)) s in (both .0, holds-by h (entryAt row r) (valueOf g r) (both .1)))
+      (λ s. let both = and-went (g .mark r) (holds h (entryAt row r) (g .value r)) s in (both .0, holds-by h (entryAt row r) (g .value r) (both .1)))
 
   -- there is no entry after the last
   after-last : (r : ℕ) → ltb r entryCount ≡ false → isUnset (entryAt row r) ≡ true
   unfolding entryAt
   after-last r f = rw f
 
-  pub registers-match : all registerMatches entryCount ≡ true → (r : ℕ) → Matches h (entryAt row r) (isSet g r) (valueOf g r)
+  pub registers-match : all registerMatches entryCount ≡ true → (r : ℕ) → Matches h (entryAt row r) (g .mark r) (g .value r)
   registers-match t r = at (ltb r entryCount) refl
     where
-      at : (b : Bool) → ltb r entryCount ≡ b → Matches h (entryAt row r) (isSet g r) (valueOf g r)
+      at : (b : Bool) → ltb r entryCount ≡ b → Matches h (entryAt row r) (g .mark r) (g .value r)
       at true l = matching r (all-at registerMatches entryCount r t (ltb-true r entryCount l))
       at false l = λ u. false-true (sym u ∙ after-last r l)
 

@@ -1,6 +1,6 @@
--- The routine that makes a link null: the check's passes, the start's tests and the run's nine steps are computed from the definitions.
+-- The routine that makes a link null: the check's passes, the start's tests and the run's eleven steps are computed from the definitions.
 use mathlib.Core.Path.{_≡_, refl, sym}
-use mathlib.Core.Bool.{xor}
+use mathlib.Core.Bool.{true, xor}
 use native.Mathlib.Omega.{arith}
 use Rattle.v8.specs.declared.Edition.{Edition}
 use Rattle.v8.specs.Signed.{signExtend}
@@ -14,45 +14,79 @@ use Rattle.flow.specs.Readings.{isSlot, isTarget}
 use Rattle.policy.specs.Element.{widthOf, leastOf, mostOf}
 use Rattle.policy.specs.Policy.{fieldAt, valuesOk, fieldOk, endBefore, fieldFits, fieldAtOk, regionOk, policyOk}
 use Rattle.policy.specs.Find.{holdsIn, stopOf, findIn}
+use Rattle.memory.specs.Frame.{isScratch}
 use Rattle.memory.specs.Place.{partStart}
 use Rattle.step.specs.Registers.{valueIn, setIn, valuesWith, marksWith}
-use Rattle.access.specs.Locate.{insideRegion, regionIn, locate}
+use Rattle.access.specs.Locate.{insideRegion, regionIn, scratchIn, locate}
 use Rattle.step.specs.Effect.{aimIn}
 use Rattle.step.specs.Step.{stepOf}
 use Rattle.machine.specs.Placement.{disjointIn, placedIn}
-use Rattle.machine.specs.Run.{runFrom, refusalOf, runOf}
+use Rattle.machine.specs.Run.{startState, runFrom, refusalOf, runOf}
 use Rattle.sets.specs.Sets.{ended, setOk, fitsSet}
 use Rattle.sets.specs.Rules.{within, addSets}
 use Rattle.sets.specs.Narrow.{isMember, only, without}
 use Rattle.rows.specs.Entry.{sizeIn, entryOk, fits, noteOk, fitsNote, fieldEntry}
 use Rattle.rows.specs.Flaw.{flawFrom}
-use Rattle.rows.specs.Row.{entryAt, entriesWith, entryOf, noteOf, rowOf, formedAt, formFault, fitsAt, misfit}
+use Rattle.rows.specs.Row.{entryAt, entriesWith, entryOf, noteOf, rowOf, formedAt, formFault, scratchUnset, fitsAt, misfit}
 use Rattle.rows.specs.Matches.{Host, RowMatches}
 use Rattle.rules.specs.Result.{offsetsGive, addressSum, addressDifference, aluResult}
-use Rattle.rules.specs.Reach.{inField, inRegion, reachOf}
+use Rattle.rules.specs.Reach.{inField, inRegion, inFrame, frameReach, reachOf}
 use Rattle.rules.specs.Change.{noteAfter, codesNote, aluChange, accessChange, branchChange, returnChange}
 use Rattle.rules.specs.Narrow.{narrowEntry, narrowRow}
 use Rattle.passes.specs.Answer.{accepted, passOf}
 use Rattle.passes.specs.Passes.{shapeOk, rowPass, readPass, flowPass, entryPass}
-use Rattle.checker.specs.Passes.{cross, narrowedEdge, wordPass, answerOf, checkOf}
+use Rattle.checker.specs.Routine.{Routine, routineOf}
+use Rattle.checker.specs.Passes.{cross, narrowedEdge, wordPass, checkOf}
 use Rattle.guarantee.specs.Fields.{Declared}
-use Rattle.guarantee.specs.Guarantee.{hostOf, heldOf, Start}
-use Rattle.claims.specs.Unlink.{policy, words, digits, entry, rows, bases, returns, registers, memory}
+use Rattle.guarantee.specs.Guarantee.{hostOf, valueAt, markAt, heldOf, Start}
+use Rattle.claims.specs.Unlink.{policy, words, digits, entry, rows, bases, returns, frame, registers, memory}
 use Rattle.claims.specs.Claims.{StartExists}
+use Rattle.claims.proofs.Passing.{all-accept}
 use Rattle.claims.proofs.Matching.{below, registers-match, fields-hold}
 
 abbrev host : Host
-host = hostOf bases returns
+host = hostOf bases returns frame
+
+abbrev t : Edition → Routine
+t e = routineOf e policy words rows entry digits
+
+policy-ok : policyOk policy ≡ true
+unfolding all lowest first widthOf leastOf mostOf fieldAt valuesOk fieldOk endBefore fieldFits fieldAtOk regionOk policyOk
+policy-ok = refl
+
+shape : shapeOk policy 8 rows entry digits ≡ true
+unfolding all lowest first sizeIn setOk entryOk noteOk entryOf noteOf formedAt flawFrom formFault scratchUnset shapeOk
+shape = refl
+
+rows-formed : passOf (rowPass policy rows) 8 ≡ accepted
+unfolding all lowest first sizeIn setOk entryOk noteOk entryOf noteOf formedAt flawFrom formFault passOf rowPass
+rows-formed = refl
+
+reads : (e : Edition) → passOf (readPass (t e .readings)) 8 ≡ accepted
+unfolding readingOf format00 format10 format11 operandOf countOf signExtend lowest first passOf readPass
+reads e = refl
+
+flows : (e : Edition) → passOf (flowPass (t e .readings)) 8 ≡ accepted
+unfolding readingOf format00 format10 format11 operandOf countOf signExtend slotRuns targetOf any isSlot isTarget lowest first passOf flowPass
+flows e = refl
+
+entry-fits : entryPass rows entry ≡ accepted
+unfolding lowest first fitsSet isMember fits fitsNote entryAt entryOf noteOf rowOf flawFrom fitsAt misfit entryPass
+entry-fits = refl
+
+looks : (e : Edition) → passOf (wordPass policy (t e .readings) rows digits) 8 ≡ accepted
+unfolding readingOf format00 format10 format11 operandOf countOf signExtend conditionOf lowest first widthOf fieldAt holdsIn stopOf findIn slotRuns targetOf ended setOk fitsSet within addSets isMember only without sizeIn entryOk fits fitsNote fieldEntry entryAt entriesWith entryOf noteOf flawFrom fitsAt misfit rowOf offsetsGive addressSum addressDifference aluResult isScratch inField inRegion inFrame frameReach reachOf noteAfter codesNote aluChange accessChange branchChange returnChange narrowEntry narrowRow passOf any isSlot isTarget cross narrowedEdge wordPass
+looks e = refl
 
 checks : (e : Edition) → checkOf e policy words rows entry digits ≡ accepted
-unfolding readingOf format00 format10 format11 operandOf countOf signExtend conditionOf lowest first all widthOf leastOf mostOf fieldAt valuesOk fieldOk endBefore fieldFits fieldAtOk regionOk policyOk holdsIn stopOf findIn slotRuns targetOf ended setOk fitsSet within addSets isMember only without sizeIn entryOk fits noteOk fitsNote fieldEntry entryAt entriesWith entryOf noteOf formedAt flawFrom formFault fitsAt misfit rowOf offsetsGive addressSum addressDifference aluResult inField inRegion reachOf noteAfter codesNote aluChange accessChange branchChange returnChange narrowEntry narrowRow passOf any isSlot isTarget shapeOk rowPass readPass flowPass entryPass cross narrowedEdge wordPass answerOf checkOf
-checks e = refl
+unfolding checkOf
+checks e = all-accept (t e) policy-ok shape rows-formed (reads e) (flows e) entry-fits (looks e)
 
-row-matches : RowMatches host (rowOf entry 0) (heldOf registers)
-unfolding all rowOf entryOf noteOf entryAt valueIn setIn isMember
+row-matches : RowMatches host (rowOf entry 0) (heldOf policy (startState registers memory .core))
+unfolding all rowOf entryOf noteOf entryAt valueIn setIn isMember valueAt markAt partStart
 row-matches =
     record {
-      entries = registers-match host (rowOf entry 0) registers refl;
+      entries = registers-match host (rowOf entry 0) (heldOf policy (startState registers memory .core)) refl;
       note = record { coded = λ e. false-true (sym e); compared = λ e. false-true e };
     }
 
@@ -60,7 +94,7 @@ fields-match : Declared policy host memory
 unfolding all widthOf fieldAt partStart fieldEntry ended isMember
 fields-match = fields-hold policy host memory refl
 
-start-matches : Start policy entry bases returns registers memory
+start-matches : Start policy entry bases returns frame registers memory
 unfolding all disjointIn placedIn partStart
 start-matches =
     record {
@@ -72,5 +106,5 @@ start-matches =
     }
 
 pub start-exists : (e : Edition) → StartExists e
-unfolding readingOf format00 format10 format11 operandOf countOf signExtend codesOf condHolds conditionOf xor all widthOf leastOf mostOf fieldAt valuesOk fieldOk endBefore fieldFits fieldAtOk regionOk policyOk partStart lowest first holdsIn stopOf findIn valueIn setIn valuesWith marksWith insideRegion regionIn locate aimIn slotRuns targetOf stepOf disjointIn placedIn runFrom refusalOf runOf
+unfolding readingOf format00 format10 format11 operandOf countOf signExtend codesOf condHolds conditionOf xor all widthOf leastOf mostOf fieldAt valuesOk fieldOk endBefore fieldFits fieldAtOk regionOk policyOk partStart lowest first holdsIn stopOf findIn valueIn setIn valuesWith marksWith insideRegion regionIn isScratch scratchIn locate aimIn slotRuns targetOf stepOf disjointIn placedIn runFrom refusalOf runOf
 start-exists e = record { checked = checks e; matches = start-matches; returned = refl; counted = refl; gives = refl; leaves = refl }

@@ -19,9 +19,10 @@ use Rattle.machine.specs.Run.{Run, runOf}
 use Rattle.rows.specs.Entry.{isReturn, fits}
 use Rattle.rows.specs.declared.Flaw.the-variants.{None}
 use Rattle.rows.specs.Geometry.{rowBytes, entryBytes}
-use Rattle.rows.specs.Row.{entryAt, entryOf, entryFormed, rowOf, formFault}
+use Rattle.rows.specs.Row.{entryAt, entryOf, entryFormedAs, rowOf, formFault, scratchUnset}
 use Rattle.passes.specs.Answer.{accepted, refuse}
-use Rattle.checker.specs.Passes.{checkOf, resultRegister}
+use Rattle.passes.specs.Passes.{resultRegister}
+use Rattle.checker.specs.Passes.{checkOf}
 use Rattle.guarantee.specs.Guarantee.{Start}
 use Rattle.claims.specs.Unlink as Unlink
 
@@ -35,13 +36,15 @@ nop = 0x01000000
 abbrev pub alwaysHere : ℕ
 alwaysHere = 0x10800000
 
--- a policy that obeys the rules, and an entry row and a result entry that are well formed: no place of the row, register or note, has a flaw
+-- a policy that obeys the rules, and an entry row and a result entry that are well formed: no place of the row has a flaw, and its scratch words are
+-- unset
 pub record WellFormedEntry (p : Policy) (entry result : List ℕ) : Type 0 where
   pub policy : policyOk p ≡ true
   pub entry-long : length entry ≡ rowBytes
   pub entry-formed : formFault (p .regions .count) (p .regions .sizes) entry 0 ≡ None
+  pub entry-unset : scratchUnset entry 0 ≡ true
   pub result-long : length result ≡ entryBytes
-  pub result-formed : entryFormed (p .regions .count) (p .regions .sizes) result 0 ≡ true
+  pub result-formed : entryFormedAs (p .regions .count) (p .regions .sizes) result 0 resultRegister ≡ true
 
 -- "all rows equal to a well-formed entry row": n rows, each byte by byte the entry row
 pub record AllRowsEqual (rows entry : List ℕ) (n : ℕ) : Type 0 where
@@ -72,21 +75,22 @@ LoopAccepted =
 abbrev pub LoopNeverReturns : Type 0
 LoopNeverReturns =
     (e : Edition) (p : Policy) (entry result : List ℕ) → WellFormedEntry p entry result
-    → (bases : List ℕ) (returns : ℕ) (g : Registers) (memory : List ℕ) → Start p entry bases returns g memory
+    → (bases : List ℕ) (returns frame : ℕ) (g : Registers) (memory : List ℕ) → Start p entry bases returns frame g memory
     → (allowance : ℕ)
-    → (runOf e p (alwaysHere ∷ nop ∷ []) bases returns g allowance memory .outcome .end ≡ Spent)
-    × (runOf e p (alwaysHere ∷ nop ∷ []) bases returns g allowance memory .outcome .steps ≡ allowance)
+    → (runOf e p (alwaysHere ∷ nop ∷ []) bases returns frame g allowance memory .outcome .end ≡ Spent)
+    × (runOf e p (alwaysHere ∷ nop ∷ []) bases returns frame g allowance memory .outcome .steps ≡ allowance)
 
 -- "every matching start": there is one. The check accepts the routine of Unlink.antt, the start there matches its entry row, and from it the run
--- returns "where that was the last step allowed": the branch was taken once, through the link that it then made null, and once not.
+-- returns "where that was the last step allowed": a register was kept in a scratch word, the branch was taken once, through the link that it then made
+-- null, and once not.
 abbrev pub unlinking : Edition → Run
-unlinking e = runOf e Unlink.policy Unlink.words Unlink.bases Unlink.returns Unlink.registers 9 Unlink.memory
+unlinking e = runOf e Unlink.policy Unlink.words Unlink.bases Unlink.returns Unlink.frame Unlink.registers 11 Unlink.memory
 
 pub record StartExists (e : Edition) : Type 0 where
   pub checked : checkOf e Unlink.policy Unlink.words Unlink.rows Unlink.entry Unlink.digits ≡ accepted
-  pub matches : Start Unlink.policy Unlink.entry Unlink.bases Unlink.returns Unlink.registers Unlink.memory
+  pub matches : Start Unlink.policy Unlink.entry Unlink.bases Unlink.returns Unlink.frame Unlink.registers Unlink.memory
   pub returned : unlinking e .outcome .end ≡ Returned
-  pub counted : unlinking e .outcome .steps ≡ 9
+  pub counted : unlinking e .outcome .steps ≡ 11
   pub gives : valueOf (unlinking e .outcome .registers) resultRegister ≡ 7
   pub leaves : unlinking e .memory ≡ Unlink.cleared
 
