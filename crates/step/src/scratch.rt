@@ -13,8 +13,8 @@ pub fn scratch_is_set(marks: &[bool; MARKS], k: u8) -> bool
     requires { ⌜ k < scratchCount ⌝ }
     ensures { λ r. ⌜ r ≡ getD (now (marks .entry)) (scratchMark k) false ⌝ }
 {
-    let i = FIRST_SCRATCH + k as usize;
-    marks[i]
+    let mark = FIRST_SCRATCH + k as usize;
+    marks[mark]
 }
 
 // Sets scratch word k.
