@@ -158,6 +158,9 @@ def forms():
     for k, (name, e, good) in enumerate(ENTRIES):
         for one in (FIRST + k % 6, FIRST + (k + 3) % 6):
             yield Case(f"{one}-{name}", routine([RETURN, NOP], [{}, {one: e}], regions=TWO), "0 0 0" if good else f"1 1 {one}")
+    for name, e in ("unset", NONE), ("a-number", FEW), ("an-address", start()):
+        yield Case(f"scratch-set-and-pointer-{name}", routine([RETURN, NOP], [{}, {POINTER: e, 33: FEW, 38: BACK}], regions=TWO), "0 0 0")
+    yield makes("scratch-kept-without-the-frame-address", NOP, {33: FEW}, {POINTER: NONE, 33: FEW})
     yield Case("frame-address-as-result", routine([RETURN, NOP], [{}, {}], result=FRAME), "21 0 0")
     for name, rows, answer in BROKEN:
         yield Case("broken-" + name, routine([RETURN, NOP], rows, first={}), answer)
@@ -368,6 +371,7 @@ def spills():
         for other, e2 in KEPT:
             if other != name and not fits(e, e2):
                 yield makes(f"kept-{name}-not-as-{other}", store, {3: e}, {one: e2}, f"12 0 {one}", regions=TWO)
+                yield makes(f"given-back-{name}-not-as-{other}", load, {one: e}, {4: e2}, "12 0 4", regions=TWO)
     yield makes("kept-full-step", word("st", 3, POINTER, 96), {3: number(0, 8, 4)}, {33: number(0, 8, 8)}, "12 0 33")
     yield makes("kept-r0", word("st", 0, POINTER, 96), {33: FULL}, {33: number(0, 0)})
     yield makes("ld-to-r0-leaves-it", word("ld", 0, POINTER, 96), {33: FEW}, {33: FEW})

@@ -187,7 +187,7 @@ static void list(const struct code *c, struct listing *l)
 enum {
     RECORD_WORDS = 26,      /* numbers before the words */
     MOST_NUMBERS = 1024,
-    MOST_ENTRY = 512,
+    MOST_ENTRY = 1024,
     MOST_TABLE = 8192,
     UNTOUCHED = 0xAA
 };
