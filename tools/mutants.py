@@ -6,9 +6,10 @@
 
 The wrong versions are listed in tools/plain/mutants.txt, each a line of tools/plain/answer.c replaced by
 another. They are compiled with gcc (-O1, one after another) and answer all the records, each for the edition
-that it has, and the bundles of cases.py and framecases.py that are too long for the program. A version that answers each of them right survives: a record that
-tells it apart is missing, or it is no wrong version, and then the list has the reason. The status is 0 if
-the right program answers each right and exactly those versions survive that have a reason.
+that it has, and the bundles of cases.py and framecases.py that are too long for the program. A version that
+answers each of them right survives: a record that tells it apart is missing, or it is no wrong version, and
+then the list has the reason. The status is 0 if the right program answers each right and exactly those
+versions survive that have a reason.
 """
 import itertools
 import os
