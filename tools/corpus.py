@@ -18,9 +18,9 @@ Beside them EACH that are accepted have a branch into a slot, and every number f
 such a slot; 25 is the answer to EACH in other slots with the annul bit and to EACH without; EACH that are refused with 3 have
 a word there or behind that writes a register of the caller; every number is EACH times the answer where a scratch word is
 named, where the frame address is used, and, if it is 0, with an access of the frame; and it is once the answer to another
-bundle of version 2. Of the bundles given the NEAREST shortest of a sort are looked at. The choice is the same at each run. It
-takes a quarter of an hour: each version is compiled and answers every bundle. With --examples it takes a moment, and
-tools/mutants.py tells whether all versions are still told apart.
+bundle of version 2. Of the bundles given the NEAREST shortest of a sort are looked at, if they have at most LONG bytes. The
+choice is the same at each run. It takes a quarter of an hour: each version is compiled and answers every bundle. With --examples
+it takes a moment, and tools/mutants.py tells whether all versions are still told apart.
 
 A request may change the answer to a bundle that stands in the data. Then the run ends with a line that names it. If it was made it
 is answered anew in cases.py; if it is the independent implementation's it is to be taken out of the data first.
@@ -44,7 +44,7 @@ from mutants import Record
 TOOLS = os.path.dirname(os.path.abspath(__file__))
 EXAMPLES = os.path.join(TOOLS, "..", "examples")
 CRATE = os.path.join(TOOLS, "..", "crates", "corpus")
-EACH, NEAREST = 3, 8
+EACH, NEAREST, LONG = 3, 8, 25000
 # The numbers that name a word before the pass of flow, and those of that pass.
 BEFORE_FLOW, FLOW, CALLERS_REGISTER = ["1", "2", "24"], "3", "25"
 # The opcodes of format 11 that store, and the caller's registers.
@@ -170,7 +170,7 @@ def bundle_sort(one):
 def shortest(records):
     """Of each sort the shortest records, in their order."""
     of_sort = {}
-    for one in records:
+    for one in (one for one in records if len(one.bundle) <= LONG):
         of_sort.setdefault(bundle_sort(one), []).append(one)
     near = {one for several in of_sort.values() for one in sorted(several, key=lambda one: len(one.bundle))[:NEAREST]}
     return [one for one in records if one in near]
