@@ -1,8 +1,9 @@
-"""cases.py: bundles made for the program crates/corpus, each with the answer that document 01, with requests 1 to 6, gives it.
+"""cases.py: bundles made for the program crates/corpus, each with the answer that document 01, with requests 1 to 7, gives it.
 
 They are what the wrong versions of tools/plain/mutants.txt need beside the bundles of the independent implementation.
 Each case has a name that says what it is about. Most are a few words long: what is tried stands at word 0 or 1,
-and the rest is a return with a nop in its slot. A case is for one terminal, the older one unless it is told.
+and the rest is a return with a nop in its slot. A case is for one terminal, the older one unless it is told. Its bundle is
+of version 1 unless it is told: rows without scratch words are shorter. Those of request 7 are in framecases.py.
 """
 import struct
 from collections import namedtuple
@@ -12,7 +13,7 @@ import layout
 import parts
 from layout import ADDRESS, BOTH, OR_NULL, READ, UNSET, WRITE
 from parts import NOP, RETURN
-from script import NEWER, OLDER
+from script import NEWER, OLDER, Problem
 
 Case = namedtuple("Case", "name bundle answer edition", defaults=[OLDER])
 
@@ -35,18 +36,21 @@ def number(lo, hi, step=1):
     return layout.entry_bytes(layout.number(lo, hi, step))
 
 
-def row(known, note=bytes(layout.NOTE.size)):
-    """A row of the entries that are known, by register. r0 is 0, all others are unset."""
+def row(known, note=bytes(layout.NOTE.size), version=layout.VERSION):
+    """A row of the entries that are known, by the numbers that answers have for them. r0 is 0, all others are unset."""
+    held = (layout.ROW_SIZES[version] - layout.NOTE.size) // layout.ENTRY.size
     plain = layout.row_bytes(layout.row({}))
-    entries = [plain[at:at + layout.ENTRY.size] for at in range(0, layout.REGISTERS * layout.ENTRY.size, layout.ENTRY.size)]
-    for register, e in known.items():
-        entries[register] = e
-    return b"".join(entries) + note
+    entries = {name: plain[layout.ENTRY.size * k:layout.ENTRY.size * (k + 1)] for k, name in enumerate(layout.NAMED[:held])}
+    for name, e in known.items():
+        if name not in entries:
+            raise Problem(f"a row of version {version} has no entry {name}")
+        entries[name] = e
+    return b"".join(entries.values()) + note
 
 
-def bundle(regions, entry_row, result, words, rows):
+def bundle(regions, entry_row, result, words, rows, version):
     """A bundle. A region is its size and the list of its fields."""
-    head = layout.HEAD.pack(layout.MARK, layout.VERSION, len(regions), len(words))
+    head = layout.HEAD.pack(layout.MARK, version, len(regions), len(words))
     sizes = b"".join(layout.REGION.pack(size, len(fields), 0) for size, fields in regions)
     fields = b"".join(f for _, of_region in regions for f in of_region)
     code = b"".join(layout.WORD.pack(w) for w in words)
@@ -122,16 +126,16 @@ TWO = [(32, [field(1, BOTH, 0, 8, 0, 9)]), (64, [field(5, BOTH, 8, 4, 0, 9)])]
 SET, CODES_UNKNOWN = note(1), note(0)
 
 
-def routine(words, rows, regions=(), result=NONE, first=None):
-    """A bundle of these words. A row is the entries that are known, by register, with the note at "note"; r15 has the
+def routine(words, rows, regions=(), result=NONE, first=None, version=layout.BEFORE_SCRATCH):
+    """A bundle of these words. A row is the entries that are known, by their numbers, with the note at "note"; r15 has the
     return address unless it is named. The entry row is `first`, or row 0."""
-    spelled = [spell(one) for one in rows]
-    return bundle(list(regions), spelled[0] if first is None else spell(first), result, words, spelled)
+    spelled = [spell(one, version) for one in rows]
+    return bundle(list(regions), spelled[0] if first is None else spell(first, version), result, words, spelled, version)
 
 
-def spell(known):
+def spell(known, version=layout.VERSION):
     named = {15: BACK, **known}
-    return row({r: e for r, e in named.items() if r != "note"}, named.get("note", CODES_UNKNOWN))
+    return row({r: e for r, e in named.items() if r != "note"}, named.get("note", CODES_UNKNOWN), version)
 
 
 def then_return(words, rows, **others):
@@ -162,7 +166,7 @@ def layouts():
     yield Case("mark-third-byte", changed(two, 2, 0x53), "23 0 0")
     yield Case("version-257", changed(two, 3, 1), "23 0 0")
     yield Case("version-0", changed(two, 4, 0), "23 0 0")
-    yield Case("version-2", changed(two, 4, 2), "23 0 0")
+    yield Case("version-2-with-rows-of-1", changed(two, 4, 2), "23 0 0")
     yield Case("first-region-zero", changed(two, 8 + 3, 1), "23 0 0")
     yield Case("second-region-zero", changed(two, 12 + 3, 1), "23 0 0")
     yield Case("first-field-zero", changed(two, 16 + 3, 1), "23 0 0")
@@ -177,7 +181,7 @@ def layouts():
 
 
 def long_ones():
-    """At and about the limits of words and bytes. The last is longer than a bundle may be, by the least that counts can give."""
+    """At and about the limits of words and bytes of version 1. The last is longer than a bundle may be, by the least that counts can give."""
     fields = [field(1, BOTH, k, 1, 0, 9) for k in range(16)]
     rows = [{}] * 128
     words = [NOP] * 126 + [RETURN, NOP]
@@ -201,8 +205,8 @@ def adds():
     yield Case("seventeenth-bad", routine(*whole, [(24, fields + [field(0, READ, 16, 1)])]), "18 0 0")
     yield Case("seventeen-after-a-bad-one", routine(*whole, [(24, [field(1, 0, 0, 1)] + fields)]), "20 0 0")
     yield Case("seventeen-and-a-later-size", routine(*whole, [(24, fields + [field(1, READ, 16, 1)]), (12, [])]), "19 0 0")
-    yield Case("no-word-and-a-bad-size", bundle([(12, [])], spell({}), NONE, [], []), "19 0 0")
-    yield Case("no-word", bundle([], spell({}), NONE, [], []), "21 0 0")
+    yield Case("no-word-and-a-bad-size", routine([], [], [(12, [])], first={}), "19 0 0")
+    yield Case("no-word", routine([], [], first={}), "21 0 0")
     for size in (0, 4, 12, 4104):
         yield Case(f"size-{size}", routine(*whole, [(size, [])]), "19 0 0")
     for size in (8, 4096):
@@ -1119,14 +1123,15 @@ ONE_LEFT = [
 
 # The predicted branch. It does what the other branch does, whatever its hint, on the newer terminal; the older one does not read it.
 
-def in_place_of_others():
+def in_place_of_others(several):
     """Cases with predicted branches in the place of others."""
-    for case in [*flows(), *edges(), *landings(), *taking(), *narrowing()]:
+    for case in several:
         policy, first, result, code, rows = layout.open_bundle(case.bundle)
         for hint in False, True:
             other = [as_predicted(one, hint) for one in code]
             if other != code:
-                name, data = case.name + "-predicted" + "-hint" * hint, layout.bundle_bytes(policy, first, result, other, rows)
+                name = case.name + "-predicted" + "-hint" * hint
+                data = layout.bundle_bytes(policy, first, result, other, rows, layout.version_of(case.bundle))
                 yield Case(name, data, case.answer, NEWER)
                 if not case.answer.startswith("2 "):
                     at_word = next(k for k, one in enumerate(other) if one != code[k])
@@ -1134,7 +1139,7 @@ def in_place_of_others():
 
 
 def predictions():
-    yield from in_place_of_others()
+    yield from in_place_of_others([*flows(), *edges(), *landings(), *taking(), *narrowing()])
     for condition in range(16):
         for annul, hint in (False, False), (False, True), (True, False), (True, True):
             name = f"predicted-{condition}" + "-annulled" * annul + "-hint" * hint
@@ -1191,7 +1196,11 @@ GROUPS = [layouts, long_ones, adds, forms, fitting, results, conditions, accesse
 def cases():
     """All of them. The first is the bundle of the program crates/answer. Without a predicted branch the answer is that on both terminals."""
     yield Case("return-then-nop", parts.return_then_nop(), "0 0 0")
-    for group in GROUPS:
-        for case in group():
-            yield from (case, case._replace(name=case.name + "-on-9", edition=NEWER))
+    yield from on_each(case for group in GROUPS for case in group())
     yield from predictions()
+
+
+def on_each(several):
+    """These cases on the older and on the newer terminal."""
+    for case in several:
+        yield from (case, case._replace(name=case.name + "-on-9", edition=NEWER))

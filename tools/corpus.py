@@ -3,19 +3,24 @@
 
     tools/corpus.py                                from the bundles that the repository has
     tools/corpus.py EDITION BUNDLES ANSWERS ..     with more bundles of the independent implementation
+    tools/corpus.py --anew ..                      so, and what the data has is chosen anew
+    tools/corpus.py --examples                     takes the examples as they are now; all else stays
 
 EDITION is 8 or 9, the terminal. BUNDLES has bundles one after another, each after its length as a 32-bit big-endian
 number; line n of ANSWERS is the answer to bundle n on that terminal: number, word and register in decimal.
 
-There are three sources: the independent implementation's bundles, the bundles of cases.py, and those of examples/ with
-the answers that stand beside them (on the terminal that the file `edition` there names; without one it is 8). What the
-data has of the first two stays there. Else only those are taken that are needed: every wrong version of
-tools/plain/mutants.txt is told apart by a record, and every number is on each terminal the answer to EACH bundles of the
-independent implementation with a word of the predicted branch's form, and to EACH without, if it has so many. Beside them
-EACH that are accepted have a branch into a slot, and every number from the pass of flow on is once the answer at such a
-slot; 25 is the answer to EACH in other slots with the annul bit and to EACH without; and EACH that are refused with 3 have a
-word there or behind that writes a register of the caller. The choice is the same at each run. It takes some minutes: each version is
-compiled and answers every bundle.
+There are three sources: the independent implementation's bundles, the bundles of cases.py and framecases.py, and those of
+examples/ with the answers that stand beside them (on the terminal that the file `edition` there names; without one it is 8).
+What the data has of the first two stays there, unless it is chosen anew. Else only those are taken that are needed: every
+wrong version of tools/plain/mutants.txt is told apart by a record, and every number is on each terminal the answer to EACH
+bundles of the independent implementation with a word of the predicted branch's form, and to EACH without, if it has so many.
+Beside them EACH that are accepted have a branch into a slot, and every number from the pass of flow on is once the answer at
+such a slot; 25 is the answer to EACH in other slots with the annul bit and to EACH without; EACH that are refused with 3 have
+a word there or behind that writes a register of the caller; every number is EACH times the answer where a scratch word is
+named, where the frame address is used, and, if it is 0, with an access of the frame; and it is once the answer to another
+bundle of version 2. Of the bundles given the NEAREST shortest of a sort are looked at, if they have at most LONG bytes. The
+choice is the same at each run. It takes a quarter of an hour: each version is compiled and answers every bundle. With --examples
+it takes a moment, and tools/mutants.py tells whether all versions are still told apart.
 
 A request may change the answer to a bundle that stands in the data. Then the run ends with a line that names it. If it was made it
 is answered anew in cases.py; if it is the independent implementation's it is to be taken out of the data first.
@@ -39,7 +44,7 @@ from mutants import Record
 TOOLS = os.path.dirname(os.path.abspath(__file__))
 EXAMPLES = os.path.join(TOOLS, "..", "examples")
 CRATE = os.path.join(TOOLS, "..", "crates", "corpus")
-EACH = 3
+EACH, NEAREST, LONG = 3, 8, 25000
 # The numbers that name a word before the pass of flow, and those of that pass.
 BEFORE_FLOW, FLOW, CALLERS_REGISTER = ["1", "2", "24"], "3", "25"
 # The opcodes of format 11 that store, and the caller's registers.
@@ -72,7 +77,7 @@ def stream(edition, bundles, answers):
 def streams(arguments):
     """The records that the arguments name, three arguments each time."""
     if len(arguments) % 3:
-        raise script.Problem("call it as `corpus.py` or `corpus.py EDITION BUNDLES ANSWERS ..`")
+        raise script.Problem("call it as `corpus.py`, `corpus.py --examples` or `corpus.py [--anew] EDITION BUNDLES ANSWERS ..`")
     found = []
     for edition, bundles, answers in zip(*[iter(arguments)] * 3):
         with open(bundles, "rb") as data, open(answers) as lines:
@@ -131,6 +136,46 @@ def sort_of(edition, words, answer, accepted, refused):
     return f"{kind}, number {number}", EACH
 
 
+def uses_pointer(word):
+    """Whether a word has r14 as an operand, or stores it."""
+    form, opcode = assembly.opcode_of(word)
+    second = not word >> 13 & 1 and word & 31 == layout.POINTER
+    stored = form == 3 and opcode in STORES and word >> 25 & 31 == layout.POINTER
+    return form in (2, 3) and (word >> 14 & 31 == layout.POINTER or second or stored)
+
+
+def framed(row):
+    return row[0][layout.POINTER][0] == layout.FRAME
+
+
+def bundle_sort(one):
+    """What a record counts as, and how many of these there are to be: by the frame, if it has to do with it, by its version, or else by
+    its words and its answer."""
+    number, at, register = map(int, one.answer.split())
+    try:
+        version, (_, _, _, words, rows) = layout.version_of(one.bundle), layout.open_bundle(one.bundle)
+    except script.Problem:
+        return sort_of(one.edition, [], one.answer, EACH, 1)
+    if register > layout.NOTE_NAMED:
+        return f"edition {one.edition}, scratch word, number {number}", EACH
+    if number in (4, 5, 6, 7, 8) and uses_pointer(words[at]) and any(map(framed, rows[max(at - 1, 0):at + 1])):
+        return f"edition {one.edition}, frame, number {number}", EACH
+    if number == 0 and any(word >> 30 == 3 and uses_pointer(word) and framed(row) for word, row in zip(words, rows)):
+        return f"edition {one.edition}, frame, number {number}", EACH
+    if version == layout.VERSION:
+        return f"edition {one.edition}, version {version}, number {number}", 1
+    return sort_of(one.edition, words, one.answer, EACH, 1)
+
+
+def shortest(records):
+    """Of each sort the shortest records, in their order."""
+    of_sort = {}
+    for one in (one for one in records if len(one.bundle) <= LONG):
+        of_sort.setdefault(bundle_sort(one), []).append(one)
+    near = {one for several in of_sort.values() for one in sorted(several, key=lambda one: len(one.bundle))[:NEAREST]}
+    return [one for one in records if one in near]
+
+
 def chosen(lengths, told, sorts, always):
     """The places of the records to take, those at `always` among them: one after another the one that serves most for
     its length. `told` has the places of the records that tell each version apart. `sorts` has the sort of each of the first
@@ -158,19 +203,36 @@ def chosen(lengths, told, sorts, always):
     return sorted(taken)
 
 
-def main(arguments):
-    made = mutants.case_records(lambda length: length <= mutants.ROOM)
-    (kept, rest), more, shown = standing(made[0]), streams(arguments), examples()
-    other = [one for one in dict.fromkeys(kept + more) if len(one.bundle) <= mutants.ROOM]
-    stock, first = other + made + shown, len(other)
-    sorts = [sort_of(one.edition, words_in(one.bundle), one.answer, EACH, 1) for one in other]
-    stays = {made[0], *rest}
-    always = [*range(len(kept)), *(first + at for at, one in enumerate(made) if one in stays), *range(first + len(made), len(stock))]
-    places = chosen([len(one.bundle) for one in stock], mutants.all_wrong(stock), sorts, always)
+def write(held):
     with open(os.path.join(CRATE, "stdin"), "wb") as file:
-        file.write(b"".join(record(stock[at]) for at in places))
+        file.write(b"".join(map(record, held)))
     with open(os.path.join(CRATE, "stdout"), "w") as file:
-        file.write(f"{len(places)} bundles, 0 wrong\n")
+        file.write(f"{len(held)} bundles, 0 wrong\n")
+
+
+def with_examples():
+    """Writes the data with the examples as they are now, in the place of those that it has."""
+    made, shown = mutants.case_records(lambda length: length <= mutants.ROOM), examples()
+    kept, rest = standing(made[0])
+    mine = [one for one in rest if one in set(made)]
+    write(kept + mine + shown)
+    print(f"{len(kept)} of the independent implementation, {len(mine)} made, {len(shown)} examples; {len(rest) - len(mine)} taken out")
+
+
+def main(arguments):
+    if arguments == ["--examples"]:
+        return with_examples()
+    anew = arguments[:1] == ["--anew"]
+    more, shown = streams(arguments[anew:]), examples()
+    made = mutants.case_records(lambda length: length <= mutants.ROOM)
+    kept, rest = standing(made[0])
+    other = [one for one in dict.fromkeys(kept + shortest(more)) if len(one.bundle) <= mutants.ROOM]
+    stock, first = other + made + shown, len(other)
+    stays = {made[0], *(() if anew else rest)}
+    always = [*(() if anew else range(len(kept))), *(first + at for at, one in enumerate(made) if one in stays),
+              *range(first + len(made), len(stock))]
+    places = chosen([len(one.bundle) for one in stock], mutants.all_wrong(stock), list(map(bundle_sort, other)), always)
+    write([stock[at] for at in places])
     others, mine = sum(at < first for at in places), sum(first <= at < first + len(made) for at in places)
     print(f"{others} of {first} of the independent implementation, {mine} of {len(made)} made, {len(shown)} examples")
 

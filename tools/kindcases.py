@@ -1,8 +1,8 @@
 """kindcases.py: routines made for the program crates/tables, each for one rule of the listing of kinds.
 
-Each case has a name that says what it is about. Those that are short have what requests 2, 4, 5 and 6 of document 02 give, written
+Each case has a name that says what it is about. Those that are short have what requests 2 and 4 to 7 of document 02 give, written
 down here: the answer, or a text of marks. This has for each word the marks of r0 to r7 as digits, or `-` if the word is not
-reached; r8 to r31 are at each word that is reached as in the entry row. A longer one has None, and what it gives is what
+reached; r8 to r31 are at each word that is reached as in the entry row, the frame address as unset. A longer one has None, and what it gives is what
 tools/plain/kinds.c gives.
 
 A case is for one terminal, the older one unless it is told. The entry row is ENTRY unless it is told: r1 a number, r2 an address, r3 an address or null, r4 a return address, r5 unset,
@@ -13,6 +13,7 @@ from collections import namedtuple
 import cases
 import layout
 from cases import ALWAYS, EQUAL, LESS, NEVER, branch, predicted, sethi, word
+from framecases import FRAMES_WITH_MORE, SCRATCH, SET_AT_ENTRY
 from parts import NOP, RETURN
 from script import NEWER, OLDER
 
@@ -257,8 +258,9 @@ def meetings():
 def lengths():
     for length in 0, 1, 32, 64, 4095, 4097:
         yield refused(f"table-{length}", "21 0 0", length=length)
-    for size in 0, 391, 393, 464:
+    for size in 0, 391, 392, 393, 463, 465, 536:
         yield refused(f"entry-of-{size}", "21 0 0", entry=(ENTRY + bytes(100))[:size])
+    yield refused("entry-without-scratch-words", "21 0 0", entry=cases.spell(KNOWN, layout.BEFORE_SCRATCH))
     yield refused("no-words", "21 0 0", [])
     yield refused("words-129", "21 0 0", [NOP] * 127 + END)
     yield listed("words-128", [NOP] * 126 + [branch(ALWAYS, -126), word("or", 6, 0, "r2")], " ".join(["11234552"] * 128))
@@ -383,6 +385,50 @@ PREDICTED_TAKING = [
 ]
 
 
+# The frame
+
+def frames():
+    """The frame address in r14 is marked unset; elsewhere it refuses the listing, and so does a scratch word that is set."""
+    framed = {**KNOWN, 14: cases.entry(layout.FRAME)}
+    yield listed("entry-frame-address", END, f"{FIRST} {FIRST}", framed)
+    for register in range(MARKS):
+        if register != 14:
+            yield refused(f"entry-frame-address-in-r{register}", "21 0 0", entry=cases.spell({**KNOWN, register: cases.entry(layout.FRAME)}))
+    for name, entry in FRAMES_WITH_MORE:
+        yield refused(f"entry-frame-address-with-{name}", "21 0 0", entry=cases.spell({**KNOWN, 14: entry}))
+    for name in SCRATCH:
+        for sort, entry in [*SET_AT_ENTRY, ("frame-address", framed[14])]:
+            yield refused(f"entry-{name}-{sort}", "21 0 0", entry=cases.spell({**framed, name: entry}))
+    yield refused("entry-scratch-set-without-the-frame", "21 0 0", entry=cases.spell({**KNOWN, 33: cases.FULL}))
+    yield refused("entry-every-scratch-set", "21 0 0", entry=cases.spell({**framed, **{name: cases.FULL for name in SCRATCH}}))
+    yield refused("policy-before-scratch-set", "20 0 0", policy=POLICY._replace(count=9), entry=cases.spell({**framed, 33: cases.FULL}))
+    yield refused("scratch-set-before-reading", "21 0 0", [CALL], entry=cases.spell({**framed, 33: cases.FULL}))
+    yield refused("scratch-set-before-flow", "21 0 0", [NOP], entry=cases.spell({**framed, 38: cases.BACK}))
+    yield refused("scratch-set-before-taking", "21 0 0", [cases.TAKES] + END, entry=cases.spell({**framed, 36: cases.start()}))
+    for sort, entry in ("address", cases.start()), ("number", cases.FULL), ("or-null", cases.null_or(1)), ("return", cases.BACK), ("unset", cases.NONE):
+        yield listed(f"entry-pointer-{sort}", END, f"{FIRST} {FIRST}", {**KNOWN, 14: entry})
+    yield refused("entry-note-behind-the-scratch-words", "21 0 0", entry=cases.spell({**framed, "note": cases.note(3)}))
+    yield listed("entry-note-of-the-pointer", END, f"{FIRST} {FIRST}", {**framed, "note": cases.note(2, 14, 5)})
+    # What is loaded from the frame is unset, whatever was stored; r14 is unset as an operand and where it is copied.
+    for name, one in [(f"st-r{r}-at-{offset}", word("st", r, 14, offset)) for r, offset in ((1, 96), (2, 100), (3, 104), (4, 108), (6, 112), (7, 116))]:
+        offset = int(name.split("-")[-1])
+        yield listed(f"{name}-and-ld", [one, word("ld", 6, 14, offset)] + END, f"{FIRST} {FIRST} 11234552 11234552", framed)
+    marks = ["11234512", "11234552", "11234512", "11234552", "11234512", "11234552"]
+    steps = [word("ld", 6, 14, 96), sethi(6, 1), word("or", 6, 0, "r14"), sethi(6, 1), word("add", 6, 14, 96)]
+    yield listed("uses-of-the-pointer", steps + END, " ".join(marks + marks[-1:]), framed)
+    narrow = [word("or", 6, 0, "r14"), word("ldub", 6, 14, 96), word("or", 6, 0, "r14"), word("ldsh", 6, 14, 0)]
+    yield listed("narrow-loads-of-the-frame", narrow + END, f"{FIRST} 11234552 {FIRST} 11234552 {FIRST} {FIRST}", framed)
+    yield listed("ld-by-a-number-first", [word("ld", 6, 1, "r14")] + END, f"{FIRST} 11234552 11234552", framed)
+    yield listed("stores-of-the-pointer", [word("st", 14, 14, 96), word("stb", 14, 2, 0)] + END, " ".join([FIRST] * 4), framed)
+    yield listed("spill-in-slots", [branch(EQUAL, 4), word("st", 6, 14, 96)] + END + [word("ld", 6, 14, 96)] + END,
+                 f"{FIRST} {FIRST} {FIRST} {FIRST} {FIRST} 11234552 11234552", framed)
+    yield listed("pointer-meets-itself", [branch(EQUAL, 2), NOP] + END, " ".join([FIRST] * 4), framed)
+    yield refused("pointer-written", "25 0 14", [word("ld", 14, 14, 96)] + END, entry=cases.spell(framed))
+    yield listed("frame-on-9", [predicted(EQUAL, 2, False, True), word("ld", 6, 14, 96)] + END, f"{FIRST} {FIRST} 11234552 11234552",
+                 framed)._replace(edition=NEWER)
+    yield refused("scratch-set-on-9", "21 0 0", entry=cases.spell({**framed, 35: cases.FULL}))._replace(edition=NEWER)
+
+
 # The predicted branch
 
 def predictions():
@@ -424,5 +470,5 @@ def predictions():
 
 def made():
     """All cases; the first is that by which they are known from others."""
-    for several in (flows, landings, loops, meetings, copies, sums, numbers, accesses, every_pair, lengths, forms, orders, policies, callers, predictions):
+    for several in (flows, landings, loops, meetings, copies, sums, numbers, accesses, every_pair, lengths, forms, orders, policies, callers, frames, predictions):
         yield from several()

@@ -6,10 +6,12 @@
 
 The wrong versions are listed in tools/plain/mutants.txt, each a line of tools/plain/answer.c replaced by
 another. They are compiled with gcc (-O1, one after another) and answer all the records, each for the edition
-that it has, and the bundles of cases.py that are too long for the program. A version that answers each of them right survives: a record that
-tells it apart is missing, or it is no wrong version, and then the list has the reason. The status is 0 if
-the right program answers each right and exactly those versions survive that have a reason.
+that it has, and the bundles of cases.py and framecases.py that are too long for the program. A version that
+answers each of them right survives: a record that tells it apart is missing, or it is no wrong version, and
+then the list has the reason. The status is 0 if the right program answers each right and exactly those
+versions survive that have a reason.
 """
+import itertools
 import os
 import re
 import struct
@@ -20,6 +22,8 @@ from collections import namedtuple
 
 sys.dont_write_bytecode = True
 import cases
+import framecases
+import layout
 import script
 from script import Problem
 
@@ -29,7 +33,7 @@ LIST = os.path.join(TOOLS, "plain", "mutants.txt")
 DATA = os.path.join(TOOLS, "..", "crates", "corpus", "stdin")
 SECONDS = 20
 # The longest bundle that the program reads.
-ROOM = 53181
+ROOM = layout.MOST_BYTES[layout.VERSION] + 1
 # The beginning of a record: edition, number, register, word, the bundle's length.
 HEAD = struct.Struct(">BBBHI")
 # A record: the edition, the bundle, and the answer, a line as the program prints it.
@@ -83,7 +87,8 @@ def records(data):
 
 def case_records(fits):
     """The records of those cases whose bundle has a length that fits, each once."""
-    return list(dict.fromkeys(Record(case.edition, case.bundle, case.answer) for case in cases.cases() if fits(len(case.bundle))))
+    made = itertools.chain(cases.cases(), framecases.made())
+    return list(dict.fromkeys(Record(case.edition, case.bundle, case.answer) for case in made if fits(len(case.bundle))))
 
 
 def compiled(source, folder):

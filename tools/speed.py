@@ -28,16 +28,19 @@ RUNS = 5
 
 
 def full_bundle():
-    """Accepted, and as long as a bundle can be: 8 regions of 16 fields, 128 words, every register known."""
+    """Accepted, and as long as a bundle can be: 8 regions of 16 fields, 128 words, every register known, and every scratch word from where
+    the first six words have stored them."""
     fields = [(parts.UNSIGNED_BYTE, layout.BOTH, 0, 8 * k, 8, 32, 126) for k in range(16)]
     known = {r: layout.number(0, 36, 4) for r in range(1, 32)}
     known[1] = layout.number(32, 126)
     known[8] = (layout.ADDRESS, 3, layout.SINGLE_STEP, 0, 0)
+    known[layout.POINTER] = layout.FRAME_ADDRESS
     known[15] = layout.RETURN_ADDRESS
-    every = layout.row(known)
-    store = 0xC22A2000  # stb %g1, [%o0]
-    words = [store] * 126 + [parts.RETURN, parts.NOP]
-    return layout.bundle_bytes([(128, fields)] * 8, every, layout.NOTHING, words, [every] * 128)
+    scratch = layout.NAMED[layout.REGISTERS:]
+    rows = [layout.row({**known, **{name: known[1] for name in scratch[:k]}}) for k in range(128)]
+    spill, store = 0xC223A000, 0xC22A2000  # st %g1, [%sp + an offset]; stb %g1, [%o0]
+    words = [spill + offset for offset in layout.SCRATCH_OFFSETS] + [store] * 120 + [parts.RETURN, parts.NOP]
+    return layout.bundle_bytes([(128, fields)] * 8, rows[0], layout.NOTHING, words, rows)
 
 
 def best(command, data):

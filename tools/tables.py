@@ -2,9 +2,10 @@
 """tables.py: chooses the records of the program crates/tables and writes its data, stdin and stdout.
 
     tools/tables.py                from the listings that the repository has
-    tools/tables.py LISTINGS       with more of the independent implementation
+    tools/tables.py LISTINGS ..    with more of the independent implementation
 
 LISTINGS has listings of kinds as text, a blank line between two. A line is a name and what stands for it:
+  level N        how many requests had landed; before the seventh entry rows had no scratch words, and are read with six that are unset
   terminal E     8, which it is also without this line, or 9
   policy HEX     the number of regions, a byte; the regions, 4 bytes each; the fields of all, 16 bytes each, as in a bundle
   entry HEX      the entry row
@@ -17,7 +18,7 @@ Other lines are passed over.
 There are two sources: the independent implementation's listings, and those of kindcases.py, all of which are taken. Of the
 first those that stand in the data stay there. Of others only those are taken that are needed: every wrong version of
 tools/plain/kinds-mutants.txt that is told apart by one of them is told apart by one that is taken, and every number is the
-answer to several, with a branch into a slot and without, 25 also in slots. What a later request lists otherwise is to be taken out of
+answer to several, with a branch into a slot and without, 25 also in slots, and some have the frame address in r14. What a later request lists otherwise is to be taken out of
 the data first. The plain program (tools/plain/kinds.c) must give what is expected of
 every listing, and every version must be told apart by the data, but those that the list shows to be no wrong versions. It takes
 some minutes: each version is compiled and makes every listing.
@@ -52,6 +53,8 @@ SOURCE = os.path.join(TOOLS, "plain", "kinds.c")
 LIST = os.path.join(TOOLS, "plain", "kinds-mutants.txt")
 CRATE = os.path.join(TOOLS, "..", "crates", "tables")
 REGIONS, FIELDS, HEAD, EXCESS = 8, 16, 26, 2 ** 31
+# The request from which on entry rows have scratch words.
+WITH_SCRATCH = 7
 # Seconds that the plain program has for all listings, and for one.
 SECONDS, SECONDS_EACH = 20, 2
 # How many listings there are to be with a branch into a slot, and how many that are refused at such a slot.
@@ -104,7 +107,21 @@ def words_of(one):
     return edition, struct.unpack_from(f">{count}I", one, 4 + 4 * HEAD)
 
 
+def is_framed(one):
+    """Whether the entry row of a record has the frame address in r14."""
+    (count,), numbers = struct.unpack_from(">I", one), struct.unpack_from(f">{HEAD}I", one, 4)
+    entry = one[4 + 4 * count:][:numbers[5]]
+    return len(entry) == layout.ROW_SIZE and layout.entry_in(entry, layout.POINTER * layout.ENTRY.size) == layout.FRAME_ADDRESS
+
+
 # Listings as text
+
+def widened(entry, level):
+    """An entry row with scratch words, that are unset if there were none at this level."""
+    if level >= WITH_SCRATCH or len(entry) != layout.ROW_SIZES[layout.BEFORE_SCRATCH]:
+        return entry
+    return entry[:-layout.NOTE.size] + bytes(layout.SCRATCH_WORDS * layout.ENTRY.size) + entry[-layout.NOTE.size:]
+
 
 def case_of(text):
     """The case that a text has; a problem names its first line."""
@@ -119,11 +136,17 @@ def case_of(text):
             at += layout.FIELD.size * count
         words = [int(one, 16) for one in lines["words"].split()]
         table = b"" if marks == "same" else bytes(map(int, marks.replace(" ", "")))
-        entry = bytes.fromhex(lines["entry"])
+        entry = widened(bytes.fromhex(lines["entry"]), int(lines.get("level", WITH_SCRATCH)))
         edition = script.edition_named([lines.get("terminal", "8")], "terminal")
         return Case("", Policy(policy[0], regions), entry, words, int(lines["table"]), (lines["answer"], table), edition)
     except (ValueError, KeyError, IndexError, struct.error):
         raise Problem(f"no listing: `{(text.strip().splitlines() or [''])[0]} ..`") from None
+
+
+def cases_in(path):
+    """The cases of a file."""
+    with open(path, encoding="utf-8", errors="replace") as file:
+        return [case_of(each) for each in file.read().split("\n\n") if each.strip()]
 
 
 # The plain program
@@ -170,6 +193,13 @@ def standing(first_made):
     return there[:there.index(first_made)] if first_made in there else []
 
 
+def sort_of(one):
+    """What a record counts as, and how many of these there are to be."""
+    edition, words = words_of(one)
+    sort, each = corpus.sort_of(edition, words, expected(one)[0], LANDING, REFUSED)
+    return (f"edition {edition}, frame, number {expected(one)[0].split()[0]}", corpus.EACH) if is_framed(one) else (sort, each)
+
+
 def chosen(text, other, kept, made, folder):
     """The places of the other records to take, the first `kept` among them. Every version must be told apart by one of these or by a
     record that is made."""
@@ -181,20 +211,15 @@ def chosen(text, other, kept, made, folder):
         if bool(places) == (version.reason is not None):
             raise Problem(f"{version.name}: " + ("survives" if version.reason is None else "has a reason, but is told apart"))
         told.append((version, [at for at in places if at < len(other)]))
-    sorts = [corpus.sort_of(*words_of(one), expected(one)[0], LANDING, REFUSED) for one in other]
+    sorts = list(map(sort_of, other))
     return corpus.chosen([len(one) for one in other], told, sorts, range(kept))
 
 
 def main(arguments):
-    if len(arguments) > 1:
-        raise Problem("call it as `tables.py` or `tables.py LISTINGS`")
     with open(SOURCE, encoding="utf-8") as file:
         text = file.read()
     with tempfile.TemporaryDirectory() as folder:
-        more = []
-        if arguments:
-            with open(arguments[0], encoding="utf-8", errors="replace") as file:
-                more = [record(case_of(each)) for each in file.read().split("\n\n") if each.strip()]
+        more = [record(case) for path in arguments for case in cases_in(path)]
         made = made_records(text, folder)
         kept = standing(made[0])
         other = list(dict.fromkeys(kept + more))

@@ -28,6 +28,9 @@ enum {
     MAX_WORDS = 128,
     REGISTERS = 32,
     NOTE = 32,              /* the register named for the note or the codes */
+    SCRATCH = 33,           /* the register named for the first scratch word */
+    SCRATCH_WORDS = 6,
+    FIRST_OFFSET = 96,      /* of the scratch words in the frame */
     RESULT_REGISTER = 8,
     STACK_POINTER = 14,
     RETURN_REGISTER = 15,
@@ -37,9 +40,13 @@ enum {
     REGION_BYTES = 4,
     FIELD_BYTES = 16,
     ENTRY_BYTES = 12,
-    ROW_BYTES = 392,
+    ROW_BYTES = 464,
     WORD_BYTES = 4,
-    MAX_BUNDLE = 53180
+    MAX_BUNDLE = 62468,
+
+    /* Version 1 of a bundle has rows without scratch words. */
+    OLD_ROW_BYTES = 392,
+    OLD_MAX_BUNDLE = 53180
 };
 
 /* ---- Answers ---- */
@@ -173,9 +180,11 @@ static int add_field(struct policy *p, int region, const struct field *f)
 
 /* ---- Rows ---- */
 
-enum kind { K_UNSET, K_NUMBER, K_ADDRESS, K_START_OR_NULL, K_RETURN };
+enum kind {
+    K_UNSET, K_NUMBER, K_ADDRESS, K_START_OR_NULL, K_RETURN, K_FRAME
+};
 
-/* What is known of one register. */
+/* What is known of one register or scratch word. */
 struct entry {
     uint8_t kind;
     uint8_t region;
@@ -196,6 +205,7 @@ struct note {
 
 struct row {
     struct entry reg[REGISTERS];
+    struct entry scratch[SCRATCH_WORDS];
     struct note note;
 };
 
@@ -263,7 +273,9 @@ static bool set_well_formed(const struct entry *e)
     return ((uint32_t)e->hi - (uint32_t)e->lo) % e->step == 0;
 }
 
-static bool entry_well_formed(const struct policy *p, const struct entry *e)
+/* reg is where the entry stands; only r14 may have the frame address. */
+static bool entry_well_formed(const struct policy *p, int reg,
+                              const struct entry *e)
 {
     bool no_set = e->step == 0 && e->lo == 0 && e->hi == 0;
 
@@ -280,6 +292,8 @@ static bool entry_well_formed(const struct policy *p, const struct entry *e)
                e->lo >= 0 && e->hi <= p->region[e->region].size;
     case K_START_OR_NULL:
         return e->region < p->regions && no_set;
+    case K_FRAME:
+        return reg == STACK_POINTER && e->region == 0 && no_set;
     default:
         return false;
     }
@@ -294,15 +308,31 @@ static bool note_well_formed(const struct note *n)
     return n->kind <= CODES_SET && n->reg == 0 && n->number == 0;
 }
 
-/* The lowest badly formed register, NOTE for the note, -1 if there is none. */
+/* The lowest badly formed register, then NOTE for the note, then SCRATCH and
+   more for a scratch word, -1 if there is none. */
 static int row_fault(const struct policy *p, const struct row *row)
 {
     if (!is_zero(&row->reg[0]))
         return 0;
     for (int r = 0; r < REGISTERS; r++)
-        if (!entry_well_formed(p, &row->reg[r]))
+        if (!entry_well_formed(p, r, &row->reg[r]))
             return r;
-    return note_well_formed(&row->note) ? -1 : NOTE;
+    if (!note_well_formed(&row->note))
+        return NOTE;
+    for (int k = 0; k < SCRATCH_WORDS; k++)
+        if (!entry_well_formed(p, SCRATCH + k, &row->scratch[k]))
+            return SCRATCH + k;
+    return -1;
+}
+
+/* In an entry row the scratch words are unset. */
+static bool entry_row_well_formed(const struct policy *p,
+                                  const struct row *row)
+{
+    for (int k = 0; k < SCRATCH_WORDS; k++)
+        if (row->scratch[k].kind != K_UNSET)
+            return false;
+    return row_fault(p, row) < 0;
 }
 
 /* Does the set of a lie in the set of b? */
@@ -330,7 +360,7 @@ static bool entry_fits(const struct entry *a, const struct entry *b)
                (a->region == b->region &&
                 (a->kind == K_START_OR_NULL || is_start(a)));
     default:
-        return a->kind == K_RETURN;
+        return a->kind == b->kind;
     }
 }
 
@@ -344,13 +374,18 @@ static bool note_fits(const struct note *a, const struct note *b)
            a->number == b->number;
 }
 
-/* The lowest register that does not fit, NOTE for the note, -1 for none. */
+/* The lowest that does not fit, named as by row_fault, -1 for none. */
 static int row_misfit(const struct row *a, const struct row *b)
 {
     for (int r = 0; r < REGISTERS; r++)
         if (!entry_fits(&a->reg[r], &b->reg[r]))
             return r;
-    return note_fits(&a->note, &b->note) ? -1 : NOTE;
+    if (!note_fits(&a->note, &b->note))
+        return NOTE;
+    for (int k = 0; k < SCRATCH_WORDS; k++)
+        if (!entry_fits(&a->scratch[k], &b->scratch[k]))
+            return SCRATCH + k;
+    return -1;
 }
 
 /* Write a register of the row; a note on its old value is lost. */
@@ -680,6 +715,8 @@ static int combine(const struct policy *p, enum operation op,
     bool one_address = (a->kind == K_ADDRESS && b->kind == K_NUMBER) ||
                        (a->kind == K_NUMBER && b->kind == K_ADDRESS);
 
+    if (a->kind == K_FRAME || b->kind == K_FRAME)
+        return BAD_KINDS;
     if (op == OR && is_zero(a))
         *out = *b;
     else if (op == OR && is_zero(b))
@@ -779,9 +816,41 @@ static struct answer memory_operands(const struct insn *in, int word,
         return refuse(MAYBE_NULL, word, in->rs1);
     if (b->kind == K_START_OR_NULL)
         return refuse(MAYBE_NULL, word, in->rs2);
-    if (!(a->kind == K_ADDRESS && b->kind == K_NUMBER) &&
-        !(a->kind == K_NUMBER && b->kind == K_ADDRESS))
+    if (in->form == STORE && row->reg[in->rd].kind == K_FRAME)
         return refuse(BAD_KINDS, word, in->rs1);
+    if (!(a->kind == K_ADDRESS && b->kind == K_NUMBER) &&
+        !(a->kind == K_NUMBER && b->kind == K_ADDRESS) &&
+        !(a->kind == K_FRAME && is_single(b)) &&
+        !(is_single(a) && b->kind == K_FRAME))
+        return refuse(BAD_KINDS, word, in->rs1);
+    return accepted;
+}
+
+/* The scratch word at an offset of the frame, or -1. */
+static int scratch_at(int32_t offset)
+{
+    for (int k = 0; k < SCRATCH_WORDS; k++)
+        if (offset == FIRST_OFFSET + WORD_BYTES * k)
+            return k;
+    return -1;
+}
+
+/* An access at an offset of the frame. */
+static struct answer apply_scratch(const struct insn *in, int word,
+                                   int32_t offset, struct row *row)
+{
+    int k = scratch_at(offset);
+
+    if (k < 0)
+        return refuse(OUTSIDE_FIELD, word, in->rs1);
+    if (in->width != WORD_BYTES)
+        return refuse(WRONG_ELEMENT, word, in->rs1);
+    if (in->form == STORE)
+        row->scratch[k] = row->reg[in->rd];
+    else if (row->scratch[k].kind == K_UNSET)
+        return refuse(UNSET, word, SCRATCH + k);
+    else
+        write_register(row, in->rd, &row->scratch[k]);
     return accepted;
 }
 
@@ -794,6 +863,10 @@ static struct answer apply_memory(const struct policy *p, const struct insn *in,
 
     if (answer.number != ACCEPTED)
         return answer;
+    if (a->kind == K_FRAME)
+        return apply_scratch(in, word, b.lo, row);
+    if (b.kind == K_FRAME)
+        return apply_scratch(in, word, a->lo, row);
 
     int region = a->kind == K_ADDRESS ? a->region : b.region;
     int64_t lo = (int64_t)a->lo + b.lo;
@@ -1094,10 +1167,15 @@ static struct entry get_entry(const uint8_t *b)
                            .hi = (int32_t)get32(b + 8) };
 }
 
-static void get_row(const uint8_t *b, struct row *row)
+/* A row of so many bytes; without scratch words they are unset. */
+static void get_row(const uint8_t *b, size_t bytes, struct row *row)
 {
     for (int r = 0; r < REGISTERS; r++, b += ENTRY_BYTES)
         row->reg[r] = get_entry(b);
+    memset(row->scratch, 0, sizeof row->scratch);
+    if (bytes == ROW_BYTES)
+        for (int k = 0; k < SCRATCH_WORDS; k++, b += ENTRY_BYTES)
+            row->scratch[k] = get_entry(b);
     row->note = (struct note){ .kind = b[0], .reg = b[1], .zero = get16(b + 2),
                                .number = (int32_t)get32(b + 4) };
 }
@@ -1110,13 +1188,30 @@ static struct field get_field(const uint8_t *b)
                            .hi = (int32_t)get32(b + 12) };
 }
 
-/* Are size, mark, version, length and zeros of regions and fields right? */
-static bool frame_well_formed(const uint8_t *b, size_t size)
+/* The bytes of a row, by the bundle's version; 0 if there is none such. */
+static size_t row_bytes_of(const uint8_t *b)
 {
-    static const uint8_t head[] = { 'W', 'T', 'R', 0, 1 };
+    switch (get16(b + 3)) {
+    case 1:
+        return OLD_ROW_BYTES;
+    case 2:
+        return ROW_BYTES;
+    default:
+        return 0;
+    }
+}
 
-    if (size < HEAD_BYTES || size > MAX_BUNDLE ||
-        memcmp(b, head, sizeof head) != 0)
+/* Are size, mark, version, length and zeros of regions and fields right? */
+static bool bundle_well_formed(const uint8_t *b, size_t size)
+{
+    if (size < HEAD_BYTES || memcmp(b, "WTR", 3) != 0)
+        return false;
+
+    size_t row_bytes = row_bytes_of(b);
+
+    if (row_bytes == 0)
+        return false;
+    if (size > (row_bytes == ROW_BYTES ? MAX_BUNDLE : OLD_MAX_BUNDLE))
         return false;
 
     size_t regions = b[5], words = get16(b + 6), fields = 0;
@@ -1132,8 +1227,8 @@ static bool frame_well_formed(const uint8_t *b, size_t size)
 
     size_t fields_end = fields_at + fields * FIELD_BYTES;
 
-    if (size != fields_end + ROW_BYTES + ENTRY_BYTES +
-                words * (WORD_BYTES + ROW_BYTES))
+    if (size != fields_end + row_bytes + ENTRY_BYTES +
+                words * (WORD_BYTES + row_bytes))
         return false;
     for (size_t at = fields_at; at < fields_end; at += FIELD_BYTES)
         if (b[at + 3] != 0)
@@ -1175,9 +1270,10 @@ static struct answer answer_bundle(enum edition edition, const uint8_t *bundle,
 {
     const uint8_t *at = bundle + HEAD_BYTES;
 
-    if (!frame_well_formed(bundle, size))
+    if (!bundle_well_formed(bundle, size))
         return refuse(BAD_BUNDLE, 0, 0);
 
+    size_t row_bytes = row_bytes_of(bundle);
     int refusal = get_policy(&at, bundle[5], &c->policy);
 
     if (refusal != ACCEPTED)
@@ -1186,18 +1282,18 @@ static struct answer answer_bundle(enum edition edition, const uint8_t *bundle,
     if (c->words < 1 || c->words > MAX_WORDS)
         return refuse(BAD_INPUT, 0, 0);
 
-    get_row(at, &c->entry);
-    c->result = get_entry(at + ROW_BYTES);
-    if (row_fault(&c->policy, &c->entry) >= 0 ||
-        !entry_well_formed(&c->policy, &c->result))
+    get_row(at, row_bytes, &c->entry);
+    c->result = get_entry(at + row_bytes);
+    if (!entry_row_well_formed(&c->policy, &c->entry) ||
+        !entry_well_formed(&c->policy, RESULT_REGISTER, &c->result))
         return refuse(BAD_INPUT, 0, 0);
 
-    at += ROW_BYTES + ENTRY_BYTES;
+    at += row_bytes + ENTRY_BYTES;
     for (int w = 0; w < c->words; w++, at += WORD_BYTES)
         c->insn[w] = decode(edition, get32(at));
     find_targets(c);
-    for (int w = 0; w < c->words; w++, at += ROW_BYTES) {
-        get_row(at, &c->row[w]);
+    for (int w = 0; w < c->words; w++, at += row_bytes) {
+        get_row(at, row_bytes, &c->row[w]);
 
         int reg = row_fault(&c->policy, &c->row[w]);
 

@@ -173,8 +173,9 @@ static void list(const struct code *c, struct listing *l)
     l->code = c;
     for (int r = 0; r < REGISTERS; r++) {
         uint8_t kind = c->entry.reg[r].kind;
+        bool marked = kind != K_UNSET && kind != K_FRAME;
 
-        first[r] = kind == K_UNSET ? NOT_SET : kind;
+        first[r] = marked ? kind : NOT_SET;
     }
     send(l, first, 0);
     while (l->queue.count > 0)
@@ -186,7 +187,7 @@ static void list(const struct code *c, struct listing *l)
 enum {
     RECORD_WORDS = 26,      /* numbers before the words */
     MOST_NUMBERS = 1024,
-    MOST_ENTRY = 512,
+    MOST_ENTRY = 1024,
     MOST_TABLE = 8192,
     UNTOUCHED = 0xAA
 };
@@ -243,8 +244,8 @@ static struct answer list_record(struct record *record, struct code *c)
     if (n[WORD_COUNT] < 1 || n[WORD_COUNT] > MAX_WORDS ||
         n[ENTRY_LENGTH] != ROW_BYTES || n[TABLE_LENGTH] != TABLE_MARKS)
         return refuse(BAD_INPUT, 0, 0);
-    get_row(record->entry, &c->entry);
-    if (row_fault(&c->policy, &c->entry) >= 0)
+    get_row(record->entry, ROW_BYTES, &c->entry);
+    if (!entry_row_well_formed(&c->policy, &c->entry))
         return refuse(BAD_INPUT, 0, 0);
 
     c->words = (int)n[WORD_COUNT];

@@ -1,10 +1,10 @@
-/* A plain interpreter of document 01's machine run, in C and not verified: the measure of how fast
-   the proved machine is. It does the tests of every step (words, marks, alignment, fields), and
-   leaves out those that come once before a run (20, 21, 22).
+/* A plain interpreter of the machine run of document 01 with request 7 of document 02, in C and not
+   verified: the measure of how fast the proved machine is. It does the tests of every step (words, marks,
+   alignment, fields, the frame), and leaves out those that come once before a run (20, 21, 22).
 
    machine ROUTINE ALLOWANCE: runs a loop that does not end, 0 of arithmetic, 1 with a load and a store
-   too, or 2, 3 and 4 of loads from the first, the eighth and the last of 16 fields, and prints how it
-   ended, the steps and a register. */
+   too, 2, 3 and 4 of loads from the first, the eighth and the last of 16 fields, or 5 with a load and a
+   store of a scratch word, and prints how it ended, the steps and a register. */
 #include <stdbool.h>
 #include <stdint.h>
 #include <stdio.h>
@@ -16,11 +16,15 @@ struct field { uint8_t element, permission; uint16_t offset, count; };
 struct region { uint16_t size; uint8_t fields; struct field field[16]; };
 struct policy { uint8_t regions; struct region region[8]; };
 
+/* The frame has 120 bytes, and the last six words of it are the routine's. */
+enum { FRAME = 120, FIRST_SCRATCH = 96, SCRATCH_WORDS = 6 };
+
 struct machine {
     const struct policy *policy;
     const uint32_t *words, *bases;
-    uint32_t count, returns;
-    uint8_t *memory;
+    uint32_t count, returns, frame;
+    uint8_t *memory, *framed; /* the regions' parts, and after them that of the frame */
+    bool scratch[SCRATCH_WORDS];
     uint32_t value[32];
     bool set[32];
     bool n, z, v, c, coded;
@@ -186,6 +190,21 @@ static void store(uint32_t width, uint8_t *b, uint32_t value) {
     for (uint32_t k = 0; k < width; k++) b[k] = value >> 8 * (width - 1 - k);
 }
 
+/* An access of the frame: LD and ST of a scratch word, of one that is set for LD, and nothing else. */
+static int access_frame(struct machine *m, uint32_t op3, uint32_t rd, uint32_t offset) {
+    uint32_t k = (offset - FIRST_SCRATCH) / 4;
+    if (offset < FIRST_SCRATCH || (op3 != 0x00 && op3 != 0x04)) return NO_FIELD;
+    if (op3 == 0x04) {
+        store(4, m->framed + offset, m->value[rd]);
+        m->scratch[k] = true;
+    } else if (!m->scratch[k]) {
+        return UNSET;
+    } else {
+        write_register(m, rd, load(op3, m->framed + offset));
+    }
+    return advance(m);
+}
+
 static int access_memory(struct machine *m, uint32_t w) {
     uint32_t op3 = w >> 19 & 63, rs1 = w >> 14 & 31, rd = w >> 25 & 31, y, width;
     switch (op3) {
@@ -199,6 +218,7 @@ static int access_memory(struct machine *m, uint32_t w) {
     if (!m->set[rs1] || !operand(m, w, &y) || (stores && !m->set[rd])) return UNSET;
     uint32_t address = m->value[rs1] + y;
     if (address % width) return UNALIGNED;
+    if (address - m->frame < FRAME) return access_frame(m, op3, rd, address - m->frame);
     uint8_t *bytes = located(m, op3, address, width);
     if (!bytes) return NO_FIELD;
     if (stores)
@@ -226,6 +246,7 @@ static int step(struct machine *m) {
 static int run(struct machine *m, uint64_t allowance, uint64_t *steps) {
     m->value[0] = 0;
     m->set[0] = true;
+    for (int k = 0; k < SCRATCH_WORDS; k++) m->scratch[k] = false;
     for (*steps = 0; *steps < allowance;) {
         int went = step(m);
         if (went >= NO_WORD) return went;
@@ -235,7 +256,7 @@ static int run(struct machine *m, uint64_t allowance, uint64_t *steps) {
     return SPENT;
 }
 
-/* r8: the region's start, r9: a counter, r10, r11 and r12: what the loop computes. */
+/* r8: the region's start, r14: the frame address, r9: a counter, r10, r11 and r12: what the loop computes. */
 static const uint32_t ARITHMETIC[] = {
     0x94028009, /* add %o2,%o1,%o2 */
     0x972AA003, /* sll %o2,3,%o3 */
@@ -256,6 +277,16 @@ static const uint32_t MEMORY[] = {
     0x10BFFFFA, /* ba .-24 */
     0x01000000, /* nop */
 };
+static const uint32_t SPILLING[] = {
+    0xD423A060, /* st %o2,[%sp+96] */
+    0x94028009, /* add %o2,%o1,%o2 */
+    0xD603A060, /* ld [%sp+96],%o3 */
+    0x92A26001, /* subcc %o1,1,%o1 */
+    0x12BFFFFC, /* bne .-16 */
+    0x98032001, /* add %o4,1,%o4 */
+    0x10BFFFFA, /* ba .-24 */
+    0x01000000, /* nop */
+};
 
 /* Loads of the word at an offset of the region, and a branch back to the first of them, its slot a load
    too. */
@@ -269,16 +300,19 @@ int main(int argc, char **argv) {
     int routine = atoi(argv[1]);
     struct policy policy = {1, {{64, 1, {{5, 3, 8, 14}}}}};
     uint32_t bases[] = {4096}, words[8];
-    uint8_t memory[64] = {0};
-    if (routine >= 2) {
+    uint8_t memory[64 + FRAME] = {0};
+    if (routine >= 2 && routine <= 4) {
         policy.region[0].fields = 16;
         for (int k = 0; k < 16; k++) policy.region[0].field[k] = (struct field){5, 3, 4 * k, 1};
         loads(words, routine == 2 ? 0 : routine == 3 ? 28 : 60);
     }
-    struct machine m = {.policy = &policy, .words = routine == 0 ? ARITHMETIC : routine == 1 ? MEMORY : words, .bases = bases,
-                        .count = 8, .returns = 65536, .memory = memory};
+    struct machine m = {.policy = &policy,
+                        .words = routine == 0 ? ARITHMETIC : routine == 1 ? MEMORY : routine == 5 ? SPILLING : words,
+                        .bases = bases, .count = 8, .returns = 65536, .frame = 8192, .memory = memory, .framed = memory + 64};
     for (int r = 8; r < 13; r++) m.set[r] = true;
     m.value[8] = 4096;
+    m.value[14] = m.frame;
+    m.set[14] = true;
     uint64_t steps;
     int end = run(&m, strtoull(argv[2], NULL, 10), &steps);
     printf("end %d, %llu steps, r10 %08x\n", end, (unsigned long long)steps, m.value[10]);
