@@ -1260,7 +1260,6 @@ USES = [
     ("a frame's address with a step", axles({}, {(5, SP): (5, 0, 1, 0, 0)}), "1 5 14", ["row 5, r14: bytes 05", "of the bundle breaks a rule above"]),
     ("an entry row that has one", axles(entry={34: layout.ZERO}), "21 0 0", ["entry row, [%sp+100]: bytes 01", "is set: all six scratch words are unset at the start"]),
     ("the frame's address as the result", axles(result=FRAME), "21 0 0", ["result entry: bytes 05", "has kind 5, the frame's address, which stands in r14 alone"]),
-    ("the frame's address handed on as the return address", axles({}, {(46, 15): layout.NOTHING}), "4 46 15", ["wrong: r15 is unset"]),
     ("a bundle too long by its version", made_in(1) + bytes(53180), "23 0 0", ["wrong: it has ", "and a bundle of version 1 has at most 53,180"]),
     ("a bundle too long", read(EXAMPLES, "axles", "bundle.bin") + bytes(62468), "23 0 0", ["and a bundle has at most 62,468"]),
     ("version 3", made_in(2).replace(b"WTR\0\2", b"WTR\0\3"), "23 0 0", ["they do not begin with the mark WTR and version 1 or 2"]),
