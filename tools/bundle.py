@@ -4,8 +4,10 @@
     tools/bundle.py FOLDER               reads FOLDER/routine.s, policy.txt and rows.txt, writes FOLDER/bundle.bin
     tools/bundle.py --list FOLDER        prints each word of FOLDER/bundle.bin with its disassembly and its row
     tools/bundle.py --edition 9 ..       for the newer terminal, which follows SPARC Version 9; 8 is the older one
+    tools/bundle.py --version 1 FOLDER   writes a bundle of version 1, whose rows have no scratch words; 2 has them
 
-Without --edition it is the one in FOLDER/edition, a line with 8 or 9; without that file, 8.
+Without --edition it is the one in FOLDER/edition, a line with 8 or 9; without that file, 8. Without --version it is the one in
+FOLDER/version, a line with 1 or 2; without that file, 2.
 
 To make a bundle needs GNU as for SPARC (Debian: binutils-sparc64-linux-gnu); to list one, its objdump for
 the disassembly, which is left out otherwise. It writes down what the files say and does not check it: to
@@ -32,15 +34,19 @@ rows.txt
     WORD: ROW           one line for each word, ascending
   WORD         its number, from 0 on; a label of routine.s; LABEL+N, so many words after it; or +1, the word
                after that of the row above
-  ROW          parts with commas between; registers that are not named are unset, r0 is 0, the note is none
+  ROW          parts with commas between; registers and scratch words that are not named are unset, r0 is 0, the note is
+               none
     as entry, as before, as WORD  first part: begin with the entry row, the row above, a word's row (above);
                                   not with a `slot`
-    REGISTER = ENTRY              r0 to r31, or %g0 to %i7
+    REGISTER = ENTRY              r0 to r31, or %g0 to %i7; %sp is r14
+    SCRATCH = ENTRY               a scratch word, spelled as in routine.s: [%sp+96], [%sp+100], [%sp+104], [%sp+108], [%sp+112]
+                                  or [%sp+116]; not in the entry row, where all six are unset, nor in a bundle of version 1
     note none, note set           condition codes not set; set
     note compared REGISTER N      set by comparing that register's present value with the number N
     slot                          alone: a row for a delay slot, which is not read; all unset; not for a slot
                                   that a branch lands on, whose row is read
-  ENTRY        unset; return; any number; SET; REGION+SET; REGION (that is REGION+0); REGION or null
+  ENTRY        unset; return; any number; SET; REGION+SET; REGION (that is REGION+0); REGION or null; frame, the address of the
+               frame, in r14 alone
   SET          N; LO..HI (step 1); LO..HI step S
 """
 import os
@@ -51,16 +57,18 @@ sys.dont_write_bytecode = True
 import assembly
 import layout
 import script
-from layout import (ADDRESS, ELEMENTS, FULL, NO_NOTE, NOTE_COMPARED, NOTE_NONE, NOTE_SET, NOTHING, NUMBER, OR_NULL,
-                    PERMISSIONS, RETURN, RETURN_ADDRESS, SINGLE_STEP, TO_START, TO_START_OR_NULL, UNSET)
+from layout import (ADDRESS, ELEMENTS, FRAME, FRAME_ADDRESS, FULL, NO_NOTE, NOTE_COMPARED, NOTE_NONE, NOTE_SET, NOTHING, NUMBER,
+                    OR_NULL, PERMISSIONS, RETURN, RETURN_ADDRESS, SINGLE_STEP, TO_START, TO_START_OR_NULL, UNSET)
 from script import Problem
 
 REGISTERS = ["%" + bank + str(k) for bank in "goli" for k in range(layout.REGISTERS // 4)]
-RESERVED = {"unset", "return", "any", "or", "null", "entry", "result"}
+POINTERS = ("%sp", "%o6", f"r{layout.POINTER}")
+RESERVED = {"unset", "return", "frame", "any", "or", "null", "entry", "result"}
 NUM = r"-?(?:0x[0-9a-fA-F]+|[0-9]+)"
 SET = re.compile(rf"({NUM})(?:\.\.({NUM}))?(?: step ([0-9]+))?")
 FIELD = re.compile(rf"field ([\w-]+) at ({NUM}): ({NUM}) ([^,]+), ([^,]+?)(?:, ({NUM}) to ({NUM}))?")
 WORD = re.compile(r"([0-9]+)|\+([0-9]+)|([^\W\d][\w.$]*|[.$][\w.$]*)(?: ?\+ ?([0-9]+))?")
+SCRATCH = re.compile(r"\[ ?(%\w+|r[0-9]+) ?\+ ?([0-9]+|0x[0-9a-fA-F]+) ?\]")
 SLOT = layout.row({})
 MOST_LISTED = 128  # words of a routine that lacks rows; more are not accepted
 
@@ -180,14 +188,15 @@ def unnamed(regions):
     return [(size, [field[1:] for field in fields]) for _, size, fields in regions]
 
 
-# Rows: a row is (list of 32 entries, note); an entry is (kind, region, step, lo, hi); a note (kind, register, number)
+# Rows: a row is (list of 38 entries, note); an entry is (kind, region, step, lo, hi); a note (kind, register, number). The entries
+# are those of the registers and then of the scratch words; an entry's place is its place in the list.
 
 class Rows:
     """The entry row and result entry by their names, and the rows by their words, as far as they are read. It knows the
-    names of the regions, the word of each label, how many words there are and which branches land on slots."""
+    names of the regions, the word of each label, how many words there are, which branches land on slots and the bundle's version."""
 
-    def __init__(self, names, labels, count, landings={}):
-        self.names, self.labels, self.count, self.landings = names, labels, count, landings
+    def __init__(self, names, labels, count, landings={}, version=layout.VERSION):
+        self.names, self.labels, self.count, self.landings, self.version = names, labels, count, landings, version
         self.named, self.rows = {}, {}
 
     def add(self, text):
@@ -198,9 +207,9 @@ class Rows:
         if key in self.named:
             raise Problem(f"a second line `{key}:`")
         if key == "result":
-            self.named[key] = entry_of(rest, self.names)
+            self.named[key] = held_in(None, entry_of(rest, self.names))
         elif key == "entry":
-            self.named[key] = self.row_of(rest)
+            self.named[key] = with_nothing_kept(self.row_of(rest))
         else:
             word = self.next_word(key)
             row = self.row_of(rest)
@@ -251,12 +260,14 @@ class Rows:
                 continue
             what, value = part_of(part, self.names)
             if what in seen:
-                raise Problem(f"{what if what == 'note' else f'r{what}'} is given twice")
+                raise Problem(f"{what if what == 'note' else place_text(what)} is given twice")
             seen.add(what)
             if what == "note":
                 note = value
+            elif self.version == layout.BEFORE_SCRATCH and what >= layout.REGISTERS:
+                raise Problem(f"{place_text(what)} is given, and a bundle of version {self.version} has no scratch words")
             else:
-                entries[what] = value
+                entries[what] = held_in(what, value)
         return entries, note
 
     def copied(self, source):
@@ -274,23 +285,47 @@ class Rows:
 
 
 def part_of(text, names):
-    """The register, or `note`, that a part of a row is about, and the entry or note."""
+    """The place of the entry, or `note`, that a part of a row is about, and the entry or note."""
     if text.startswith("note "):
         return "note", note_of(text[5:])
-    register, equals, entry = (part.strip() for part in text.partition("="))
+    place, equals, entry = (part.strip() for part in text.partition("="))
     if not equals:
         raise Problem("`slot` stands alone in its row" if text == "slot" else "`as ..` stands first in its row"
-                      if text.startswith("as ") else f"expected `REGISTER = ENTRY` or `note ..`, not `{text}`")
-    return register_of(register), entry_of(entry, names)
+                      if text.startswith("as ") else f"expected `REGISTER = ENTRY`, `[%sp+N] = ENTRY` or `note ..`, not `{text}`")
+    return scratch_of(place) if place.startswith("[") else register_of(place), entry_of(entry, names)
 
 
 def register_of(text):
     if text in REGISTERS:
         return REGISTERS.index(text)
     match = re.fullmatch(r"r([0-9]|[12][0-9]|3[01])", text)
-    if not match:
+    if not match and text not in POINTERS:
         raise Problem(f"a register is r0 to r31, or %g0 to %i7; not `{text}`")
-    return int(match[1])
+    return int(match[1]) if match else layout.POINTER
+
+
+def scratch_of(text):
+    """The place of the scratch word that a text spells."""
+    match = SCRATCH.fullmatch(text)
+    offset = int(match[2], 0) if match and match[1] in POINTERS and not re.fullmatch("0[0-9]+", match[2]) else None
+    if offset not in layout.SCRATCH_OFFSETS:
+        raise Problem(f"a scratch word is one of {', '.join(map(scratch_text, layout.SCRATCH_OFFSETS))}; not `{text}`")
+    return layout.REGISTERS + layout.SCRATCH_OFFSETS.index(offset)
+
+
+def held_in(place, entry):
+    """An entry that may stand in this place, or, without one, in the result."""
+    if entry == FRAME_ADDRESS and place != layout.POINTER:
+        raise Problem("`frame`, the address of the frame, stands in r14 (%sp) alone")
+    return entry
+
+
+def with_nothing_kept(row):
+    """A row that may be the entry row."""
+    kept = [place for place in range(layout.REGISTERS, layout.ENTRIES) if row[0][place] != NOTHING]
+    if kept:
+        raise Problem(f"{place_text(kept[0])} is given in the entry row: all six scratch words are unset at the start")
+    return row
 
 
 def note_of(text):
@@ -303,7 +338,7 @@ def note_of(text):
 
 
 def entry_of(text, names):
-    plain = {"unset": NOTHING, "return": RETURN_ADDRESS, "any number": FULL}
+    plain = {"unset": NOTHING, "return": RETURN_ADDRESS, "frame": FRAME_ADDRESS, "any number": FULL}
     if text in plain:
         return plain[text]
     if SET.fullmatch(text):
@@ -312,7 +347,7 @@ def entry_of(text, names):
         return OR_NULL, index_of(text[:-len(" or null")], names), 0, 0, 0
     region, plus, offsets = (part.strip() for part in text.partition("+"))
     if not re.fullmatch(r"[A-Za-z][\w-]*", region):
-        raise Problem(f"an entry is unset, return, any number, SET, REGION+SET or REGION or null; not `{text}`")
+        raise Problem(f"an entry is unset, return, any number, SET, REGION+SET, REGION or null, or frame; not `{text}`")
     return (ADDRESS, index_of(region, names)) + set_of(offsets if plus else "0")
 
 
@@ -327,9 +362,9 @@ def set_of(text):
     return step, lo, hi
 
 
-def read_rows(path, names, labels, words, edition):
+def read_rows(path, names, labels, words, edition, version):
     """Entry row, result entry, rows."""
-    rows, name = Rows(names, labels, len(words), assembly.landings(words, edition)), os.path.basename(path)
+    rows, name = Rows(names, labels, len(words), assembly.landings(words, edition), version), os.path.basename(path)
     for first, last, text in lines_of(path):
         at_lines(path, first, last, rows.add, text)
     for key in ("entry", "result"):
@@ -356,23 +391,23 @@ def word_lines(words, labels, lacking, edition):
 
 # Bundle
 
-def bundle_of(folder, edition):
+def bundle_of(folder, edition, version):
     """The bundle of a folder's three files."""
     regions = read_policy(os.path.join(folder, "policy.txt"))
     words, labels = assembly.assemble(folder, edition)
     if len(words) > layout.ROOM_WORDS:
         raise Problem(f"routine.s has {len(words)} words: a bundle has room for {layout.ROOM_WORDS}")
     names = [name for name, _, _ in regions]
-    entry, result, rows = read_rows(os.path.join(folder, "rows.txt"), names, labels, words, edition)
-    return layout.bundle_bytes(unnamed(regions), entry, result, words, rows)
+    entry, result, rows = read_rows(os.path.join(folder, "rows.txt"), names, labels, words, edition, version)
+    return layout.bundle_bytes(unnamed(regions), entry, result, words, rows, version)
 
 
-def make(folder, edition):
+def make(folder, edition, told=None):
     """Writes a folder's bundle. The one of before is gone first, so that it is never taken for the new one."""
     path = os.path.join(folder, "bundle.bin")
     if os.path.lexists(path):
         os.remove(path)
-    data = bundle_of(folder, edition)
+    data = bundle_of(folder, edition, version_of(folder, told))
     try:
         with open(path + ".new", "wb") as file:
             file.write(data)
@@ -384,12 +419,37 @@ def make(folder, edition):
 
 
 def read_bundle(path):
-    """A bundle's policy, entry row, result entry, words and rows."""
+    """A bundle's version, and its policy, entry row, result entry, words and rows."""
     data = script.read_bytes(path)
     try:
-        return layout.open_bundle(data)
+        return layout.version_of(data), layout.open_bundle(data)
     except Problem as problem:
         raise Problem(f"{os.path.basename(path)} is {problem}") from None
+
+
+# The version
+
+def taken_version(arguments):
+    """The version that `--version 1` or `--version 2` tells, None without it, and the other arguments."""
+    if "--version" not in arguments:
+        return None, arguments
+    at = arguments.index("--version")
+    return version_named(arguments[at + 1:at + 2], "--version"), arguments[:at] + arguments[at + 2:]
+
+
+def version_named(words, what):
+    for version in layout.ROW_SIZES:
+        if words == [str(version)]:
+            return version
+    raise Problem(f"{what} is {layout.VERSION}, with scratch words in its rows, or {layout.BEFORE_SCRATCH}, without")
+
+
+def version_of(folder, told=None):
+    """The version that was told; if none was, that of the file `version` in a folder, or the one that is written otherwise."""
+    file = os.path.join(folder, "version")
+    if told is None and os.path.lexists(file):
+        return version_named(" ".join(script.read_lines(file)).split(), "the line of the file version")
+    return told or layout.VERSION
 
 
 def names_of(folder, policy):
@@ -406,6 +466,15 @@ def names_of(folder, policy):
 
 # Text of entries and rows, as in rows.txt
 
+def scratch_text(offset):
+    return f"[%sp+{offset}]"
+
+
+def place_text(place):
+    """A register, or a scratch word, by the place of its entry in a row."""
+    return f"r{place}" if place < layout.REGISTERS else scratch_text(layout.SCRATCH_OFFSETS[place - layout.REGISTERS])
+
+
 def set_text(step, lo, hi):
     return str(lo) if lo == hi else f"{lo}..{hi}" if step == 1 else f"{lo}..{hi} step {step}"
 
@@ -417,7 +486,7 @@ def entry_text(entry, names):
         return "any number" if entry == FULL else set_text(step, lo, hi)
     if kind == ADDRESS:
         return f"{name}+{set_text(step, lo, hi)}"
-    return {UNSET: "unset", OR_NULL: f"{name} or null", RETURN: "return"}.get(kind, f"kind {kind}")
+    return {UNSET: "unset", OR_NULL: f"{name} or null", RETURN: "return", FRAME: "frame"}.get(kind, f"kind {kind}")
 
 
 def note_text(note):
@@ -426,16 +495,18 @@ def note_text(note):
 
 
 def row_text(row, names):
-    """The row's set registers but r0, and its note if there is one."""
+    """The row's set registers but r0, its set scratch words, and its note if there is one."""
     entries, note = row
-    parts = [f"r{k} = {entry_text(entry, names)}" for k, entry in enumerate(entries) if k and entry != NOTHING]
+    parts = [f"{place_text(k)} = {entry_text(entry, names)}" for k, entry in enumerate(entries) if k and entry != NOTHING]
     return ", ".join(parts + ([note_text(note)] if note != NO_NOTE else [])) or "all unset"
 
 
 def listing(folder, edition):
-    policy, entry, result, words, rows = read_bundle(os.path.join(folder, "bundle.bin"))
+    version, (policy, entry, result, words, rows) = read_bundle(os.path.join(folder, "bundle.bin"))
     named, lines = names_of(folder, policy)
     names = [name for name, _ in named]
+    if version == layout.BEFORE_SCRATCH:
+        lines.append(f"(a bundle of version {version}: its rows have no scratch words)")
     lines += [f"entry: {row_text(entry, names)}", f"result: {entry_text(result, names)}"]
     texts = assembly.disassemble(words, edition)
     if texts is None:
@@ -448,9 +519,10 @@ def listing(folder, edition):
 
 def main(arguments):
     told, others = script.taken_edition(arguments)
+    version, others = taken_version(others)
     listed = others[:1] == ["--list"]
     folders = others[1:] if listed else others
-    if len(folders) != 1 or folders[0].startswith("-"):
+    if len(folders) != 1 or folders[0].startswith("-") or listed and version:
         raise Problem("call it as `bundle.py FOLDER` or `bundle.py --list FOLDER`; `bundle.py --help` says more")
     if not os.path.isdir(folders[0]):
         raise Problem(f"{folders[0]} is no folder")
@@ -458,7 +530,7 @@ def main(arguments):
     if listed:
         print(listing(folders[0], edition))
     else:
-        make(folders[0], edition)
+        make(folders[0], edition, version)
 
 
 if __name__ == "__main__":

@@ -8,10 +8,10 @@
 Without --edition it is the one in FOLDER/edition, a line with 8 or 9; without that file, 8.
 
 Prints the answer, the entry of its number in docs/CARD.md, and then what in the bundle it is about: the word (disassembled
-by GNU binutils for SPARC, if that is here), its operands, the region's fields and the bytes reached; for 12 and 14 the way,
-what was narrowed on it or why nothing was, what the word and its slot make of the register and what it does not fit; for 1
-and 18 to 23 the bytes that are badly formed. A slot is shown with the row that its branch or return hands on; or with its own,
-if a branch lands on it and it is refused with that.
+by GNU binutils for SPARC, if that is here), its operands, the region's fields, or the frame's scratch words, and the bytes
+reached; for 12 and 14 the way, what was narrowed on it or why nothing was, what the word and its slot make of the register or
+scratch word and what it does not fit; for 1 and 18 to 23 the bytes that are badly formed. A slot is shown with the row that its
+branch or return hands on; or with its own, if a branch lands on it and it is refused with that.
 
 All this is found by the program `explain` (target/bin/explain, made by `rt check explain`) or, for edition 9, `explain9`, which
 calls the functions of the check; this script has the names and the words.
@@ -34,8 +34,8 @@ ROOT = os.path.join(os.path.dirname(os.path.abspath(__file__)), "..")
 CARD = os.path.join(ROOT, "docs", "CARD.md")
 PROGRAMS = os.path.join(ROOT, "target", "bin")
 SECONDS = 60  # for the program to end
-NOTE = 32  # the register that stands for the note
-KINDS = ["an unset entry", "a number", "an address", "an address that may be null", "the return address"]
+NOTE = layout.NOTE_NAMED  # the register that stands for the note
+KINDS = ["an unset entry", "a number", "an address", "an address that may be null", "the return address", "the frame's address"]
 ELEMENTS = {number: name for name, (number, _, _) in layout.ELEMENTS.items()}
 PERMISSIONS = {number: name for name, number in layout.PERMISSIONS.items()}
 WIDTHS = {1: 1, 2: 1, 3: 2, 4: 2, 5: 4, 6: 4, 7: 4}
@@ -52,7 +52,7 @@ TESTS = ["", "the element is none of 1 to 7", "the permission is none of 1 to 3"
 
 # What the program says: the answer, items by name (the values of each), and rows by the item that begins them; and the edition.
 Said = namedtuple("Said", "answer items rows edition")
-# A row that is said: entries by register, and the note.
+# A row that is said: entries by the numbers that answers have for them (0 to 31 registers, 33 to 38 scratch words), and the note.
 Row = namedtuple("Row", "entries note")
 
 
@@ -132,10 +132,20 @@ def entry_text(names, entry):
     return bundle.entry_text(tuple(entry), [name for name, _ in names])
 
 
+def is_scratch(register):
+    """Whether a register that an answer names stands for a scratch word."""
+    return register > NOTE
+
+
+def register_name(register):
+    """A register, or the scratch word that it stands for."""
+    return bundle.place_text(layout.NAMED.index(register))
+
+
 def held_text(names, row, register):
     if register == NOTE:
         return bundle.note_text(row.note)
-    return f"r{register} = {entry_text(names, row.entries.get(register, layout.NOTHING))}"
+    return f"{register_name(register)} = {entry_text(names, row.entries.get(register, layout.NOTHING))}"
 
 
 def unfit_text(names, a, b):
@@ -271,6 +281,65 @@ def reached_field(said):
     return next((field for field in said.items.get("field", []) if field[4] <= lo < field_end(field)), None)
 
 
+# The frame
+
+def is_frame(entry):
+    return entry[1] == layout.FRAME
+
+
+def uses_frame(said):
+    """Whether the frame's address is an operand of the word, or stored by it."""
+    read = ["first", "second"] + (["stored"] if "store" in said.items else [])
+    return any(is_frame(first(said, name)) for name in read if name in said.items)
+
+
+def frame_offsets(said):
+    """The entry that is added to the frame's address."""
+    one, other = first(said, "first"), first(said, "second")
+    return (other if is_frame(one) else one)[1:]
+
+
+def width_of(said):
+    """The width of a load or store."""
+    name = instruction_name(said)
+    return 1 if name.endswith("b") else 2 if name.endswith("h") else 4
+
+
+def scratch_lines(names, said):
+    """What the scratch words hold in the row that the word is looked at with."""
+    row = said.rows["handed" if "handed" in said.rows else "row"]
+    held = [held_text(names, row, register) for register in layout.NAMED if is_scratch(register) and register in row.entries]
+    return ["scratch words: " + ("; ".join(held) + "; the others are unset" if held else "all unset")]
+
+
+def frame_lines(said):
+    """The bytes of the frame that are reached."""
+    offset, width = frame_offsets(said)[3], width_of(said)
+    return [f"reached in the frame ({layout.FRAME_SIZE} bytes): offset {offset}, width {width}, so {bytes_text(offset, offset + width - 1)}"]
+
+
+def offsets_text():
+    return f"{', '.join(map(str, layout.SCRATCH_OFFSETS[:-1]))} or {layout.SCRATCH_OFFSETS[-1]}"
+
+
+def frame_reason(names, said):
+    """Why a use of the frame is refused with 6, 7 or 8."""
+    number, name = said.answer[0], instruction_name(said)
+    memory = "load" in said.items or "store" in said.items
+    if number == 6 and not memory:
+        return f"{name} takes the frame's address, which is there for ld and st of scratch words alone: it is not moved, added to or compared"
+    if number == 6 and "store" in said.items and is_frame(first(said, "stored")):
+        return "the frame's address is stored, and it is kept in r14 alone: neither a field nor a scratch word holds it"
+    offsets = frame_offsets(said)
+    if number == 6 and offsets[0] == layout.NUMBER:
+        return f"to the frame's address a single number is added, {offsets_text()}, and not {entry_text(names, offsets)}"
+    if number == 6:
+        return f"to the frame's address a single number is added, {offsets_text()}, and not {KINDS[offsets[0]]}"
+    if number == 7:
+        return f"a scratch word is at offset {offsets_text()} of the frame, not at {offsets[3]}; all else in the frame is the host's"
+    return f"{name} does not serve a scratch word: ld and st do"
+
+
 # What a refusal of one word is about
 
 def operand_lines(names, said):
@@ -317,9 +386,12 @@ def word_reason(names, said):
     """Why one word is refused with 4 to 11, 13 or 16."""
     number, _, register = said.answer
     if number == 4:
-        return "the condition codes are not set" if register == NOTE else f"r{register} is unset"
+        return ("the condition codes are not set" if register == NOTE else f"r{register} is unset" if not is_scratch(register) else
+                f"{register_name(register)} is loaded, and it is unset in this row")
     if number == 5:
         return f"r{register} may be null"
+    if number in (6, 7, 8) and uses_frame(said):
+        return frame_reason(names, said)
     if number not in (6, 16):
         return access_reason(names, said)
     if number == 16:
@@ -342,7 +414,10 @@ def word_lines(data, names, said):
     if "slot" in said.items:
         text = narrowing_text(data, names, said)
         lines = [f"with row {at} as word {at} hands it on ({edge_text(said)}):" + (" " + text if text else "")]
-    reached = region_lines(names, said) if said.answer[0] not in (4, 5, 6) else []
+    number, _, register = said.answer
+    reached = region_lines(names, said) if number not in (4, 5, 6) else scratch_lines(names, said) if is_scratch(register) else []
+    if number in (7, 8) and uses_frame(said):
+        reached = frame_lines(said)
     return lines + operand_lines(names, said) + reached + ["wrong: " + word_reason(names, said)]
 
 
@@ -364,7 +439,7 @@ def edge_lines(data, names, said):
         after = f"after the slot, word {word + 1}" if runs else f"after word {word}"
         lines.append(f"{after}: {held_text(names, said.rows['made'], register)}")
     asks = bundle.note_text(tuple(first(said, "asks-note"))) if register == NOTE else entry_text(names, first(said, "asks"))
-    asked = f"next row, {first(said, 'to')[0]}: " + ("" if register == NOTE else f"r{register} = ") if "to" in said.items else "result: "
+    asked = f"next row, {first(said, 'to')[0]}: " + ("" if register == NOTE else f"{register_name(register)} = ") if "to" in said.items else "result: "
     return lines + [asked + asks] + target_lines(said) + ["wrong: " + misfit_text(names, said)]
 
 
@@ -379,8 +454,9 @@ def start_lines(names, said):
     """15: the entry row and row 0."""
     register = said.answer[2]
     has, asks = ("has-note", "asks-note") if register == NOTE else ("has", "asks")
-    text = bundle.note_text if register == NOTE else lambda values: f"r{register} = " + entry_text(names, values)
-    return [f"entry row: {text(tuple(first(said, has)))}", f"row 0: {text(tuple(first(said, asks)))}", "wrong: " + misfit_text(names, said)]
+    text = bundle.note_text if register == NOTE else lambda values: f"{register_name(register)} = " + entry_text(names, values)
+    start = ": all six scratch words are unset at the start" if is_scratch(register) else ""
+    return [f"entry row: {text(tuple(first(said, has)))}", f"row 0: {text(tuple(first(said, asks)))}", "wrong: " + misfit_text(names, said) + start]
 
 
 def flow_reason(data, said):
@@ -420,7 +496,7 @@ def unread_reason(said):
 def writes_reason(said):
     """Why the register that a word would write is refused."""
     register = said.answer[2]
-    sort = "the stack pointer" if register == 14 else "a local register" if register < 24 else "an in register"
+    sort = "the stack pointer" if register == layout.POINTER else "a local register" if register < 24 else "an in register"
     return f"it would write r{register}, {bundle.REGISTERS[register]}, {sort}, which is the caller's: write one of %g1 to %g7 or %o0 to %o5"
 
 
@@ -435,13 +511,29 @@ def raw_text(raw):
 
 def place_lines(said, of):
     """The bytes of an entry or a note that are badly formed."""
-    place = first(said, "misfit")
-    name = "" if place is None else "note: " if place[0] == NOTE else f"r{place[0]}: "
-    return [f"{of}{name}{raw_text(bytes(first(said, 'bytes')))}",
-            f"wrong: the {'note' if place == [NOTE] else 'entry'} at byte {first(said, 'at')[0]} of the bundle breaks a rule above"]
+    place, raw = first(said, "misfit"), bytes(first(said, "bytes"))
+    name = "" if place is None else "note: " if place[0] == NOTE else f"{register_name(place[0])}: "
+    return [f"{of}{name}{raw_text(raw)}",
+            f"wrong: the {'note' if place == [NOTE] else 'entry'} at byte {first(said, 'at')[0]} of the bundle {place_reason(said, place, raw)}"]
 
 
-def form_lines(names, said):
+def place_reason(said, place, raw):
+    """What is wrong with an entry or a note."""
+    if place != [NOTE] and raw[0] == layout.FRAME and place != [layout.POINTER]:
+        return f"has kind {layout.FRAME}, the frame's address, which stands in r{layout.POINTER} alone"
+    if said.items.get("part") == "entry" and is_scratch(place[0]) and raw[0] != layout.UNSET:
+        return "is set: all six scratch words are unset at the start"
+    return "breaks a rule above"
+
+
+def most_text(data):
+    """How many bytes a bundle has at most."""
+    old = data[3:5] == bytes([0, layout.BEFORE_SCRATCH])
+    version = layout.BEFORE_SCRATCH if old else layout.VERSION
+    return f"a bundle{f' of version {version}' if old else ''} has at most {layout.MOST_BYTES[version]:,}"
+
+
+def form_lines(data, said):
     """1 and 18 to 23: where the bytes at fault stand."""
     number, word, _ = said.answer
     part, at = said.items.get("part"), first(said, "at")
@@ -454,7 +546,7 @@ def form_lines(names, said):
     if number == 23:
         length = first(said, "length")[0]
         if part in ("size", "head"):
-            why = "a bundle has at most 53,180" if part == "size" else "they do not begin with the mark WTR and version 1"
+            why = most_text(data) if part == "size" else "they do not begin with the mark WTR and version 1 or 2"
             return [f"wrong: it has {length} bytes, and {why}"]
         if "given" in said.items:
             return [f"wrong: it has {length} bytes, and its counts give {first(said, 'given')[0]}"]
@@ -476,7 +568,7 @@ def detail_lines(data, names, said):
     """What in the bundle the answer is about."""
     number, word, _ = said.answer
     if number == 1 or 18 <= number <= 23:
-        return form_lines(names, said)
+        return form_lines(data, said)
     lines = [word_text(data, said, word)]
     if number == 2:
         return lines + ["wrong: " + unread_reason(said)]

@@ -18,10 +18,11 @@ needs its objdump, and is left out otherwise. A BUNDLE has no labels.
 
 Each word is printed with the registers that are not unset: `%o0 address  %o1 number`; %g0, which is always the number 0, is
 left out. The kinds are number, address, address or null, and return. What a register holds on one way to the word and not on
-another, and all that a load of a word (ld) gives, is unset here; a row may say more. A word that no way leads to is not
-reached. A slot has the kinds of its branch or return, before that runs; a slot that a branch lands on has what is alike in
-these and on the ways into it. With --table the letters of %g0 to %g7, %o0 to %o7, %l0 to %l7 and %i0 to %i7 follow each
-other: `.` not reached, `n` number, `a` address, `z` address or null, `r` return, `-` unset.
+another, and all that a load of a word (ld) gives, is unset here; a row may say more. So is the address of the frame in %sp, and
+what is loaded from a scratch word; the scratch words themselves are not listed. A word that no way leads to is not reached. A
+slot has the kinds of its branch or return, before that runs; a slot that a branch lands on has what is alike in these and on
+the ways into it. With --table the letters of %g0 to %g7, %o0 to %o7, %l0 to %l7 and %i0 to %i7 follow each other: `.` not
+reached, `n` number, `a` address, `z` address or null, `r` return, `-` unset.
 
 A routine that cannot be listed (23, 18 to 21, 2, 24, 3 and 25, as in the check) is explained as by explain.py.
 
@@ -81,11 +82,12 @@ def without_rows(data):
         words = layout.open_bundle(data)[3]
     except Problem:
         return data
-    rows = len(data) - layout.ROW_SIZE * len(words)
+    version = layout.version_of(data)
+    rows = len(data) - layout.ROW_SIZES[version] * len(words)
     code = rows - layout.WORD.size * len(words)
     result = code - layout.ENTRY.size
     return (data[:result] + layout.entry_bytes(layout.NOTHING) + data[code:rows]
-            + layout.row_bytes(bundle.SLOT) * len(words))
+            + layout.row_bytes(bundle.SLOT, version) * len(words))
 
 
 # What the program says

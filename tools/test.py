@@ -5,7 +5,8 @@
 
 Holds bundle.py, explain.py and kinds.py against the examples, and tries on them what can be wrong with a file, a folder, the
 assembler, an answer or the place where they run: each must be said in a line with the file and the line, with status 1.
-Holds the words and the data of both terminals against what they must be.
+Holds the words and the data of both terminals against what they must be, and the examples and routines that use the frame
+against the answers of the plain checker too.
 Sees that each script says what it does when asked for help, and does nothing else.
 
 What needs GNU binutils for SPARC, gcc or a program (target/bin/answer, explain or kinds, and answer9, explain9 or kinds9) is left
@@ -300,13 +301,24 @@ def layout_is_one():
             ("a note", layout.row_bytes(layout.row({}, (2, 31, -2)))[-8:], "021f0000 fffffffe"),
             ("a row", layout.row_bytes(layout.row({1: (1, 0, 1, 2, 3)}))[:36],
              "01000800" + "0" * 16 + "010001000000000200000003" + "0" * 24),
+            ("the frame's address", layout.entry_bytes(layout.FRAME_ADDRESS), "05" + "0" * 22),
+            ("scratch words", layout.row_bytes(layout.row({31: (1, 0, 1, 2, 3), 33: (2, 7, 4, -2, 5), 38: (4, 0, 0, 0, 0)}, (1, 0, 0)))[372:],
+             "010001000000000200000003" "02070400fffffffe00000005" + "0" * 96 + "040000000000000000000000" "0100000000000000"),
             ("a head", layout.bundle_bytes([(0x102, [])], layout.row({}), layout.NOTHING, [], [])[:12],
-             "575452 0001 01 0000 0102 00 00")]:
+             "575452 0002 01 0000 0102 00 00"),
+            ("a head of version 1", layout.bundle_bytes([], layout.row({}), layout.NOTHING, [], [], 1)[:8], "575452 0001 00 0000")]:
         yield f"the bytes of {what}", made == bytes.fromhex(expected), made.hex()
+    for version, size in (1, 392), (2, 464):
+        yield f"the size of a row of version {version}", len(layout.row_bytes(layout.row({}), version)) == layout.ROW_SIZES[version] == size, ""
+    yield "no scratch word in a row of version 1", refused(layout.row_bytes, layout.row({33: layout.ZERO}), 1), ""
     yield "parts.py makes crates/answer/stdin", parts.return_then_nop() == read(ROOT, "crates", "answer", "stdin"), ""
     for name in NAMES:
         data = read(EXAMPLES, name, "bundle.bin")
-        yield f"{name} opened and written again", layout.bundle_bytes(*layout.open_bundle(data)) == data, ""
+        again = layout.bundle_bytes(*layout.open_bundle(data), layout.version_of(data))
+        yield f"{name} opened and written again", again == data, ""
+        yield f"{name} has its version", layout.version_of(data) == bundle.version_of(os.path.join(EXAMPLES, name)), ""
+    old = [name for name in NAMES if layout.version_of(read(EXAMPLES, name, "bundle.bin")) == 1]
+    yield "one example is of version 1", old == ["sum"], str(old)
     short = [length for length in range(len(data)) if not refused(layout.open_bundle, data[:length])]
     yield "no bundle cut short is opened", short == [], str(short)
     yield "no bundle too long is opened", refused(layout.open_bundle, data + b"\0"), ""
@@ -388,6 +400,22 @@ MISTAKES = [
     (ROWS, b"r8 = haulier", b"r8 = haulier+x", r"rows.txt, line 1: a set is N, LO..HI"),
     (ROWS, b"r8 = haulier", b"r8 = *", r"rows.txt, line 1: an entry is unset, return"),
     (ROWS, b"r8 = haulier", b"r8 haulier", r"rows.txt, line 1: expected `REGISTER = ENTRY`"),
+    (ROWS, b"r8 = haulier", b"[%sp+96] haulier", r"rows.txt, line 1: expected `REGISTER = ENTRY`, `\[%sp\+N\] = ENTRY`"),
+    (ROWS, b"r8 = haulier", b"[%sp+96] = haulier", r"rows.txt, line 1: \[%sp\+96\] is given in the entry row: all six scratch words are unset at the start"),
+    (ROWS, b"r8 = haulier", b"r8 = haulier, [%sp+96] = unset, [%sp+116] = 0", r"rows.txt, line 1: \[%sp\+116\] is given in the entry row"),
+    (ROWS, b"r8 = haulier", b"r8 = frame", r"rows.txt, line 1: `frame`, the address of the frame, stands in r14 \(%sp\) alone"),
+    (ROWS, b"result: 30", b"result: frame", r"rows.txt, line 2: `frame`, the address of the frame, stands in r14"),
+    (ROWS, b"1: as entry,", b"1: as entry, [%sp+96] = frame,", r"rows.txt, line \d+: `frame`, the address of the frame, stands in r14"),
+    (ROWS, b"1: as entry,", b"1: as entry, [%sp+92] = 0,", r"rows.txt, line \d+: a scratch word is one of \[%sp\+96\], .*, \[%sp\+116\]; not `\[%sp\+92\]`"),
+    (ROWS, b"1: as entry,", b"1: as entry, [%sp+98] = 0,", r"rows.txt, line \d+: a scratch word is one of "),
+    (ROWS, b"1: as entry,", b"1: as entry, [%sp+120] = 0,", r"rows.txt, line \d+: a scratch word is one of "),
+    (ROWS, b"1: as entry,", b"1: as entry, [%sp+096] = 0,", r"rows.txt, line \d+: a scratch word is one of "),
+    (ROWS, b"1: as entry,", b"1: as entry, [%sp] = 0,", r"rows.txt, line \d+: a scratch word is one of "),
+    (ROWS, b"1: as entry,", b"1: as entry, [%o5+96] = 0,", r"rows.txt, line \d+: a scratch word is one of "),
+    (ROWS, b"1: as entry,", b"1: as entry, [%sp+" + DIGITS[:400] + b"] = 0,", r"rows.txt, line \d+: a scratch word is one of "),
+    (ROWS, b"1: as entry,", b"1: as entry, [%sp+96] = 0, [%sp + 0x60] = 1,", r"rows.txt, line \d+: \[%sp\+96\] is given twice"),
+    (ROWS, b"1: as entry,", b"1: as entry, [%sp+96] = hauler,", r"rows.txt, line \d+: policy.txt has no region named `hauler`"),
+    (POLICY, b"region line", b"region frame", r"policy.txt, line 4: a region cannot be named `frame`"),
     (ROWS, b"r8 = haulier", b"r8 = haulier, %o0 = 1", r"rows.txt, line 1: r8 is given twice"),
     (ROWS, b"0..29", b"0..2147483648", r"rows.txt, line \d+: the highest member must be a number from"),
     (ROWS, b"0..29", b"-2147483649..29", r"rows.txt, line \d+: the lowest member must be a number from"),
@@ -555,7 +583,7 @@ AWAY = 0x30800003  # ba,a to the third word from here
 def noisy(data):
     """A bundle whose rows and result entry are badly formed."""
     count = len(layout.open_bundle(data)[3])
-    rows = len(data) - layout.ROW_SIZE * count
+    rows = len(data) - layout.ROW_SIZES[layout.version_of(data)] * count
     code = rows - layout.WORD.size * count
     return data[:code - layout.ENTRY.size] + b"\xff" * layout.ENTRY.size + data[code:rows] + b"\xff" * (len(data) - rows)
 
@@ -1103,6 +1131,253 @@ def registers_of_the_caller_in_the_data():
         yield f"crates/{name} has no later number where a word takes a register", late == [], repr(late)
 
 
+# Scratch words
+
+SP, FRAME = layout.POINTER, layout.FRAME_ADDRESS
+ENTRY_OF_AXLES = "entry: r8 = axles, r9 = tariff, r10 = ticket, r14 = frame, r15 = return"
+
+
+def rows_made(rows, *options):
+    """The entry row and the rows of the words of example `name`, with the texts and these rows, in a bundle."""
+    with routine() as folder, assembler_giving(OBJECT):
+        write(rows, folder, ROWS)
+        bundle.main([*options, folder])
+        data = read(folder, "bundle.bin")
+    _, entry, _, _, rows = layout.open_bundle(data)
+    return entry, rows
+
+
+@cases()
+def scratch_words_in_rows():
+    kept = {96: "0..29", 100: "haulier+0..29", 104: "line or null", 108: "return", 112: "any number", 116: "-1"}
+    for what, spelled in [("as in routine.s", "[%sp+{}]"), ("with spaces", "[ %sp + {} ]"), ("by %o6", "[%o6+{}]"), ("by r14", "[r14 + {}]"),
+                          ("in hexadecimal", "[%sp+{:#x}]")]:
+        parts_of_row = ", ".join(f"{spelled.format(offset)} = {entry}" for offset, entry in kept.items())
+        _, rows = rows_made(TEXTS[ROWS].replace(b"1: as entry,", f"1: as entry, {parts_of_row},".encode()))
+        shown = bundle.row_text(rows[1], ["haulier", "line"])
+        right = shown.endswith(", ".join(f"[%sp+{offset}] = {entry}" for offset, entry in kept.items()))
+        yield f"scratch words {what}", right and rows[1][0][32:] == [
+            (1, 0, 1, 0, 29), (2, 0, 1, 0, 29), (3, 1, 0, 0, 0), (4, 0, 0, 0, 0), layout.FULL, (1, 0, 8, -1, -1)], shown
+        yield f"scratch words {what}, in the rows below", rows[2][0][32:] == rows[1][0][32:] and rows[0][0][32:] == [layout.NOTHING] * 6, ""
+    for spelled in "r14", "%o6", "%sp":
+        entry, rows = rows_made(TEXTS[ROWS].replace(b"entry: ", f"entry: {spelled} = frame, ".encode()))
+        yield f"the frame's address in {spelled}", entry[0][SP] == rows[0][0][SP] == FRAME and "r14 = frame" in bundle.row_text(entry, []), ""
+    entry, _ = rows_made(TEXTS[ROWS].replace(b"entry: ", b"entry: [%sp+96] = unset, "))
+    yield "an unset scratch word in the entry row", entry[0][32:] == [layout.NOTHING] * 6, ""
+    with example("axles") as folder:
+        status, out, said = called("bundle.py", "--list", folder)
+        yield "bundle.py --list shows scratch words", ENTRY_OF_AXLES.replace("axles,", "axles+0,").replace("tariff,", "tariff+0,").replace(
+            "ticket,", "ticket+0,") in out and "r15 = return, [%sp+96] = ticket+0\n" in out, out + said
+
+
+@cases()
+def versions_of_bundles():
+    rows = TEXTS[ROWS]
+    with_scratch = rows.replace(b"1: as entry,", b"1: as entry, [%sp+96] = 0,")
+    for what, options, file, text, expected in [
+            ("nothing told", [], None, rows, 2), ("--version 1", ["--version", "1"], None, rows, 1), ("--version 2", ["--version", "2"], b"1\n", rows, 2),
+            ("a file version", [], b"1\n", rows, 1), ("a file version with 2", [], b"2\r\n", rows, 2), ("--version 2 and a scratch word", ["--version", "2"], None, with_scratch, 2),
+            ("--version 1 and a scratch word", ["--version", "1"], None, with_scratch,
+             "rows.txt, line 4: [%sp+96] is given, and a bundle of version 1 has no scratch words"),
+            ("--version 3", ["--version", "3"], None, rows, "--version is 2, with scratch words in its rows, or 1, without"),
+            ("--version alone", ["--version"], None, rows, "--version is 2"), ("an empty file version", [], b"", rows, "version is empty"),
+            ("a file version with v2", [], b"v2\n", rows, "the line of the file version is 2, with scratch words"),
+            ("--list and --version", ["--list", "--version", "1"], None, rows, "call it as `bundle.py FOLDER`")]:
+        with routine() as folder, assembler_giving(OBJECT):
+            write(text, folder, ROWS)
+            if file is not None:
+                write(file, folder, "version")
+            said = problem_of(*options, folder)
+            given = said or layout.version_of(read(folder, "bundle.bin"))
+        yield f"the version of a bundle: {what}", given == expected or said and said.startswith(str(expected)), str(given)
+    both = [made_in(version) for version in (1, 2)]
+    yield "both versions open alike", layout.open_bundle(both[0]) == layout.open_bundle(both[1]), ""
+    yield "72 bytes less a row in version 1", len(both[1]) - len(both[0]) == 72 * 10, ""
+    _, out, _ = called("bundle.py", "--list", os.path.join(EXAMPLES, "sum"))
+    yield "bundle.py --list says that a bundle is of version 1", out.startswith("(a bundle of version 1: its rows have no scratch words)\n"), out
+    for version, data in zip((1, 2), both):
+        less = kinds.without_rows(noisy(data))
+        policy, entry, result, words, rows = layout.open_bundle(less)
+        right = len(less) == len(data) and result == layout.NOTHING and rows == [bundle.SLOT] * 9 and (policy, entry, words) == (
+            *layout.open_bundle(data)[:2], WORDS)
+        yield f"a bundle of version {version} without its rows", right and layout.version_of(less) == version, ""
+
+
+def made_in(version):
+    """The bundle of example `name`, of a version."""
+    return layout.bundle_bytes(*layout.open_bundle(read(EXAMPLES, "name", "bundle.bin")), version)
+
+
+def axles(words={}, entries={}, entry={}, result=None, version=2):
+    """The bundle of example `axles` with other words, by word; other entries of its rows, by word and name, or notes, by the name 32; other
+    entries of the entry row, by name; another result entry; or of version 1, without what scratch words hold."""
+    policy, start, wanted, code, rows = layout.open_bundle(read(EXAMPLES, "axles", "bundle.bin"))
+    rows = [(list(held), note) for held, note in rows]
+    for k, other in words.items():
+        code[k] = other
+    for (k, name), other in entries.items():
+        if name == layout.NOTE_NAMED:
+            rows[k] = rows[k][0], other
+        else:
+            rows[k][0][layout.NAMED.index(name)] = other
+    for name, other in entry.items():
+        start[0][layout.NAMED.index(name)] = other
+    if version == 1:
+        rows = [(held[:32] + [layout.NOTHING] * 6, note) for held, note in rows]
+    return layout.bundle_bytes(policy, start, result or wanted, code, rows, version)
+
+
+word = bundles.word
+# What is changed in example `axles`, the answer, and what explain.py says of it.
+USES = [
+    ("a word below the scratch words", axles({0: word("st", 10, SP, 92)}), "7 0 14",
+     ["reached in the frame (120 bytes): offset 92, width 4, so bytes 92 to 95", "wrong: a scratch word is at offset 96, 100, 104, 108, 112 or 116 of the frame, not at 92"]),
+    ("a word above them", axles({0: word("st", 10, SP, 120)}), "7 0 14", ["not at 120;"]),
+    ("a byte inside one", axles({13: word("ldub", 13, SP, 97)}), "7 13 14", ["offset 97, width 1, so byte 97\n", "not at 97;"]),
+    ("the first byte of one", axles({13: word("ldub", 13, SP, 96)}), "8 13 14", ["offset 96, width 1, so byte 96\n", "wrong: ldub does not serve a scratch word: ld and st do"]),
+    ("half of one", axles({0: word("sth", 10, SP, 116)}), "8 0 14", ["width 2, so bytes 116 to 117\n", "wrong: sth does not serve a scratch word"]),
+    ("the frame's address stored in one", axles({0: word("st", SP, SP, 96)}), "6 0 14", ["rd, stored: r14 = frame", "wrong: the frame's address is stored"]),
+    ("the frame's address stored in a field", axles({44: word("st", SP, 9, 4)}), "6 44 9", ["wrong: the frame's address is stored"]),
+    ("the frame's address moved", axles({10: word("or", 9, 0, "r14")}), "6 10 0", ["wrong: or takes the frame's address, which is there for ld and st of scratch words alone"]),
+    ("the frame's address compared", axles({37: word("subcc", 0, SP, 0)}), "6 37 14", ["wrong: subcc takes the frame's address"]),
+    ("the frame's address shifted", axles({10: word("sll", 9, SP, 0)}), "6 10 14", ["wrong: sll takes the frame's address"]),
+    ("an index", axles({13: word("ld", 13, SP, "r9")}), "6 13 14",
+     ["wrong: to the frame's address a single number is added, 96, 100, 104, 108, 112 or 116, and not 0..36 step 4"]),
+    ("the frame's address twice", axles({13: word("ld", 13, SP, "r14")}), "6 13 14", ["a single number is added, 96, 100, 104, 108, 112 or 116, and not the frame's address"]),
+    ("the frame's address and another", axles({13: word("ld", 13, 8, "r14")}), "6 13 8", ["and not an address"]),
+    ("a scratch word not stored to", axles({13: word("ld", 13, SP, 116)}), "4 13 38",
+     ["scratch words: [%sp+96] = ticket+0; [%sp+100] = any number; [%sp+104] = 0..1000; the others are unset", "wrong: [%sp+116] is loaded, and it is unset in this row"]),
+    ("the same in version 1", axles(version=1), "4 13 34", ["scratch words: all unset", "wrong: [%sp+100] is loaded, and it is unset in this row"]),
+    ("a row that claims too much of one", axles({}, {(12, 37): layout.ZERO}), "12 11 37",
+     ["row 11: [%sp+112] = unset", "next row, 12: [%sp+112] = 0", "wrong: unset does not fit 0"]),
+    ("a row that claims too much of what is stored", axles({}, {(20, 35): layout.number(0, 999)}), "12 18 35", ["after the slot, word 19: [%sp+104] = 0..1000", "wrong: 1000 is not in 0..999"]),
+    ("row 0 that claims something", axles({}, {(0, 33): layout.ZERO}), "15 0 33",
+     ["entry row: [%sp+96] = unset", "row 0: [%sp+96] = 0", "wrong: unset does not fit 0: all six scratch words are unset at the start"]),
+    ("the frame's address in another register", axles({}, {(5, 3): FRAME}), "1 5 3", ["row 5, r3: bytes 05", "has kind 5, the frame's address, which stands in r14 alone"]),
+    ("the frame's address in a scratch word's entry", axles({}, {(5, 38): FRAME}), "1 5 38", ["row 5, [%sp+116]: bytes 05", "has kind 5, the frame's address, which stands in r14 alone"]),
+    ("a note and a scratch word's entry badly formed", axles({}, {(5, 33): (9, 0, 0, 0, 0), (5, 32): (9, 0, 0)}), "1 5 32", ["row 5, note: bytes 09", "of the bundle breaks a rule above"]),
+    ("a scratch word's entry badly formed", axles({}, {(5, 33): (1, 0, 3, 0, 3)}), "1 5 33", ["row 5, [%sp+96]: bytes 01", "of the bundle breaks a rule above"]),
+    ("a frame's address with a step", axles({}, {(5, SP): (5, 0, 1, 0, 0)}), "1 5 14", ["row 5, r14: bytes 05", "of the bundle breaks a rule above"]),
+    ("an entry row that has one", axles(entry={34: layout.ZERO}), "21 0 0", ["entry row, [%sp+100]: bytes 01", "is set: all six scratch words are unset at the start"]),
+    ("the frame's address as the result", axles(result=FRAME), "21 0 0", ["result entry: bytes 05", "has kind 5, the frame's address, which stands in r14 alone"]),
+    ("a bundle too long by its version", made_in(1) + bytes(53180), "23 0 0", ["wrong: it has ", "and a bundle of version 1 has at most 53,180"]),
+    ("a bundle too long", read(EXAMPLES, "axles", "bundle.bin") + bytes(62468), "23 0 0", ["and a bundle has at most 62,468"]),
+    ("version 3", made_in(2).replace(b"WTR\0\2", b"WTR\0\3"), "23 0 0", ["they do not begin with the mark WTR and version 1 or 2"]),
+]
+
+
+@cases("gcc")
+def examples_in_the_plain_program():
+    with tempfile.TemporaryDirectory() as folder:
+        program = mutants.compiled(read(mutants.SOURCE).decode(), folder)
+        for name in NAMES:
+            given = mutants.answer(program, script.edition_of(os.path.join(EXAMPLES, name)), read(EXAMPLES, name, "bundle.bin"))
+            yield f"the plain program answers {name}", given == read(EXAMPLES, name, "answer.txt").decode().strip(), given
+        for what, data, answer, _ in USES:
+            for edition in OLDER, NEWER:
+                given = mutants.answer(program, edition, data)
+                yield f"plain answer {edition}: {what}", given == answer, given
+
+
+@cases(ANSWER)
+def uses_of_the_frame():
+    for what, data, answer, _ in USES:
+        out = subprocess.run([ANSWER], input=data, capture_output=True).stdout.decode().strip()
+        yield f"the bundle program: {what}", out == answer, out
+
+
+@cases(ANSWER_9)
+def uses_of_the_frame_on_the_newer():
+    for what, data, answer, _ in USES:
+        out = subprocess.run([ANSWER_9], input=data, capture_output=True).stdout.decode().strip()
+        yield f"the newer terminal's bundle program: {what}", out == answer, out
+
+
+@cases(EXPLAIN)
+def uses_of_the_frame_explained():
+    for what, data, answer, expected in USES:
+        with example("axles") as folder, only_tool("other", ""):
+            write(data, folder, "bundle.bin")
+            status, out, said = called("explain.py", folder)
+        right = status == 0 and out.startswith(answer + "\n") and all(text in out + "\n" for text in expected) and not said
+        yield f"explain.py with {what}", right, out + said
+
+
+# What the program explain says of such bundles: what is refused, its items but for `word` and the row's entries, and what is made of them.
+THROUGH = "first 14 5 0 0 0 0"
+SAID = [
+    ("7 0 14", ["store 0 10 14 1 92", "row 0", THROUGH, "second 0 1 0 8 92 92", "stored 10 2 2 8 0 0"],
+     ["  rs1: r14 = frame", "  number in the word: 92", "  rd, stored: r10 = ticket+0", "reached in the frame (120 bytes): offset 92, width 4, so bytes 92 to 95",
+      "wrong: a scratch word is at offset 96, 100, 104, 108, 112 or 116 of the frame, not at 92; all else in the frame is the host's"]),
+    ("8 13 14", ["load 3 13 14 1 96", "row 13", THROUGH, "second 0 1 0 8 96 96", "stored 13 0 0 0 0 0"],
+     ["reached in the frame (120 bytes): offset 96, width 1, so byte 96", "wrong: ldsb does not serve a scratch word: ld and st do"]),
+    ("8 13 9", ["store 2 13 9 0 14", "row 13", "first 9 1 0 8 96 96", "second 14 5 0 0 0 0", "stored 13 1 0 8 0 0"],
+     ["  rs2: r14 = frame", "reached in the frame (120 bytes): offset 96, width 2, so bytes 96 to 97", "wrong: sth does not serve a scratch word: ld and st do"]),
+    ("6 13 14", ["load 0 13 14 0 9", "row 13", THROUGH, "second 9 1 0 4 96 116", "stored 13 0 0 0 0 0"],
+     ["wrong: to the frame's address a single number is added, 96, 100, 104, 108, 112 or 116, and not 96..116 step 4"]),
+    ("6 13 8", ["load 0 13 8 0 14", "row 13", "first 8 2 0 8 0 0", "second 14 5 0 0 0 0", "stored 13 0 0 0 0 0"],
+     ["wrong: to the frame's address a single number is added, 96, 100, 104, 108, 112 or 116, and not an address"]),
+    ("6 44 9", ["store 0 14 9 1 4", "row 44", "first 9 2 2 8 0 0", "second 0 1 0 8 4 4", "stored 14 5 0 0 0 0", "reach 2 8 4 4 4", "region 2 16 0"],
+     ["  rd, stored: r14 = frame", "wrong: the frame's address is stored, and it is kept in r14 alone: neither a field nor a scratch word holds it"]),
+    ("6 10 0", ["alu 2 0 9 0 0 14", "row 10", "first 0 1 0 8 0 0", "second 14 5 0 0 0 0"],
+     ["wrong: or takes the frame's address, which is there for ld and st of scratch words alone: it is not moved, added to or compared"]),
+    ("6 10 14", ["alu 4 1 0 14 1 0", "row 10", THROUGH, "second 0 1 0 8 0 0"], ["wrong: subcc takes the frame's address"]),
+    ("6 10 9", ["alu 0 0 9 9 0 8", "row 10", "first 9 2 1 8 0 0", "second 8 2 0 8 0 0"], ["wrong: there is no rule for add of an address and an address"]),
+    ("4 13 34", ["load 0 13 14 1 100", "row 13", "entry 14 5 0 0 0 0", "entry 33 2 2 8 0 0", "entry 38 1 0 8 7 7", "note 0 0 0", THROUGH, "second 0 1 0 8 100 100",
+                 "stored 13 0 0 0 0 0"],
+     ["scratch words: [%sp+96] = ticket+0; [%sp+116] = 7; the others are unset", "wrong: [%sp+100] is loaded, and it is unset in this row"]),
+    ("4 19 35", ["load 0 13 14 1 104", "slot 18", "row 18", "entry 35 1 0 8 7 7", "note 1 0 0", "edge 1 1 1", "to 20 1 0", "kept 1", "handed", "note 1 0 0", THROUGH,
+                 "second 0 1 0 8 104 104", "stored 13 0 0 0 0 0"], ["scratch words: all unset", "wrong: [%sp+104] is loaded, and it is unset in this row"]),
+    ("12 11 37", ["alu 2 0 10 0 0 0", "row 11", "entry 37 1 0 1 0 5", "note 0 0 0", "edge 0 1 0", "to 12 1 0", "kept 1", "handed", "entry 37 1 0 1 0 5", "note 0 0 0", "made",
+                  "entry 37 1 0 1 0 5", "note 0 0 0", "misfit 37", "has 1 0 1 0 5", "asks 1 0 8 0 0"],
+     ["row 11: [%sp+112] = 0..5", "after word 11: [%sp+112] = 0..5", "next row, 12: [%sp+112] = 0", "wrong: 5 is not 0"]),
+    ("15 0 33", ["store 0 10 14 1 96", "misfit 33", "has 0 0 0 0 0", "asks 1 0 8 0 0"],
+     ["entry row: [%sp+96] = unset", "row 0: [%sp+96] = 0", "wrong: unset does not fit 0: all six scratch words are unset at the start"]),
+    ("15 0 14", ["store 0 10 14 1 96", "misfit 14", "has 0 0 0 0 0", "asks 5 0 0 0 0"], ["entry row: r14 = unset", "row 0: r14 = frame", "wrong: unset does not fit frame"]),
+    ("1 5 38", ["misfit 38", "at 3000", "bytes 5 0 0 0 0 0 0 0 0 0 0 0"],
+     ["row 5, [%sp+116]: bytes 05000000 00000000 00000000 (kind 5, region 0, step 0, zero 0, lo 0, hi 0)",
+      "wrong: the entry at byte 3000 of the bundle has kind 5, the frame's address, which stands in r14 alone"]),
+    ("1 5 14", ["misfit 14", "at 3000", "bytes 5 0 1 0 0 0 0 0 0 0 0 0"], ["row 5, r14: bytes 05000100", "wrong: the entry at byte 3000 of the bundle breaks a rule above"]),
+    ("1 5 32", ["misfit 32", "at 3000", "bytes 5 0 0 0 0 0 0 0"], ["row 5, note: bytes 05000000", "wrong: the note at byte 3000 of the bundle breaks a rule above"]),
+    ("21 0 0", ["part entry", "misfit 34", "at 500", "bytes 1 0 8 0 0 0 0 0 0 0 0 0"],
+     ["entry row, [%sp+100]: bytes 01000800", "wrong: the entry at byte 500 of the bundle is set: all six scratch words are unset at the start"]),
+    ("21 0 0", ["part entry", "misfit 34", "at 500", "bytes 0 0 8 0 0 0 0 0 0 0 0 0"], ["wrong: the entry at byte 500 of the bundle breaks a rule above"]),
+    ("21 0 0", ["part result", "at 500", "bytes 5 0 0 0 0 0 0 0 0 0 0 0"],
+     ["result entry: bytes 05000000", "wrong: the entry at byte 500 of the bundle has kind 5, the frame's address, which stands in r14 alone"]),
+    ("23 0 0", ["length 62469", "part size"], ["wrong: it has 62469 bytes, and a bundle has at most 62,468"]),
+    ("23 0 0", ["length 8", "part head", "at 0"], ["wrong: it has 8 bytes, and they do not begin with the mark WTR and version 1 or 2"]),
+    ("25 0 14", ["alu 0 0 14 14 1 -96"], ["wrong: it would write r14, %o6, the stack pointer, which is the caller's"]),
+]
+
+
+@cases()
+def items_of_the_frame():
+    data = read(EXAMPLES, "axles", "bundle.bin")
+    names, _ = bundle.names_of(os.path.join(EXAMPLES, "axles"), explain.policy_of(data))
+    for answer, items, expected in SAID:
+        number, at, _ = (int(part) for part in answer.split())
+        named = [] if number in (1, 21, 23) else [f"word {at} {layout.open_bundle(data)[3][at]}"]
+        lines = explain.detail_lines(data, names, explain.said_of([answer, *named, *items], OLDER))
+        lost = [text for text in expected if not any(line.startswith(text) for line in lines)]
+        yield f"what is said of {answer}: {expected[-1]}", lost == [], "\n".join(lines)
+        yield f"the card has {number}", explain.card_entry(number).startswith(f"{number}:"), ""
+    old = explain.form_lines(b"WTR\0\1" + bytes(60000), explain.said_of(["23 0 0", "length 60005", "part size"], OLDER))
+    yield "the most bytes of version 1", old == ["wrong: it has 60005 bytes, and a bundle of version 1 has at most 53,180"], str(old)
+
+
+@cases(KINDS)
+def kinds_with_a_frame():
+    status, out, said = called("kinds.py", "--table", os.path.join(EXAMPLES, "axles", "bundle.bin"))
+    pointers = {line.split()[-3][6] for line in out.splitlines()[1:] if not line.endswith(")")}
+    yield "kinds.py has the frame's address as unset", (status, said, pointers) == (0, "", {"-"}), out + said
+    for version in 1, 2:
+        with example() as folder:
+            write(made_in(version), folder, "bundle.bin")
+            given = called("kinds.py", os.path.join(folder, "bundle.bin"))
+            write(noisy(made_in(version)), folder, "bundle.bin")
+            yield f"kinds.py with a bundle of version {version}", given == called("kinds.py", os.path.join(folder, "bundle.bin")) and given[0] == 0, given[1] + given[2]
+
+
 # How the tools are called, and where
 
 @cases()
@@ -1113,7 +1388,7 @@ def wrong_calls():
             ("bundle.py", [os.path.join(ROOT, "README.md")]), ("bundle.py", ["--list", EXAMPLES]),
             ("explain.py", []), ("explain.py", [name, "7", "6", "10"]), ("explain.py", [os.path.join(ROOT, "none")]),
             ("explain.py", [EXAMPLES]), ("explain.py", ["--edition", "9"]), ("explain.py", ["--edition", "10", name]),
-            ("bundle.py", ["--edition", name]), ("kinds.py", ["--edition", "v9", name]), ("kinds.py", []), ("kinds.py", ["--table"]), ("kinds.py", [name, name]), ("kinds.py", ["--tabel", name]),
+            ("bundle.py", ["--edition", name]), ("bundle.py", ["--version", name]), ("bundle.py", ["--version", "3", name]), ("kinds.py", ["--edition", "v9", name]), ("kinds.py", []), ("kinds.py", ["--table"]), ("kinds.py", [name, name]), ("kinds.py", ["--tabel", name]),
             ("kinds.py", [os.path.join(ROOT, "none")]), ("kinds.py", [EXAMPLES]), ("parts.py", ["x"]), ("listings.py", ["x"]), ("vectors.py", ["x"]),
             ("corpus.py", ["x"]), ("corpus.py", ["none", "none"]), ("corpus.py", ["9", "none", "none"]),
             ("corpus.py", ["7", os.path.join(name, "bundle.bin"), os.path.join(name, "answer.txt")]), ("mutants.py", ["x"]), ("runs.py", ["x", "y"]), ("runs.py", ["none"]), ("speed.py", ["x"]),
