@@ -2,7 +2,7 @@
 -- to one changes what stands at its index alone.
 use Prim.Native.Nat.{ℕ, _+_, _-_, _*_, _≤_, _<_}
 use mathlib.Core.Path.{_≡_, refl, sym, ap, _∙_, subst}
-use mathlib.Core.Bool.{Bool, true, false, cond}
+use mathlib.Core.Bool.{Bool, true, false}
 use mathlib.Core.List.{List}
 use native.Mathlib.Omega.{arith}
 use lib.Dec.{ltb, eqb}
@@ -34,6 +34,10 @@ use Rattle.rules.specs.Laws.{Wrote}
 use Rattle.guarantee.specs.Fields.{scratchOf}
 use Rattle.guarantee.specs.Guarantee.{valueAt, markAt, heldOf, Words}
 
+-- a scratch word's index, less the registers, is its number
+less : (k : ℕ) → 32 + k - 32 ≡ k
+less k = omega arith
+
 module _ (p : Policy) (c : Core) where
   pub register-value : (r : ℕ) → r < 32 → valueAt p c r ≡ valueOf (c .registers) r
   unfolding valueAt
@@ -46,16 +50,10 @@ module _ (p : Policy) (c : Core) where
   pub scratch-value : (k : ℕ) → valueAt p c (scratchEntry k) ≡ wordAt (c .memory) (scratchOf p k)
   unfolding valueAt
   scratch-value k = rw (le-ltb (scratchEntry k) registerCount (omega arith)) (ap (λ (i : ℕ). wordAt (c .memory) (scratchOf p i)) (less k))
-    where
-      less : (k : ℕ) → 32 + k - 32 ≡ k
-      less k = omega arith
 
   pub scratch-mark : (k : ℕ) → markAt c (scratchEntry k) ≡ scratchSet (c .registers) k
   unfolding markAt
   scratch-mark k = rw (le-ltb (scratchEntry k) registerCount (omega arith)) (ap (scratchSet (c .registers)) (less k))
-    where
-      less : (k : ℕ) → 32 + k - 32 ≡ k
-      less k = omega arith
 
 -- every register reads as a word
 pub read-small : (g : Registers) → Words g → (r : ℕ) → valueOf g r < 4294967296

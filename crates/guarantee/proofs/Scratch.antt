@@ -5,12 +5,10 @@ use mathlib.Core.Path.{_≡_, sym, subst}
 use native.Mathlib.Omega.{arith}
 use Rattle.v8.specs.declared.LoadOp.the-variants.{Ld}
 use Rattle.v8.specs.declared.StoreOp.the-variants.{St}
-use Rattle.v8.specs.declared.Access.the-variants.{Stores}
 use Rattle.policy.specs.declared.Policy.{Policy}
 use Rattle.policy.specs.Element.{widthOf}
-use Rattle.policy.specs.Policy.{sizeOf, countOf, fieldEnd}
-use Rattle.policy.specs.Laws.{WellFormed}
-use Rattle.memory.specs.Memory.{loadWidth, storeWidth}
+use Rattle.policy.specs.Policy.{sizeOf}
+use Rattle.memory.specs.Memory.{storeWidth}
 use Rattle.memory.specs.Place.{partStart, frameStart}
 use Rattle.memory.specs.Laws.{Apart}
 use Rattle.memory.proofs.Memory.{store-keeps-length, store-keeps-others, load-kept}
@@ -18,7 +16,7 @@ use Rattle.memory.proofs.Starts.{part-ends}
 use Rattle.rows.specs.Entry.{fieldEntry}
 use Rattle.rows.specs.Matches.{Holds}
 use Rattle.guarantee.specs.Fields.{loadFor, fieldOf, byteOf, elementAt, scratchOf}
-use Rattle.guarantee.specs.Laws.{InElement, StoreKeepsScratch, ScratchDeclared, ScratchFramed}
+use Rattle.guarantee.specs.Laws.{StoreKeepsScratch, ScratchDeclared, ScratchFramed}
 use Rattle.guarantee.proofs.Elements.{element-step, element-ends, load-wide}
 
 module _ (p : Policy) where

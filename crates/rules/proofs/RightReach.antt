@@ -25,7 +25,7 @@ use Rattle.policy.specs.Policy.{sizeOf, placeOf, fieldAt, fieldEnd}
 use Rattle.policy.specs.Find.{findField}
 use Rattle.policy.specs.Laws.{WellFormed, FoundHere}
 use Rattle.policy.proofs.FoundField.{found-holds}
-use Rattle.memory.specs.Frame.{scratchOffset, isScratch, scratchAt}
+use Rattle.memory.specs.Frame.{isScratch}
 use Rattle.memory.proofs.Scratch.{scratch-offsets}
 use Rattle.access.specs.Serve.{accessWidth, isWord, serves, allows}
 use Rattle.sets.specs.declared.NumberSet.{NumberSet}
@@ -41,9 +41,8 @@ use Rattle.rows.specs.Matches.{Host, baseOf, Holds}
 use Rattle.rows.specs.Laws.{EntryRules}
 use Rattle.rows.proofs.ByKind.{held-number, held-address, held-frame, ruled-number, ruled-address}
 use Rattle.rules.specs.declared.Reach.{Reach}
-use Rattle.rules.specs.declared.Reach.the-variants.{Inside, Outside}
 use Rattle.rules.specs.Reach.{reachEnd, onGrid, inField, inFound, inRegion, inFrame, frameReach, reachOf}
-use Rattle.rules.specs.Laws.{Laid, Reached, ReachedScratch, ReachedAs, Reaches}
+use Rattle.rules.specs.Laws.{Laid, Reached, ReachedAs, Reaches}
 use Rattle.rules.proofs.RightResult.{constant-holds, size-in, adds-turn}
 
 -- a width is a step

@@ -1,6 +1,6 @@
 -- `misfit` meets its contract. The loop's invariant: the search from the present place on gives the answer of the whole search.
 use Prim.Native.Nat.{_≤_, _-_}
-use mathlib.Core.Bool.{false, not}
+use mathlib.Core.Bool.{not}
 use mathlib.Core.Logic.{⊎-elim}
 use mathlib.Core.Path.{_≡_, refl, sym, ap, _∙_}
 use native.Mathlib.Omega.{arith}

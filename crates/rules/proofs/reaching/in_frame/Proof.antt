@@ -1,6 +1,6 @@
 -- The tests in their order: a scratch word's offset, and an access of a word.
 use mathlib.Core.Path.{sym, _∙_}
-use borrow.Author.Tests.{not-true, not-false}
+use borrow.Author.Tests.{not-false}
 use Rattle.rules.specs.Reach.{inFrame}
 use borrow.Author.Needs.{needs}
 use Rattle.rules.proofs.reaching.in_frame.Statement.{statement}
