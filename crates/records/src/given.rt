@@ -6,7 +6,7 @@ ghost use Prim.Native.Nat.{_+_, _*_, _≤_, _<_};
 
 // The number of regions, and the size and the number of fields of each, in a policy without fields.
 fn regions_at(numbers: &[u32; MOST_NUMBERS], count: usize, sizes: usize) -> Policy
-    requires { ⌜ (count < 746) × (sizes + 16 ≤ 746) ⌝ }
+    requires { ⌜ (count < 747) × (sizes + 16 ≤ 747) ⌝ }
 {
     let empty = Policy::empty();
     let mut regions = empty.regions;
@@ -28,7 +28,7 @@ fn regions_at(numbers: &[u32; MOST_NUMBERS], count: usize, sizes: usize) -> Poli
 
 // The policy with the field that stands at number `at`.
 fn with_field(policy: Policy, numbers: &[u32; MOST_NUMBERS], at: usize) -> Policy
-    requires { ⌜ at + 4 ≤ 746 ⌝ }
+    requires { ⌜ at + 4 ≤ 747 ⌝ }
 {
     let kinds = numbers[at];
     let extent = numbers[at + 1];
@@ -60,7 +60,7 @@ pub fn policy_at(
     first: usize,
     count: usize,
 ) -> Policy
-    requires { ⌜ (regions < 746) × (sizes + 16 ≤ 746) × (first + 4 * count ≤ 746) ⌝ }
+    requires { ⌜ (regions < 747) × (sizes + 16 ≤ 747) × (first + 4 * count ≤ 747) ⌝ }
 {
     let mut policy = regions_at(numbers, regions, sizes);
     let mut i = 0;

@@ -5,6 +5,7 @@ use crate::record::Bytes;
 use crate::record::CHANGED;
 use crate::record::EDITION;
 use crate::record::END;
+use crate::record::FRAME;
 use crate::record::MOST_BYTES;
 use crate::record::RETURNS;
 use crate::record::STEPS;
@@ -96,6 +97,7 @@ fn run_of(
         &all[WORDS..words],
         &all[BASES..bases],
         numbers[RETURNS],
+        numbers[FRAME],
         start,
         wide(numbers[ALLOWANCE]),
         memory,
@@ -110,7 +112,7 @@ fn judge_over(
     start: [u8; MOST_BYTES],
     expected: &[u8; MOST_BYTES],
 ) -> Verdict
-    requires { ⌜ length ≤ 2048 ⌝ }
+    requires { ⌜ length ≤ 2168 ⌝ }
 {
     let policy = policy_of(numbers);
     let registers = before(numbers);
@@ -121,7 +123,7 @@ fn judge_over(
 
 // What the run must leave in so many bytes of memory: what is read, or what it began with.
 fn memory_after(numbers: &[u32; MOST_NUMBERS], length: usize, start: Bytes) -> Bytes
-    requires { ⌜ length ≤ 2048 ⌝ }
+    requires { ⌜ length ≤ 2168 ⌝ }
 {
     if numbers[CHANGED] == 1 {
         return read_memory(length);

@@ -36,17 +36,31 @@ pub fn same_codes(a: MarkedCodes, b: MarkedCodes) -> bool {
     (a.set == b.set) & (x.n == y.n) & (x.z == y.z) & (x.v == y.v) & (x.c == y.c)
 }
 
-// Whether the registers hold the same, with the same marks; those that are unset too.
-pub fn same_registers(a: Registers, b: Registers) -> bool {
+// Whether the values are the same.
+fn same_values(a: Registers, b: Registers) -> bool {
     let mut r = 0;
     while r < 32 {
         if a.values[r] != b.values[r] {
             return false;
         }
-        if a.marks[r] != b.marks[r] {
-            return false;
-        }
         r += 1;
     }
     true
+}
+
+// Whether the marks are the same, of registers and of scratch words.
+fn same_marks(a: Registers, b: Registers) -> bool {
+    let mut i = 0;
+    while i < MARKS {
+        if a.marks[i] != b.marks[i] {
+            return false;
+        }
+        i += 1;
+    }
+    true
+}
+
+// Whether the registers hold the same, with the same marks; those that are unset too.
+pub fn same_registers(a: Registers, b: Registers) -> bool {
+    same_values(a, b) & same_marks(a, b)
 }

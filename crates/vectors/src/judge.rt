@@ -5,6 +5,7 @@ use crate::case::before;
 use crate::case::case_of;
 use machine::End;
 use machine::Outcome;
+use memory::frame::FRAME_BYTES;
 use policy::Policy;
 use records::edition::Told;
 use records::edition::edition_of;
@@ -29,21 +30,25 @@ pub enum Verdict {
 // More steps than any case runs.
 const ALLOWANCE: u64 = 1000;
 
-// The run of a case's routine, with no memory to reach.
+// The frame address of every case.
+const FRAME: u32 = 4096;
+
+// The run of a case's routine, with no memory to reach but the frame.
 fn run_of(edition: Edition, fields: &[u32], start: Registers) -> Outcome
     requires { ⌜ 10 ≤ length (now fields) ⌝ }
 {
     let bases = [0u32; 1];
-    let mut memory = [0u8; 1];
+    let mut memory = [0u8; FRAME_BYTES];
     machine::run(
         edition,
         Policy::empty(),
         &fields[..10],
         &bases[..0],
         RETURNS,
+        FRAME,
         start,
         ALLOWANCE,
-        &mut memory[..0],
+        &mut memory,
     )
 }
 

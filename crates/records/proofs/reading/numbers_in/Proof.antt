@@ -7,10 +7,10 @@ use Rattle.records.proofs.reading.numbers_in.Statement.{statement}
 use Rattle.records.proofs.reading.numbers_in.Tie as tie
 
 abbrev Inv-loop : tie.InvT-loop
-Inv-loop bytes numbers₀ i₀ numbers i = (i ≤ 746) × (length numbers ≡ 746)
+Inv-loop bytes numbers₀ i₀ numbers i = (i ≤ 747) × (length numbers ≡ 747)
 
 abbrev μ-loop : tie.MeasureT-loop
-μ-loop bytes numbers₀ i₀ numbers i = 746 - i
+μ-loop bytes numbers₀ i₀ numbers i = 747 - i
 
 loop-holds : tie.Need-loop-holds Inv-loop μ-loop
 loop-holds c = search needs

@@ -5,10 +5,10 @@ use Rattle.runs.proofs.judge.same_memory.Statement.{statement}
 use Rattle.runs.proofs.judge.same_memory.Tie as tie
 
 abbrev Inv-loop : tie.InvT-loop
-Inv-loop a b i₀ i = i ≤ 2048
+Inv-loop a b i₀ i = i ≤ 2168
 
 abbrev μ-loop : tie.MeasureT-loop
-μ-loop a b i₀ i = 2048 - i
+μ-loop a b i₀ i = 2168 - i
 
 loop-holds : tie.Need-loop-holds Inv-loop μ-loop
 loop-holds c = search needs

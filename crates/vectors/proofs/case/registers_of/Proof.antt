@@ -7,7 +7,7 @@ use Rattle.vectors.proofs.case.registers_of.Statement.{statement}
 use Rattle.vectors.proofs.case.registers_of.Tie as tie
 
 abbrev Inv-loop : tie.InvT-loop
-Inv-loop fields from k values₀ marks₀ i₀ values marks i = (i ≤ 6) × (length values ≡ 32) × (length marks ≡ 32)
+Inv-loop fields from k values₀ marks₀ i₀ values marks i = (i ≤ 6) × (length values ≡ 32) × (length marks ≡ 38)
 
 abbrev μ-loop : tie.MeasureT-loop
 μ-loop fields from k values₀ marks₀ i₀ values marks i = 6 - i

@@ -17,9 +17,6 @@ array-share-prefix-bases c = search needs
 slice-aggregate-run-2 : tie.Need-slice-aggregate-run-2
 slice-aggregate-run-2 c = search needs
 
-array-borrow-prefix-memory : tie.Need-array-borrow-prefix-memory
-array-borrow-prefix-memory c = search needs
-
 slice-aggregate-run-3 : tie.Need-slice-aggregate-run-3
 slice-aggregate-run-3 c = search needs
 
@@ -37,7 +34,6 @@ run-of-spec =
     slice-aggregate-run
     array-share-prefix-bases
     slice-aggregate-run-2
-    array-borrow-prefix-memory
     slice-aggregate-run-3
     run-requires
     returns)

@@ -1,8 +1,8 @@
--- `same_registers` is safe and ends. The measure is how many registers are left. Assumes nothing.
+-- `same_values` is safe and ends. The measure is how many registers are left. Assumes nothing.
 use Prim.Native.Nat.{_≤_, _-_}
 use borrow.Author.Needs.{needs}
-use Rattle.states.proofs.same_registers.Statement.{statement}
-use Rattle.states.proofs.same_registers.Tie as tie
+use Rattle.states.proofs.same_values.Statement.{statement}
+use Rattle.states.proofs.same_values.Tie as tie
 
 abbrev Inv-loop : tie.InvT-loop
 Inv-loop a b r₀ r = r ≤ 32
@@ -28,15 +28,6 @@ element-copy-out-if1-2 c = search needs
 returns : tie.Need-returns Inv-loop μ-loop
 returns c = search needs
 
-element-copy-out-if2 : tie.Need-element-copy-out-if2 Inv-loop μ-loop
-element-copy-out-if2 c = search needs
-
-element-copy-out-if2-2 : tie.Need-element-copy-out-if2-2 Inv-loop μ-loop
-element-copy-out-if2-2 c = search needs
-
-returns-2 : tie.Need-returns-2 Inv-loop μ-loop
-returns-2 c = search needs
-
 add-r : tie.Need-add-r Inv-loop μ-loop
 add-r c = search needs
 
@@ -46,11 +37,11 @@ loop-less c = search needs
 loop-again : tie.Need-loop-again Inv-loop μ-loop
 loop-again c = search needs
 
-returns-3 : tie.Need-returns-3 Inv-loop μ-loop
-returns-3 c = search needs
+returns-2 : tie.Need-returns-2 Inv-loop μ-loop
+returns-2 c = search needs
 
-pub same-registers-spec : {M : Type 1} → statement M
-same-registers-spec =
+pub same-values-spec : {M : Type 1} → statement M
+same-values-spec =
     tie.close
     (tie.spec
     Inv-loop
@@ -61,10 +52,7 @@ same-registers-spec =
     mul-if1-2
     element-copy-out-if1-2
     returns
-    element-copy-out-if2
-    element-copy-out-if2-2
-    returns-2
     add-r
     loop-less
     loop-again
-    returns-3)
+    returns-2)
