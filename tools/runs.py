@@ -2,7 +2,7 @@
 """runs.py: writes the data of the program crates/runs to standard output.
 
     tools/runs.py            from the runs that stand in the data
-    tools/runs.py RUNS       from these and others
+    tools/runs.py RUNS ..    from these and others
 
 RUNS has runs of the machine as text, a blank line between two. A line is a name and what stands for it:
   edition E            the terminal: 8, which it is also without this line, or 9
@@ -12,16 +12,19 @@ RUNS has runs of the machine as text, a blank line between two. A line is a name
   words W ..           the routine, in hexadecimal
   bases B ..           where the regions begin, in hexadecimal
   return R             the return address, in hexadecimal
+  frame F              the frame address, in hexadecimal
   regs V+ V- ..        the 32 registers in hexadecimal, + set, - unset
   codes D+             NZVC as a hexadecimal digit, and its mark
   memory BYTES         in hexadecimal
   allowance N
 and what the run gives: end (0 returned, 1 spent, else the number of the refusal or fault), steps,
-regs, codes, and memory (`same`, or whole).
+regs, codes, scratch (six marks, + set, - unset) and memory (`same`, or whole). A run without a frame, from before
+there were scratch words, is given one that overlaps no region, with its bytes at the end of memory.
 
 Of the runs that fit the program's room a sample is taken: EACH runs at most of every end with the memory
-changed and of every end with it unchanged, with a branch into a slot and without, on each terminal, evenly over
-the sizes of memory; none that ends with 20. Those that stand in the data stay there. After them come runs that are made from
+changed and of every end with it unchanged, with a branch into a slot and without, with an access through r14 and
+without, with a scratch word set at the end and without, on each terminal, evenly over the smaller half of the sizes of memory;
+none that ends with 20. Those that stand in the data stay there. After them come runs that are made from
 one run of the sample, with what document 01 says of them, which needs no implementation to tell:
   20   its policy is changed so that it breaks one rule, another each time; a run that is refused changes nothing
   20   it has no words, and its policy breaks a rule
@@ -34,6 +37,12 @@ one run of the sample, with what document 01 says of them, which needs no implem
        branch in it, which is run; and some of these with few steps allowed (1), or no word after the slot (101)
   0    these with predicted branches, on the newer terminal; and a predicted branch of each condition, taken and not taken
   101  a predicted branch on the older terminal, and one with other codes than those of 32 bits on the newer
+  0    a scratch word is stored and loaded: each of the six, by r14 and by other registers, in frames that touch a region or end just
+       below 2^32; and several with few steps allowed (1)
+  102  a scratch word is loaded that is unset, though it was handed in as set
+  103  an access of another width, or to the rest of the frame
+  104  an access to the frame at an odd address
+  22   the frame is misplaced, or memory has another length
 The first of them ends with 20, so that they are known again. How many runs there are of each end, and how many
 with a branch into a slot, is written to standard error.
 
@@ -44,14 +53,15 @@ after it; these are
     2  steps                   8  number of fields F          27  8 bases
     3  allowance               9  length of memory            35  the state before, 34 numbers
     4  return address         10  1 if memory is changed      69  the state after, 34 numbers
-    5  number of regions     103  W words, and F fields, 4 numbers each
+    5  number of regions     103  frame address              104  W words, and F fields, 4 numbers each
 A state is 32 registers, their marks (bit r that of register r, set 1), and the codes NZVC with 16 added
-if they are set. A field is its place (16 times the region, plus its number there), element, permission and
-target, a byte each; offset and count, 16 bits each; lo and hi, 2^31 added. The bytes are memory before, and
+if they are set, and 2^(5 + k) for each scratch word k that is. A field is its place (16 times the region, plus
+its number there), element, permission and target, a byte each; offset and count, 16 bits each; lo and hi, 2^31 added. The bytes are memory before, and
 memory after if it is changed.
 """
 import collections
 import copy
+import itertools
 import os
 import struct
 import sys
@@ -66,30 +76,49 @@ from script import NEWER, OLDER
 DATA = os.path.join(os.path.dirname(os.path.abspath(__file__)), "..", "crates", "runs", "stdin")
 # How the first run ends that is made here; none ends so that is not.
 MADE = 20
-RETURNED, SPENT, BAD_SHAPE, BAD_PLACEMENT, NO_WORD, UNSET_READ, UNALIGNED = 0, 1, 21, 22, 101, 102, 104
+RETURNED, SPENT, BAD_SHAPE, BAD_PLACEMENT, NO_WORD, UNSET_READ, NO_FIELD, UNALIGNED = 0, 1, 21, 22, 101, 102, 103, 104
 # Words of those that are made, beside the nop and the return: a branch always to the second word after it, r1 and r2 added, and a store
 # of the half in r2 at the address in r1.
 BRANCH, ADD, STORE = 0x10800002, 0x86004002, 0xC4304000
-LINK = 15
+STACK, LINK = 14, 15
+# The frame: its bytes, its scratch words and the offset of the first, and its bytes where a run has none.
+FRAME, SCRATCH, FIRST = 120, 6, 96
+FRAME_BYTES = bytes(range(1, FRAME + 1))
+UNSET = "-" * SCRATCH
 # The program's room: bytes of memory, words.
-MEMORY, WORDS = 2048, 131
-EACH = 35
+MEMORY, WORDS = 2168, 131
+EACH = 2
 REGIONS, FIELDS, REGISTERS = 8, 16, 32
-# The codes of a state: that they are set; Z alone; N and C.
+# The codes of a state: that they are set; Z alone; N and C. After them come the marks of scratch words.
 CODES_SET, EQUALS, IS_LESS = 16, 4, 9
+FIRST_MARK = 32
 EXCESS = 2 ** 31
 Field = collections.namedtuple("Field", "place element permission target offset count lo hi")
 
 
-def state(registers, codes):
+def marked(words):
+    """The marks of some scratch words, in the number of the codes."""
+    return sum(FIRST_MARK << k for k in words)
+
+
+def state(registers, codes, scratch):
     values = [int(register[:-1], 16) for register in registers]
     marks = sum(2 ** r for r, register in enumerate(registers) if register[-1] == "+")
     (digit, mark), = codes
-    return values + [marks, int(digit, 16) + (CODES_SET if mark == "+" else 0)]
+    return values + [marks, int(digit, 16) + (CODES_SET if mark == "+" else 0) + marked(k for k in range(SCRATCH) if scratch[k] == "+")]
 
 
 def padded(numbers):
     return numbers + [0] * (REGIONS - len(numbers))
+
+
+def overlaps(frame, bases, sizes):
+    return any(frame < base + size and base < frame + FRAME for base, size in zip(bases, sizes))
+
+
+def free_frame(bases, sizes):
+    """The address of a frame that overlaps no region."""
+    return next(frame for frame in itertools.count(2 ** 30, 128) if not overlaps(frame, bases, sizes))
 
 
 class Run:
@@ -106,20 +135,30 @@ class Run:
         self.regions = len(self.sizes)
         places = [FIELDS * region + k for region, count in enumerate(self.counts) for k in range(count)]
         self.fields = [Field(place, *map(int, rest)) for place, rest in zip(places, lines["field"], strict=True)]
-        self.before, self.after = map(state, lines["regs"], lines["codes"])
+        self.before, self.after = map(state, lines["regs"], lines["codes"], [UNSET, *lines["scratch"][0]] if "scratch" in lines else [UNSET] * 2)
         self.changed = lines["memory"][1] != ["same"]
         self.memory, self.left = (bytes.fromhex("".join(rest)) for rest in (lines["memory"][0], lines["memory"][1] * self.changed))
+        if "frame" in lines:
+            self.frame = int(lines["frame"][0][0], 16)
+        else:
+            self.frame = free_frame(self.bases, self.sizes)
+            self.memory, self.left = self.memory + FRAME_BYTES, self.left + FRAME_BYTES * self.changed
 
     def fits(self):
         return len(self.memory) <= MEMORY and len(self.words) <= WORDS and len(self.bases) <= REGIONS
 
+    def through(self):
+        """Whether a word is an access by r14."""
+        return any(one >> 30 == 3 and one >> 14 & 31 == STACK for one in self.words)
+
     def sort(self):
-        return self.edition, self.end, self.changed, bool(assembly.landings(self.words, self.edition))
+        landing = bool(assembly.landings(self.words, self.edition))
+        return self.edition, self.end, self.changed, landing, self.through(), FIRST_MARK <= self.after[-1]
 
     def record(self):
         numbers = [self.edition, self.end, self.steps, self.allowance, self.returns, self.regions]
         numbers += [len(self.words), len(self.bases), len(self.fields), len(self.memory), self.changed]
-        numbers += padded(self.sizes) + padded(self.counts) + padded(self.bases) + self.before + self.after + self.words
+        numbers += padded(self.sizes) + padded(self.counts) + padded(self.bases) + self.before + self.after + [self.frame] + self.words
         fields = [field._replace(lo=field.lo + EXCESS, hi=field.hi + EXCESS) for field in self.fields]
         parts = [struct.pack(f">{len(numbers) + 1}I", len(numbers) + 4 * len(fields), *numbers)]
         parts += [struct.pack(">4B2H2I", *field) for field in fields]
@@ -133,8 +172,8 @@ def run_in(data, at):
     run = Run.__new__(Run)
     run.edition, run.end, run.steps, run.allowance, run.returns, run.regions, words, bases, fields, length, changed = numbers[:11]
     run.sizes, run.counts, run.bases = numbers[11:11 + run.regions], numbers[19:19 + run.regions], numbers[27:27 + bases]
-    run.before, run.after, run.words, run.changed = numbers[35:69], numbers[69:103], numbers[103:103 + words], bool(changed)
-    places = at + 4 + 4 * (103 + words)
+    run.before, run.after, run.frame, run.words, run.changed = numbers[35:69], numbers[69:103], numbers[103], numbers[104:104 + words], bool(changed)
+    places = at + 4 + 4 * (104 + words)
     packed = [Field(*struct.unpack_from(">4B2H2I", data, places + 16 * k)) for k in range(fields)]
     run.fields = [field._replace(lo=field.lo - EXCESS, hi=field.hi - EXCESS) for field in packed]
     start = at + 4 + 4 * count
@@ -167,7 +206,7 @@ def sample(kept, others):
         taken = max(0, min(EACH - len(stay), len(members)))
         yield from stay
         for k in range(taken):
-            yield members[k * len(members) // taken]
+            yield members[k * len(members) // taken // 2]
 
 
 def kinds(run):
@@ -334,6 +373,77 @@ def predictions(run):
                 yield unread(run, NEWER, registers, [predicted(condition, 2, False, hint, codes), NOP, RETURN, NOP])
 
 
+def placed(run, words, end, steps, set_words=(), values=(), stored=(), **change):
+    """A run of words that work on the frame. r1 has a value to be stored, r14 the frame address and r15 the return address. It leaves the
+    scratch words set, the values, by register, and the values stored, by scratch word."""
+    frame = change.get("frame", run.frame)
+    registers = {1: 0xCAFE5A01, STACK: frame, LINK: run.returns, **change.pop("registers", {})}
+    handed = [registers.get(r, run.before[r]) for r in range(REGISTERS)]
+    marks = 2 ** REGISTERS - 1 - sum(2 ** r for r in change.pop("unset", ()))
+    codes = run.before[-1]
+    left = {**dict(enumerate(handed)), 0: 0, **dict(values)}
+    change = {"words": words, "before": [*handed, marks, codes + marked(change.pop("handed", ()))], "allowance": 99, **change}
+    one = altered(run, change, end=end, steps=steps, after=[*(left[r] for r in range(REGISTERS)), marks, codes + marked(set_words)])
+    memory = bytearray(one.memory)
+    for k, value in dict(stored).items():
+        at = sum(run.sizes) + FIRST + 4 * k
+        memory[at:at + 4] = value.to_bytes(4, "big")
+    vars(one).update({"changed": True, "left": bytes(memory)} if stored else {})
+    return one
+
+
+def kept_words(run):
+    """Runs that store scratch words and load them again."""
+    value = 0xCAFE5A01
+
+    def kept(k, store, load, **change):
+        return placed(run, [store, load, RETURN, NOP], RETURNED, 4, [k], {2: value}, {k: value}, **change)
+
+    first, again = word("st", 1, STACK, FIRST), word("ld", 2, STACK, FIRST)
+    for k in range(SCRATCH):
+        yield kept(k, word("st", 1, STACK, FIRST + 4 * k), word("ld", 2, STACK, FIRST + 4 * k))
+    yield kept(2, word("st", 1, STACK, "r3"), word("ld", 2, 4, -100), registers={3: FIRST + 8, 4: run.frame + FIRST + 108})
+    yield kept(5, word("st", 1, 5, "r6"), word("ld", 2, STACK, FIRST + 20), registers={5: 2 ** 32 - 8, 6: run.frame + FIRST + 28})
+    for frame in run.bases[-1] + run.sizes[-1], run.bases[0] - FRAME, 2 ** 32 - FRAME - 8:
+        if not overlaps(frame, run.bases, run.sizes):
+            yield kept(0, first, again, frame=frame)
+    stores = [word("st", 1, STACK, FIRST + 4 * k) for k in range(SCRATCH)]
+    yield placed(run, stores, SPENT, 4, range(4), stored={k: value for k in range(4)}, allowance=4)
+    yield placed(run, [first, word("st", 1, STACK, FIRST + 2)], UNALIGNED, 1, [0], stored={0: value})
+    yield placed(run, [first, word("ld", 2, STACK, FIRST + 4)], UNSET_READ, 1, [0], stored={0: value})
+    yield placed(run, [first, word("st", 0, STACK, FIRST), again, RETURN, NOP], RETURNED, 5, [0], {2: 0}, {0: 0})
+
+
+def faulting_in_frame(run):
+    """Runs whose second word faults in the frame: at an unset scratch word, at the rest of the frame or with another width, unaligned."""
+    faults = [(UNSET_READ, "ld", FIRST + 4 * k) for k in range(SCRATCH)]
+    faults += [(NO_FIELD, name, offset) for name in ("ldub", "ldsb", "lduh", "ldsh", "stb", "sth") for offset in (0, FIRST, FIRST + 20)]
+    faults += [(NO_FIELD, name, FIRST + 23) for name in ("ldub", "stb")]
+    faults += [(NO_FIELD, name, offset) for name in ("ld", "st") for offset in (-4, 0, FIRST - 8, FIRST - 4, FRAME, FRAME + 4)]
+    faults += [(UNALIGNED, name, offset) for name in ("ld", "st") for offset in (FIRST + 1, FIRST + 2, FRAME - 1)]
+    faults += [(UNALIGNED, name, FIRST + 1) for name in ("lduh", "ldsh", "sth")]
+    for fault, name, offset in faults:
+        yield placed(run, [NOP, word(name, 1, STACK, offset)], fault, 1, handed=range(SCRATCH))
+    yield placed(run, [NOP, word("st", 2, STACK, FIRST + 1)], UNSET_READ, 1, unset=[2])
+    yield placed(run, [NOP, word("ld", 2, STACK, FIRST)], UNSET_READ, 1, unset=[STACK])
+
+
+def misplaced_frames(run):
+    """Runs that are refused with 22 for the frame or the length of memory, with scratch words handed in as set."""
+    last = run.bases[-1] + run.sizes[-1]
+    for frame in 0, 4, run.frame + 1, run.frame + 4, 2 ** 32 - FRAME, 2 ** 32 - 8, run.bases[0], run.bases[-1] - FRAME + 8, last - 8:
+        yield placed(run, [RETURN, NOP], BAD_PLACEMENT, 0, values={0: run.before[0]}, handed=range(SCRATCH), frame=frame)
+    for memory in run.memory[:-FRAME], run.memory[:-1], run.memory + b"!":
+        yield placed(run, [RETURN, NOP], BAD_PLACEMENT, 0, values={0: run.before[0]}, handed=[0, 5], memory=memory)
+
+
+def framed(run):
+    """Runs with the frame, on each terminal in turn."""
+    for k, one in enumerate(itertools.chain(kept_words(run), faulting_in_frame(run), misplaced_frames(run))):
+        vars(one).update(edition=NEWER if k % 2 else OLDER)
+        yield one
+
+
 def run_of(text):
     """The run that a text has; a problem names its first line."""
     try:
@@ -343,23 +453,23 @@ def run_of(text):
 
 
 def main(arguments):
-    if len(arguments) > 1:
-        raise script.Problem("call it as `runs.py` or `runs.py RUNS`; `runs.py --help` says more")
     others = []
-    if arguments:
-        with open(arguments[0], encoding="utf-8", errors="replace") as text:
-            others = [run_of(each) for each in text.read().split("\n\n") if each.strip()]
+    for path in arguments:
+        with open(path, encoding="utf-8", errors="replace") as text:
+            others += [run_of(each) for each in text.read().split("\n\n") if each.strip()]
     runs = list(sample(standing(), others))
     whole = [run for run in runs if run.end == 0 and 3 <= run.regions < REGIONS and all(kinds(run))]
     if not whole:
         raise script.Problem("no run that returned can be made into others: it needs three to seven regions, an address and two signed halves")
     for made in refused, empty, misplaced, faulting, landing, predictions:
         runs += made(whole[0])
+    runs += framed(min(whole, key=lambda run: len(run.memory)))
     for run in runs:
         sys.stdout.buffer.write(run.record())
     for end, count in sorted(collections.Counter(run.end for run in runs).items()):
         print(f"end {end}: {count} runs", file=sys.stderr)
     print(f"with a branch into a slot: {sum(bool(assembly.landings(run.words, run.edition)) for run in runs)} runs", file=sys.stderr)
+    print(f"with an access through r14: {sum(run.through() for run in runs)} runs", file=sys.stderr)
     print(f"on the newer terminal: {sum(run.edition == NEWER for run in runs)} runs", file=sys.stderr)
 
 
