@@ -1,12 +1,12 @@
 -- What the offset of a scratch word is: from 96 to 116, a multiple of 4, and that of the word that it names.
-use Prim.Native.Nat.{ℕ, _+_, _-_, _*_, _/_, _%_, _≤_, _<_}
+use Prim.Native.Nat.{_+_, _*_, _%_, _≤_, _<_}
 use mathlib.Core.Path.{_≡_}
-use mathlib.Core.Bool.{Bool, true, _&&_}
+use mathlib.Core.Bool.{_&&_}
 use native.Mathlib.Omega.{arith}
 use lib.Dec.{leb, ltb, eqb}
 use borrow.Author.Tests.{eqb-true, eq-eqb, leb-true, le-leb, ltb-true, lt-ltb}
 use Rattle.v8.proofs.Choice.{and-went}
-use Rattle.memory.specs.Frame.{scratchFirst, frameBytes, scratchOffset, isScratch}
+use Rattle.memory.specs.Frame.{scratchFirst, frameBytes, isScratch}
 use Rattle.memory.specs.Laws.{ScratchOffsets, ScratchWords}
 
 pub scratch-offsets : ScratchOffsets
