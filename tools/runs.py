@@ -56,8 +56,8 @@ after it; these are
     5  number of regions     103  frame address              104  W words, and F fields, 4 numbers each
 A state is 32 registers, their marks (bit r that of register r, set 1), and the codes NZVC with 16 added
 if they are set, and 2^(5 + k) for each scratch word k that is. A field is its place (16 times the region, plus
-its number there), element, permission and target, a byte each; offset and count, 16 bits each; lo and hi, 2^31 added. The bytes are memory before, and
-memory after if it is changed.
+its number there), element, permission and target, a byte each; offset and count, 16 bits each; lo and hi, 2^31
+added. The bytes are memory before, and memory after if it is changed.
 """
 import collections
 import copy

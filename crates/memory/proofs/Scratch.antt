@@ -1,5 +1,5 @@
 -- What the offset of a scratch word is: from 96 to 116, a multiple of 4, and that of the word that it names.
-use Prim.Native.Nat.{_+_, _-_, _*_, _%_, _≤_, _<_}
+use Prim.Native.Nat.{_+_, _*_, _%_, _≤_, _<_}
 use mathlib.Core.Path.{_≡_}
 use mathlib.Core.Bool.{_&&_}
 use native.Mathlib.Omega.{arith}

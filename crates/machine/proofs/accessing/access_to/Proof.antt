@@ -2,7 +2,7 @@
 use Rattle.step.specs.Lent.{coreOf}
 use mathlib.Core.Path.{refl, sym, _∙_}
 use Rattle.v8.specs.Numbers.{noField}
-use Rattle.access.specs.declared.Located.the-variants.{At, Scratch, Nowhere}
+use Rattle.access.specs.declared.Located.the-variants.{Nowhere}
 use Rattle.machine.specs.declared.Moved.the-variants.{Done, Missed}
 use Rattle.machine.proofs.Covered.{lies-at}
 use Rattle.machine.proofs.Moving.{says-done, located-moves}
