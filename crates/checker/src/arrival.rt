@@ -8,7 +8,6 @@ ghost use Rattle.checker.specs.Passes.{arrive};
 ghost use Rattle.checker.specs.Lent.{EndIn};
 use flow::Destination;
 use passes::Answer;
-use passes::RESULT;
 use passes::answers::accept;
 use passes::answers::refuse;
 use passes::answers::unless_fault;
@@ -22,6 +21,9 @@ use rows::read_row;
 use v8::WordIndex;
 use v8::numbers::EDGE_MISFIT;
 use v8::numbers::RESULT_MISFIT;
+
+// r8, which has the result.
+const RESULT: u8 = 8;
 
 // The row of a word.
 pub fn row_at(rows: &[u8], at: WordIndex) -> Row

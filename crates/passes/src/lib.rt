@@ -10,7 +10,6 @@ mod shape;
 // The passes over the words, and the entry row.
 mod words;
 
-pub use shape::RESULT;
 pub use shape::shape_ok;
 pub use shape::start_ok;
 pub use words::entry_pass;

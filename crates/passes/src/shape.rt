@@ -3,16 +3,15 @@ ghost use mathlib.Core.Path.{_≡_};
 ghost use lib.ListN.{length};
 ghost use Rattle.passes.specs.Passes.{startOk, shapeOk};
 use policy::Policy;
-use rows::entry_formed_as;
+use rows::entries::FRAME_ADDRESS;
+use rows::entry_formed;
 use rows::flawless;
 use rows::form_fault;
 use rows::geometry::ENTRY_BYTES;
 use rows::geometry::ROW_BYTES;
+use rows::read_entry;
 use rows::scratch_unset;
 use v8::numbers::MOST_WORDS;
-
-// r8, which has the result.
-pub const RESULT: u8 = 8;
 
 // Whether the words are as many as they may be, and the entry row is one that is well formed, its
 // scratch words unset.
@@ -34,7 +33,7 @@ pub fn start_ok(regions: u8, sizes: &[u16; 8], words: &[u32], entry: &[u8]) -> b
 }
 
 // Whether words, rows, entry row and result entry are as many as they must be, and the last two
-// well formed.
+// well formed; the result entry is r8's, which is not the frame address.
 pub fn shape_ok(policy: Policy, words: &[u32], rows: &[u8], entry: &[u8], result: &[u8]) -> bool
     ensures { λ r. ⌜ r ≡ shapeOk policy (length (now (words .entry))) (now (rows .entry)) (now (entry .entry)) (now (result .entry)) ⌝ }
 {
@@ -47,11 +46,7 @@ pub fn shape_ok(policy: Policy, words: &[u32], rows: &[u8], entry: &[u8], result
     if result.len() != ENTRY_BYTES {
         return false;
     }
-    entry_formed_as(
-        policy.regions.count,
-        &policy.regions.sizes,
-        result,
-        0,
-        RESULT as usize,
-    )
+    let e = read_entry(result, 0);
+    let formed = entry_formed(policy.regions.count, &policy.regions.sizes, result, 0);
+    formed & !(e.kind == FRAME_ADDRESS)
 }

@@ -25,7 +25,7 @@ pub use passes::form_fault;
 pub use passes::formed_at;
 pub use passes::misfit;
 pub use passes::scratch_unset;
-pub use reading::entry_formed_as;
+pub use reading::entry_formed;
 pub use reading::read_entry;
 pub use reading::read_row;
 pub use registers::entry_at;

@@ -5,7 +5,7 @@ ghost use lib.ListN.{length};
 ghost use Rattle.v8.specs.Signed.{excess};
 ghost use Rattle.memory.specs.Memory.{wordAt};
 ghost use Rattle.rows.specs.Geometry.{EntryLies, NoteLies, RowLies};
-ghost use Rattle.rows.specs.Row.{entryOf, entryFormedAs, noteOf, noteFormed, rowOf};
+ghost use Rattle.rows.specs.Row.{entryOf, entryFormed, entryFormedAs, noteOf, noteFormed, rowOf};
 use crate::Entry;
 use crate::Note;
 use crate::Row;
@@ -43,10 +43,21 @@ pub fn read_entry(bytes: &[u8], at: usize) -> Entry
     Entry { kind, region, set }
 }
 
+// Whether the entry that begins at a byte is well formed, its zero byte too.
+pub fn entry_formed(regions: u8, sizes: &[u16; 8], bytes: &[u8], at: usize) -> bool
+    requires { ⌜ EntryLies at (length (now bytes)) ⌝ }
+    ensures { λ r. ⌜ r ≡ entryFormed regions (now (sizes .entry)) (now (bytes .entry)) at ⌝ }
+{
+    let zero = bytes[at + 3];
+    let e = read_entry(bytes, at);
+    (zero == 0) & entry_ok(regions, sizes, e)
+}
+
 // r14, in which alone the frame address may stand.
 pub const FRAME_REGISTER: usize = 14;
 
-// Whether the entry that begins at a byte is well formed as entry i of a row, its zero byte too.
+// Whether the entry that begins at a byte is well formed as entry i of a row: so, and r0's is the
+// single number 0, and the frame address stands in r14.
 pub fn entry_formed_as(regions: u8, sizes: &[u16; 8], bytes: &[u8], at: usize, i: usize) -> bool
     requires { ⌜ EntryLies at (length (now bytes)) ⌝ }
     ensures { λ r. ⌜ r ≡ entryFormedAs regions (now (sizes .entry)) (now (bytes .entry)) at i ⌝ }

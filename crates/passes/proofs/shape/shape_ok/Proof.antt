@@ -1,11 +1,13 @@
 -- By the tests of the definition.
-use mathlib.Core.Path.{_≡_, sym, _∙_}
-use mathlib.Core.Bool.{Bool, true, and-false, _&&_}
+use mathlib.Core.Path.{_≡_, refl, sym, _∙_}
+use mathlib.Core.Bool.{Bool, true, false, not, and-false, _&&_, _||_}
 use native.Mathlib.Omega.{arith}
 use lib.ListN.{length}
 use denote.Ref.{now}
 use borrow.Author.Tests.{eq-eqb, ne-eqb, not-true, not-false}
+use Rattle.rows.specs.Entry.{isFrame}
 use Rattle.rows.specs.Geometry.{entryBytes}
+use Rattle.rows.specs.Row.{entryOf, entryFormed}
 use Rattle.passes.specs.Passes.{startOk, shapeOk}
 use Rattle.passes.proofs.Started.{started, first-fails}
 use borrow.Author.Needs.{needs}
@@ -16,8 +18,20 @@ use Rattle.passes.proofs.shape.shape_ok.Tie as tie
 last-decides : (a b c d : Bool) → a ≡ true → b ≡ true → c ≡ true → d ≡ a && b && c && d
 last-decides a b c d e f g = rw (e, f, g)
 
+-- an entry that is formed and not the frame address is formed as r8's
+as-result : (formed frame : Bool) → (formed && not frame) ≡ (formed && true && (not frame || false))
+as-result true true = refl
+as-result true false = refl
+as-result false frame = refl
+
 abbrev start : tie.Start → Bool
 start s = startOk (s .args .t1 .regions .count) (s .args .t1 .regions .sizes) (length (now (s .args .words))) (now (s .args .entry))
+
+abbrev formed : tie.Start → Bool
+formed s = entryFormed (s .args .t1 .regions .count) (s .args .t1 .regions .sizes) (now (s .args .result)) 0
+
+abbrev framed : tie.Start → Bool
+framed s = isFrame (entryOf (now (s .args .result)) 0)
 
 abbrev start1 : tie.Else1 → tie.Start
 start1 c = c .before .before .before .before .before .before .before .before
@@ -45,18 +59,19 @@ returns-3 : tie.Need-returns-3
 unfolding shapeOk
 returns-3 c = rw (ne-eqb _ entryBytes (c .if3 .taken), and-false)
 
-cast-entry-formed-as : tie.Need-cast-entry-formed-as
-cast-entry-formed-as c = search needs
+read-entry-requires : tie.Need-read-entry-requires
+read-entry-requires c κs = search needs
 
-entry-formed-as-requires : tie.Need-entry-formed-as-requires
-entry-formed-as-requires c κs = search needs
+entry-formed-requires : tie.Need-entry-formed-requires
+entry-formed-requires c κs = search needs
 
 returns-4 : tie.Need-returns-4
 unfolding shapeOk
 returns-4 c =
-    let i = c .before .before .before in
-    c .entry-formed-as .ensures
-    ∙ last-decides (start (start1 (i .before .before))) _ _ _ (right-start (i .before .before)) (eq-eqb _ _ (i .before .if2 .left)) (eq-eqb _ entryBytes (i .if3 .left))
+    let i = c .before .before .before .before .before in
+    rw (c .before .entry-formed .ensures, c .before .before .before .before .read-entry .ensures)
+    (as-result (formed (start1 (i .before .before))) (framed (start1 (i .before .before)))
+    ∙ last-decides (start (start1 (i .before .before))) _ _ _ (right-start (i .before .before)) (eq-eqb _ _ (i .before .if2 .left)) (eq-eqb _ entryBytes (i .if3 .left)))
 
 pub shape-ok-spec : {M : Type 1} → statement M
 shape-ok-spec =
@@ -67,6 +82,6 @@ shape-ok-spec =
     mul-if2
     returns-2
     returns-3
-    cast-entry-formed-as
-    entry-formed-as-requires
+    read-entry-requires
+    entry-formed-requires
     returns-4)
