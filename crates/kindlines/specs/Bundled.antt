@@ -9,11 +9,11 @@ use Rattle.v8.specs.declared.Edition.{Edition}
 use Rattle.v8.specs.Numbers.{acceptance, badBundle}
 use Rattle.policy.specs.declared.Policy.{Policy}
 use Rattle.policy.specs.declared.Built.{Built}
-use Rattle.rows.specs.Geometry.{rowBytes}
 use Rattle.passes.specs.Answer.{refuse}
 use Rattle.lister.specs.Listing.{Listed, listed}
 use Rattle.bundle.specs.Layout.{wordCount, entryPlace, wordsPlace, bundleOk}
-use Rattle.bundle.specs.Bundle.{wordsFrom, part, builtOf}
+use Rattle.bundle.specs.Wide.{entryRead}
+use Rattle.bundle.specs.Bundle.{wordsFrom, builtOf}
 
 -- a refusal that names no word and no register
 abbrev pub unlisted : List ℕ → ℕ → Listed
@@ -22,7 +22,7 @@ unlisted table number = record { answer = refuse number 0 0; table = table }
 module _ (e : Edition) (b table : List ℕ) where
   -- the listing of what stands in the bundle
   abbrev pub listedBy : Policy → Listed
-  listedBy p = listed e p (wordsFrom b (wordsPlace b) (wordCount b)) (part b (entryPlace b) rowBytes) table
+  listedBy p = listed e p (wordsFrom b (wordsPlace b) (wordCount b)) (entryRead b (entryPlace b)) table
 
   abbrev pub listedBuilt : Built → Listed
   listedBuilt built = cond (eqb (built .number) acceptance) (listedBy (built .policy)) (unlisted table (built .number))
