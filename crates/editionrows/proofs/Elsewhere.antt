@@ -21,7 +21,7 @@ use Rattle.sets.specs.Sets.{setOk, fitsSet}
 use Rattle.sets.specs.Narrow.{isMember}
 use Rattle.rows.specs.Entry.{sizeIn, entryOk, fits, noteOk, fitsNote}
 use Rattle.rows.specs.Flaw.{flawFrom}
-use Rattle.rows.specs.Row.{entryAt, entriesWith, entryOf, noteOf, rowOf, formedAt, formFault, fitsAt, misfit}
+use Rattle.rows.specs.Row.{entryAt, entriesWith, entryOf, noteOf, rowOf, formedAt, formFault, scratchUnset, fitsAt, misfit}
 use Rattle.rows.specs.Matches.{Host, RowMatches}
 use Rattle.rules.specs.Change.{noteAfter, branchChange, returnChange}
 use Rattle.rules.specs.Narrow.{narrowRow}
@@ -36,7 +36,7 @@ abbrev host : Host
 host = hostOf [] returns
 
 accepts : checkOf V9 policy words rows entry result ≡ accepted
-unfolding readingOf format00 format10 operandOf signExtend conditionOf lowest first all any policyOk slotRuns targetOf isSlot isTarget setOk fitsSet sizeIn entryOk fits noteOk fitsNote entryAt entriesWith entryOf noteOf rowOf formedAt flawFrom formFault fitsAt misfit noteAfter branchChange returnChange narrowRow passOf shapeOk rowPass readPass flowPass entryPass cross narrowedEdge wordPass answerOf checkOf
+unfolding readingOf format00 format10 operandOf signExtend conditionOf lowest first all any policyOk slotRuns targetOf isSlot isTarget setOk fitsSet sizeIn entryOk fits noteOk fitsNote entryAt entriesWith entryOf noteOf rowOf formedAt flawFrom formFault scratchUnset fitsAt misfit noteAfter branchChange returnChange narrowRow passOf shapeOk rowPass readPass flowPass entryPass cross narrowedEdge wordPass answerOf checkOf
 accepts = refl
 
 row-matches : RowMatches host (rowOf entry 0) (heldOf registers)
