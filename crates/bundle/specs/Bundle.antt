@@ -3,7 +3,6 @@ use Prim.Native.Nat.{ℕ, zero, suc, _+_, _*_}
 use mathlib.Core.Bool.{cond}
 use mathlib.Core.List.{List, [], _∷_}
 use lib.Dec.{eqb}
-use lib.ListN.{take, drop}
 use Rattle.v8.specs.Numbers.{acceptance, badBundle}
 use Rattle.v8.specs.declared.Edition.{Edition}
 use Rattle.memory.specs.Memory.{wordAt}
@@ -11,11 +10,12 @@ use Rattle.policy.specs.declared.Policy.{Policy}
 use Rattle.policy.specs.declared.Field.{Field}
 use Rattle.policy.specs.declared.Built.{Built}
 use Rattle.policy.specs.Build.{emptyPolicy, addRegionOf, addFieldOf}
-use Rattle.rows.specs.Geometry.{rowBytes, entryBytes}
+use Rattle.rows.specs.Geometry.{entryBytes}
 use Rattle.passes.specs.declared.Answer.{Answer}
 use Rattle.passes.specs.Answer.{refuse}
 use Rattle.checker.specs.Passes.{checkOf}
 use Rattle.bundle.specs.Layout.{regionCount, wordCount, regionSize, fieldCount, fieldsBefore, fieldRead, entryPlace, resultPlace, wordsPlace, rowsPlace, bundleOk, wordBytes}
+use Rattle.bundle.specs.Wide.{part, rowsRead, entryRead}
 
 -- an add, unless an earlier one was refused
 unfoldable pub regionTo : Built → ℕ → Built
@@ -28,10 +28,6 @@ fieldTo built r f = cond (eqb (built .number) acceptance) (addFieldOf (built .po
 abbrev pub wordsFrom : List ℕ → ℕ → ℕ → List ℕ
 wordsFrom b at zero = []
 wordsFrom b at (suc n) = wordAt b at ∷ wordsFrom b (at + wordBytes) n
-
--- n bytes from a place on
-abbrev pub part : List ℕ → ℕ → ℕ → List ℕ
-part b at n = take n (drop at b)
 
 module _ (b : List ℕ) where
   -- what the adds of the first n regions give
@@ -58,7 +54,7 @@ module _ (e : Edition) (b : List ℕ) where
   -- the check of what stands in the bundle
   abbrev pub checkedWith : Policy → Answer
   checkedWith p =
-      checkOf e p (wordsFrom b (wordsPlace b) (wordCount b)) (part b (rowsPlace b) (rowBytes * wordCount b)) (part b (entryPlace b) rowBytes)
+      checkOf e p (wordsFrom b (wordsPlace b) (wordCount b)) (rowsRead b (rowsPlace b) (wordCount b)) (entryRead b (entryPlace b))
       (part b (resultPlace b) entryBytes)
 
   abbrev pub afterBuilt : Built → Answer

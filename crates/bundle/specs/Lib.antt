@@ -1,3 +1,4 @@
 pub mod Layout
+pub mod Wide
 pub mod Bundle
 pub mod Open

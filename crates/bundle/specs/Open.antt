@@ -56,6 +56,10 @@ module _ (b : List ℕ) where
   unfoldable pub openedOf : Opened
   openedOf = cond (bundleOk b) (openedBuilt (builtOf b)) (closed badBundle)
 
+-- what stands in the bundle's bytes, opened
+abbrev pub Holds : List ℕ → Opened → Type 0
+Holds b o = (o ≡ openedOf b) × (o .number ≡ acceptance)
+
 -- the words are an array of the most given, no more than those are words, and the places ascend, the last at most at the end of n bytes
 abbrev pub Inside : Opened → ℕ → Type 0
 Inside o n =

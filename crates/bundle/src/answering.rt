@@ -1,10 +1,19 @@
 // The answer to a bundle: its refusal, that of an add, or the check's answer (specs/Bundle.antt).
 ghost use mathlib.Core.Path.{_≡_};
+ghost use mathlib.Core.Bool.{true, false};
+ghost use lib.ListN.{length};
 ghost use Rattle.passes.specs.Answer.{refuse};
+ghost use Rattle.bundle.specs.Layout.{narrow};
 ghost use Rattle.bundle.specs.Bundle.{bundleAnswer};
+ghost use Rattle.bundle.specs.Open.{Holds, Inside};
+use crate::Opened;
+use crate::ROWS_ROOM;
+use crate::layout::is_narrow;
 use crate::opening::open;
+use crate::widening::widen;
 use checker::check;
 use passes::Answer;
+use rows::geometry::ROW_BYTES;
 use v8::Edition;
 use v8::WordIndex;
 use v8::numbers::ACCEPTED;
@@ -21,14 +30,11 @@ fn refused(number: u8) -> Answer
     }
 }
 
-// The answer to a bundle, for a terminal of the edition. Any bytes have one.
-pub fn answer(edition: Edition, bytes: &[u8]) -> Answer
+// The check of what stands in a bundle of version 2, as it stands.
+fn check_wide(edition: Edition, bytes: &[u8], opened: Opened) -> Answer
+    requires { ⌜ Holds (now bytes) opened × Inside opened (length (now bytes)) × (narrow (now bytes) ≡ false) ⌝ }
     ensures { λ r. ⌜ r ≡ bundleAnswer edition (now (bytes .entry)) ⌝ }
 {
-    let opened = open(bytes);
-    if opened.number != ACCEPTED {
-        return refused(opened.number);
-    }
     let words = opened.words;
     let count = opened.count;
     let entry = opened.entry;
@@ -44,4 +50,42 @@ pub fn answer(edition: Edition, bytes: &[u8]) -> Answer
         &bytes[entry..result],
         &bytes[result..code],
     )
+}
+
+// The check of what stands in a bundle of version 1, with its rows widened.
+fn check_narrow(edition: Edition, bytes: &[u8], opened: Opened) -> Answer
+    requires { ⌜ Holds (now bytes) opened × Inside opened (length (now bytes)) × (narrow (now bytes) ≡ true) ⌝ }
+    ensures { λ r. ⌜ r ≡ bundleAnswer edition (now (bytes .entry)) ⌝ }
+{
+    let words = opened.words;
+    let count = opened.count;
+    let result = opened.result;
+    let code = opened.code;
+    let mut entry = [0u8; ROW_BYTES];
+    let mut rows = [0u8; ROWS_ROOM];
+    widen(bytes, opened.entry, 1, &mut entry);
+    widen(bytes, opened.rows, count, &mut rows);
+    let end = ROW_BYTES * count;
+    check(
+        edition,
+        opened.policy,
+        &words[..count],
+        &rows[..end],
+        &entry,
+        &bytes[result..code],
+    )
+}
+
+// The answer to a bundle, for a terminal of the edition. Any bytes have one.
+pub fn answer(edition: Edition, bytes: &[u8]) -> Answer
+    ensures { λ r. ⌜ r ≡ bundleAnswer edition (now (bytes .entry)) ⌝ }
+{
+    let opened = open(bytes);
+    if opened.number != ACCEPTED {
+        return refused(opened.number);
+    }
+    if is_narrow(bytes) {
+        return check_narrow(edition, bytes, opened);
+    }
+    check_wide(edition, bytes, opened)
 }

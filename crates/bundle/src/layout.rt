@@ -1,17 +1,23 @@
-// Where the parts of a bundle stand, and whether bytes are a bundle (specs/Layout.antt).
+// Where the parts of a bundle stand, by its version, and whether bytes are a bundle (specs/Layout.antt).
 ghost use mathlib.Core.Path.{_≡_};
 ghost use Prim.Native.Nat.{_*_, _≤_, _<_};
 ghost use Rattle.v8.specs.Search.{all};
-ghost use Rattle.bundle.specs.Layout.{regionCount, wordCount, fieldCount, regionZero, fieldsBefore, fieldTotal, fieldPlace, fieldZero, entryPlace, lengthGiven, headOk, bundleOk};
+ghost use Rattle.bundle.specs.Layout.{narrow, mostBytes, rowsBytes, regionCount, wordCount, fieldCount, regionZero, fieldsBefore, fieldTotal, fieldPlace, fieldZero, entryPlace, lengthGiven, headOk, bundleOk};
 use memory::byte_at;
 use memory::half_at;
 use rows::geometry::ENTRY_BYTES;
 use rows::geometry::ROW_BYTES;
 
-// The most bytes that a bundle has.
-pub const MOST: usize = 53180;
-// The version of bundles that are read.
-const VERSION: u16 = 1;
+// Version 1: how many bytes a row has, and the most that a bundle has.
+const NARROW_VERSION: u16 = 1;
+
+pub const NARROW_ROW_BYTES: usize = 392;
+
+const NARROW_MOST: usize = 53180;
+// Version 2, whose rows are as the check takes them, and the most bytes that a bundle has.
+const WIDE_VERSION: u16 = 2;
+
+const WIDE_MOST: usize = 62468;
 // How many bytes the parts take: the head, a region, a field, a word.
 pub const HEAD_BYTES: usize = 8;
 
@@ -20,6 +26,34 @@ pub const REGION_BYTES: usize = 4;
 pub const FIELD_BYTES: usize = 16;
 
 pub const WORD_BYTES: usize = 4;
+
+// Whether the bundle is of version 1, whose rows have no scratch words.
+pub fn is_narrow(bytes: &[u8]) -> bool
+    ensures { λ r. ⌜ r ≡ narrow (now (bytes .entry)) ⌝ }
+{
+    half_at(bytes, 3) == NARROW_VERSION
+}
+
+// The most bytes that a bundle of its version has.
+pub fn most_bytes(bytes: &[u8]) -> usize
+    ensures { λ r. ⌜ r ≡ mostBytes (now (bytes .entry)) ⌝ }
+{
+    if is_narrow(bytes) {
+        return NARROW_MOST;
+    }
+    WIDE_MOST
+}
+
+// How many bytes n of its rows take.
+pub fn rows_bytes(bytes: &[u8], n: usize) -> usize
+    requires { ⌜ n < 65536 ⌝ }
+    ensures { λ r. ⌜ (r ≡ rowsBytes (now (bytes .entry)) n) × (r ≤ 464 * n) ⌝ }
+{
+    if is_narrow(bytes) {
+        return NARROW_ROW_BYTES * n;
+    }
+    ROW_BYTES * n
+}
 
 // How many regions there are.
 pub fn region_count(bytes: &[u8]) -> usize
@@ -100,7 +134,8 @@ pub fn length_given(bytes: &[u8]) -> usize
     ensures { λ r. ⌜ r ≡ lengthGiven (now (bytes .entry)) ⌝ }
 {
     let words = word_count(bytes);
-    entry_place(bytes) + ROW_BYTES + ENTRY_BYTES + WORD_BYTES * words + ROW_BYTES * words
+    let rows = rows_bytes(bytes, words);
+    entry_place(bytes) + rows_bytes(bytes, 1) + ENTRY_BYTES + WORD_BYTES * words + rows
 }
 
 // Whether the mark and the version are right.
@@ -111,7 +146,8 @@ pub fn head_ok(bytes: &[u8]) -> bool
     let second = byte_at(bytes, 1);
     let third = byte_at(bytes, 2);
     let version = half_at(bytes, 3);
-    (first == b'W') & (second == b'T') & (third == b'R') & (version == VERSION)
+    let read = (version == NARROW_VERSION) | (version == WIDE_VERSION);
+    (first == b'W') & (second == b'T') & (third == b'R') & read
 }
 
 // Whether the zeros of all regions are zero.
@@ -149,7 +185,7 @@ pub fn bundle_ok(bytes: &[u8]) -> bool
     ensures { λ r. ⌜ r ≡ bundleOk (now (bytes .entry)) ⌝ }
 {
     let length = bytes.len();
-    if MOST < length {
+    if most_bytes(bytes) < length {
         return false;
     }
     if !head_ok(bytes) {

@@ -6,6 +6,8 @@ use policy::Policy;
 pub mod layout;
 // The bundle's policy.
 pub mod building;
+// The rows of version 1, in the form of version 2.
+mod widening;
 // The bundle, opened.
 mod opening;
 // The answer to a bundle.
@@ -13,9 +15,13 @@ mod answering;
 
 pub use answering::answer;
 pub use opening::open;
+pub use widening::widen;
 
 // No bundle gives more words.
 pub const MOST_GIVEN: usize = 133;
+
+// Room for as many rows, of 464 bytes each.
+pub const ROWS_ROOM: usize = 61712;
 
 // A bundle, opened: 0 and its policy, how many words it has and the words, with zeros after them, and
 // the places in its bytes where the entry row, the result entry, the words and the rows begin and the

@@ -3,7 +3,7 @@
 ghost use mathlib.Core.Path.{_≡_};
 ghost use Prim.Native.Nat.{_≤_};
 ghost use lib.ListN.{length};
-ghost use Rattle.bundle.specs.Layout.{most, mostGiven, lengthGiven};
+ghost use Rattle.bundle.specs.Layout.{mostBytes, mostGiven, wideMost, lengthGiven};
 ghost use Rattle.bundle.specs.Open.{wordsHeld, closed, openedWith, openedOf, Inside};
 use crate::MOST_GIVEN;
 use crate::Opened;
@@ -11,17 +11,17 @@ use crate::building::built_of;
 use crate::layout::WORD_BYTES;
 use crate::layout::bundle_ok;
 use crate::layout::entry_place;
+use crate::layout::rows_bytes;
 use crate::layout::word_count;
 use memory::word_at;
 use policy::Policy;
 use rows::geometry::ENTRY_BYTES;
-use rows::geometry::ROW_BYTES;
 use v8::numbers::ACCEPTED;
 use v8::numbers::BAD_BUNDLE;
 
 // The words that stand from a place on, `count` of them, and zeros after them.
 fn words_from(bytes: &[u8], at: usize, count: usize) -> [u32; MOST_GIVEN]
-    requires { ⌜ (at ≤ most) × (count ≤ mostGiven) ⌝ }
+    requires { ⌜ (at ≤ wideMost) × (count ≤ mostGiven) ⌝ }
     ensures { λ r. ⌜ r ≡ wordsHeld (now (bytes .entry)) at count ⌝ }
 {
     let mut words = [0u32; MOST_GIVEN];
@@ -53,15 +53,15 @@ fn closed(number: u8) -> Opened
 
 // What stands in a bundle, with its policy.
 fn opened_with(bytes: &[u8], policy: Policy) -> Opened
-    requires { ⌜ (length (now bytes) ≡ lengthGiven (now bytes)) × (length (now bytes) ≤ most) ⌝ }
+    requires { ⌜ (length (now bytes) ≡ lengthGiven (now bytes)) × (length (now bytes) ≤ mostBytes (now bytes)) ⌝ }
     ensures { λ r. ⌜ r ≡ openedWith (now (bytes .entry)) policy ⌝ }
 {
     let count = word_count(bytes);
     let entry = entry_place(bytes);
-    let result = entry + ROW_BYTES;
+    let result = entry + rows_bytes(bytes, 1);
     let code = result + ENTRY_BYTES;
     let rows = code + WORD_BYTES * count;
-    let end = rows + ROW_BYTES * count;
+    let end = rows + rows_bytes(bytes, count);
     let words = words_from(bytes, code, count);
     Opened {
         number: ACCEPTED,

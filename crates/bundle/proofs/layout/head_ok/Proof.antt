@@ -1,4 +1,5 @@
 -- The five bytes of mark and version are read one by one and compared with the definition's.
+
 use borrow.Author.Needs.{needs}
 use Rattle.bundle.proofs.layout.head_ok.Statement.{statement}
 use Rattle.bundle.proofs.layout.head_ok.Tie as tie
