@@ -17,7 +17,7 @@ use Rattle.machine.specs.Run.{runFrom, refusalOf, runOf}
 use Rattle.sets.specs.Sets.{setOk, fitsSet}
 use Rattle.rows.specs.Entry.{sizeIn, entryOk, fits, noteOk, fitsNote}
 use Rattle.rows.specs.Flaw.{flawFrom}
-use Rattle.rows.specs.Row.{entryAt, entriesWith, entryOf, noteOf, rowOf, formedAt, formFault, fitsAt, misfit}
+use Rattle.rows.specs.Row.{entryAt, entriesWith, entryOf, noteOf, rowOf, formedAt, formFault, scratchUnset, fitsAt, misfit}
 use Rattle.rules.specs.Result.{aluResult}
 use Rattle.rules.specs.Change.{noteAfter, aluChange, returnChange}
 use Rattle.rules.specs.Narrow.{narrowRow}
@@ -47,7 +47,7 @@ unfolding readingOf format00 format10 format11 operandOf countOf signExtend lowe
 places-hold e = refl
 
 checks-hold : (e : Edition) → Trials·.Holds e checkRows
-unfolding readingOf format00 format10 format11 operandOf countOf signExtend conditionOf lowest first all any widthOf leastOf mostOf fieldAt valuesOk fieldOk endBefore fieldFits fieldAtOk regionOk policyOk slotRuns targetOf isSlot isTarget setOk fitsSet sizeIn entryOk fits noteOk fitsNote entryAt entriesWith entryOf noteOf rowOf formedAt flawFrom formFault fitsAt misfit aluResult noteAfter aluChange returnChange narrowRow passOf shapeOk rowPass readPass flowPass entryPass cross narrowedEdge wordPass answerOf checkOf
+unfolding readingOf format00 format10 format11 operandOf countOf signExtend conditionOf lowest first all any widthOf leastOf mostOf fieldAt valuesOk fieldOk endBefore fieldFits fieldAtOk regionOk policyOk slotRuns targetOf isSlot isTarget setOk fitsSet sizeIn entryOk fits noteOk fitsNote entryAt entriesWith entryOf noteOf rowOf formedAt flawFrom formFault scratchUnset fitsAt misfit aluResult noteAfter aluChange returnChange narrowRow passOf shapeOk rowPass readPass flowPass entryPass cross narrowedEdge wordPass answerOf checkOf
 checks-hold e = refl
 
 runs-hold : (e : Edition) → Trials·.Holds e runRows
@@ -55,7 +55,7 @@ unfolding readingOf format00 format10 format11 operandOf countOf signExtend cond
 runs-hold e = refl
 
 lists-hold : (e : Edition) → Kinds·.Holds e listRows
-unfolding readingOf format00 format10 format11 operandOf countOf signExtend lowest first all any slotRuns targetOf isSlot isTarget widthOf leastOf mostOf fieldAt valuesOk fieldOk endBefore fieldFits fieldAtOk regionOk policyOk setOk sizeIn entryOk noteOk entryOf noteOf formedAt flawFrom formFault passOf readPass flowPass Marks·.meet Marks·.markOf Marks·.marksWith ofNumbers orMark marksAt reached raisedAt entryMarks sentBy takenIn closedAt closed raisedByWords raisedOnce raisedUntilClosed listingOf listingAnswer listed
+unfolding readingOf format00 format10 format11 operandOf countOf signExtend lowest first all any slotRuns targetOf isSlot isTarget widthOf leastOf mostOf fieldAt valuesOk fieldOk endBefore fieldFits fieldAtOk regionOk policyOk setOk sizeIn entryOk noteOk entryOf noteOf formedAt flawFrom formFault scratchUnset passOf readPass flowPass Marks·.meet Marks·.markOf Marks·.marksWith ofNumbers orMark marksAt reached raisedAt entryMarks sentBy takenIn closedAt closed raisedByWords raisedOnce raisedUntilClosed listingOf listingAnswer listed
 lists-hold e = refl
 
 pub table-holds : (e : Edition) → TableHolds e

@@ -16,46 +16,46 @@ use Rattle.memory.specs.Place.{partStart}
 use Rattle.step.specs.Registers.{valueIn, setIn, valuesWith, marksWith}
 use Rattle.step.specs.Step.{stepOf}
 use Rattle.machine.specs.Placement.{disjointIn, placedIn}
-use Rattle.machine.specs.Run.{runFrom, refusalOf, runOf}
+use Rattle.machine.specs.Run.{startState, runFrom, refusalOf, runOf}
 use Rattle.sets.specs.Sets.{setOk, fitsSet}
 use Rattle.sets.specs.Narrow.{isMember}
 use Rattle.rows.specs.Entry.{sizeIn, entryOk, fits, noteOk, fitsNote}
 use Rattle.rows.specs.Flaw.{flawFrom}
-use Rattle.rows.specs.Row.{entryAt, entriesWith, entryOf, noteOf, rowOf, formedAt, formFault, fitsAt, misfit}
+use Rattle.rows.specs.Row.{entryAt, entriesWith, entryOf, noteOf, rowOf, formedAt, formFault, scratchUnset, fitsAt, misfit}
 use Rattle.rows.specs.Matches.{Host, RowMatches}
 use Rattle.rules.specs.Change.{noteAfter, branchChange, returnChange}
 use Rattle.rules.specs.Narrow.{narrowRow}
 use Rattle.passes.specs.Answer.{accepted, passOf}
 use Rattle.passes.specs.Passes.{shapeOk, rowPass, readPass, flowPass, entryPass}
 use Rattle.checker.specs.Passes.{cross, narrowedEdge, wordPass, answerOf, checkOf}
-use Rattle.guarantee.specs.Guarantee.{hostOf, heldOf, Start}
+use Rattle.guarantee.specs.Guarantee.{hostOf, valueAt, markAt, heldOf, Start}
 use Rattle.claims.proofs.Matching.{below, registers-match, fields-hold}
-use Rattle.editionrows.specs.Elsewhere.{GuaranteedElsewhere, words, policy, entry, rows, result, returns, registers, Elsewhere}
+use Rattle.editionrows.specs.Elsewhere.{GuaranteedElsewhere, words, policy, entry, rows, result, returns, frame, registers, memory, Elsewhere}
 
 abbrev host : Host
-host = hostOf [] returns
+host = hostOf [] returns frame
 
 accepts : checkOf V9 policy words rows entry result ≡ accepted
-unfolding readingOf format00 format10 operandOf signExtend conditionOf lowest first all any policyOk slotRuns targetOf isSlot isTarget setOk fitsSet sizeIn entryOk fits noteOk fitsNote entryAt entriesWith entryOf noteOf rowOf formedAt flawFrom formFault fitsAt misfit noteAfter branchChange returnChange narrowRow passOf shapeOk rowPass readPass flowPass entryPass cross narrowedEdge wordPass answerOf checkOf
+unfolding readingOf format00 format10 operandOf signExtend conditionOf lowest first all any policyOk slotRuns targetOf isSlot isTarget setOk fitsSet sizeIn entryOk fits noteOk fitsNote entryAt entriesWith entryOf noteOf rowOf formedAt flawFrom formFault scratchUnset fitsAt misfit noteAfter branchChange returnChange narrowRow passOf shapeOk rowPass readPass flowPass entryPass cross narrowedEdge wordPass answerOf checkOf
 accepts = refl
 
-row-matches : RowMatches host (rowOf entry 0) (heldOf registers)
-unfolding all rowOf entryOf noteOf entryAt valueIn setIn isMember
+row-matches : RowMatches host (rowOf entry 0) (heldOf policy (startState registers memory .core))
+unfolding all rowOf entryOf noteOf entryAt valueIn setIn isMember valueAt markAt partStart
 row-matches =
     record {
-      entries = registers-match host (rowOf entry 0) registers refl;
+      entries = registers-match host (rowOf entry 0) (heldOf policy (startState registers memory .core)) refl;
       note = record { coded = λ e. false-true (sym e); compared = λ e. false-true e };
     }
 
-start-matches : Start policy entry [] returns registers []
+start-matches : Start policy entry [] returns frame registers memory
 unfolding all disjointIn placedIn partStart
 start-matches =
     record {
       words = record { values = refl; marks = refl; small = below 4294967296 (omega arith) (registers .values) refl };
-      bytes = below 256 (omega arith) [] refl;
+      bytes = below 256 (omega arith) memory refl;
       placed = refl;
       row = row-matches;
-      fields = fields-hold policy host [] refl;
+      fields = fields-hold policy host memory refl;
     }
 
 pub elsewhere : Elsewhere
@@ -72,4 +72,4 @@ elsewhere =
 
 pub not-elsewhere : GuaranteedElsewhere → ⊥
 unfolding readingOf format00 format10 operandOf signExtend condHolds conditionOf all lowest first policyOk partStart valueIn setIn valuesWith marksWith slotRuns targetOf stepOf disjointIn placedIn runFrom refusalOf runOf
-not-elsewhere g = g V9 V8 policy words rows entry result accepts [] returns registers [] start-matches 9 .ends
+not-elsewhere g = g V9 V8 policy words rows entry result accepts [] returns frame registers memory start-matches 9 .ends

@@ -23,9 +23,9 @@ use Rattle.sets.specs.Rules.{within, addSets}
 use Rattle.sets.specs.Narrow.{atMost, atLeast, lessThan, isMember, only, without}
 use Rattle.rows.specs.Entry.{sizeIn, entryOk, fits, noteOk, fitsNote, fieldEntry}
 use Rattle.rows.specs.Flaw.{flawFrom}
-use Rattle.rows.specs.Row.{entryAt, entriesWith, entryOf, noteOf, rowOf, formedAt, formFault, fitsAt, misfit}
+use Rattle.rows.specs.Row.{entryAt, entriesWith, entryOf, noteOf, rowOf, formedAt, formFault, scratchUnset, fitsAt, misfit}
 use Rattle.rules.specs.Result.{offsetsGive, addressSum, aluResult}
-use Rattle.rules.specs.Reach.{inField, inRegion, reachOf}
+use Rattle.rules.specs.Reach.{inField, inRegion, frameReach, reachOf}
 use Rattle.rules.specs.Change.{noteAfter, codesNote, aluChange, accessChange, branchChange, returnChange}
 use Rattle.rules.specs.Narrow.{narrowEntry, narrowRow}
 use Rattle.passes.specs.Answer.{passOf}
@@ -89,15 +89,15 @@ unfolding readingOf format00 format10 format11 operandOf countOf signExtend lowe
 flow-passes = refl
 
 word-passes : Slots·.Holds V9 Passes.wordRows
-unfolding readingOf format00 format10 format11 operandOf countOf signExtend conditionOf lowest first any widthOf fieldAt holdsIn stopOf findIn slotRuns targetOf isSlot isTarget ended fitsSet within addSets atMost atLeast lessThan isMember only without fits fitsNote fieldEntry entryAt entriesWith entryOf noteOf rowOf flawFrom fitsAt misfit offsetsGive addressSum aluResult inField inRegion reachOf noteAfter codesNote aluChange accessChange branchChange returnChange narrowEntry narrowRow passOf flowPass cross narrowedEdge wordPass
+unfolding readingOf format00 format10 format11 operandOf countOf signExtend conditionOf lowest first any widthOf fieldAt holdsIn stopOf findIn slotRuns targetOf isSlot isTarget ended fitsSet within addSets atMost atLeast lessThan isMember only without fits fitsNote fieldEntry entryAt entriesWith entryOf noteOf rowOf flawFrom fitsAt misfit offsetsGive addressSum aluResult inField inRegion frameReach reachOf noteAfter codesNote aluChange accessChange branchChange returnChange narrowEntry narrowRow passOf flowPass cross narrowedEdge wordPass
 word-passes = refl
 
 checks-newer : Holds V9 Checks.newerRows
-unfolding readingOf format00 format10 format11 operandOf countOf signExtend conditionOf lowest first all any widthOf leastOf mostOf fieldAt valuesOk fieldOk endBefore fieldFits fieldAtOk regionOk policyOk regionNumber fieldNumber built slotRuns targetOf isSlot isTarget setOk fitsSet sizeIn entryOk fits noteOk fitsNote entryAt entriesWith entryOf noteOf rowOf formedAt flawFrom formFault fitsAt misfit noteAfter branchChange narrowRow passOf shapeOk rowPass readPass flowPass entryPass cross narrowedEdge wordPass answerOf checkOf fieldsBefore fieldRead bundleOk regionTo fieldTo withRegions withFieldsOf withFields bundleAnswer
+unfolding readingOf format00 format10 format11 operandOf countOf signExtend conditionOf lowest first all any widthOf leastOf mostOf fieldAt valuesOk fieldOk endBefore fieldFits fieldAtOk regionOk policyOk regionNumber fieldNumber built slotRuns targetOf isSlot isTarget setOk fitsSet sizeIn entryOk fits noteOk fitsNote entryAt entriesWith entryOf noteOf rowOf formedAt flawFrom formFault scratchUnset fitsAt misfit noteAfter branchChange narrowRow passOf shapeOk rowPass readPass flowPass entryPass cross narrowedEdge wordPass answerOf checkOf fieldsBefore fieldRead bundleOk regionTo fieldTo withRegions withFieldsOf withFields bundleAnswer
 checks-newer = refl
 
 checks-older : Holds V8 Checks.olderRows
-unfolding readingOf format00 format10 format11 operandOf countOf signExtend lowest first all widthOf leastOf mostOf fieldAt valuesOk fieldOk endBefore fieldFits fieldAtOk regionOk policyOk regionNumber fieldNumber built setOk sizeIn entryOk noteOk entryOf noteOf rowOf formedAt flawFrom formFault passOf shapeOk rowPass readPass answerOf checkOf fieldsBefore fieldRead bundleOk regionTo fieldTo withRegions withFieldsOf withFields bundleAnswer
+unfolding readingOf format00 format10 format11 operandOf countOf signExtend lowest first all widthOf leastOf mostOf fieldAt valuesOk fieldOk endBefore fieldFits fieldAtOk regionOk policyOk regionNumber fieldNumber built setOk sizeIn entryOk noteOk entryOf noteOf rowOf formedAt flawFrom formFault scratchUnset passOf shapeOk rowPass readPass answerOf checkOf fieldsBefore fieldRead bundleOk regionTo fieldTo withRegions withFieldsOf withFields bundleAnswer
 checks-older = refl
 
 runs-newer : Holds V9 Runs.newerRows
@@ -114,11 +114,11 @@ runs-either V8 = refl
 runs-either V9 = refl
 
 lists-newer : Kinds·.Holds V9 Lists.newerRows
-unfolding readingOf format00 format10 format11 operandOf countOf signExtend lowest first all any slotRuns targetOf isSlot isTarget widthOf leastOf mostOf fieldAt valuesOk fieldOk endBefore fieldFits fieldAtOk regionOk policyOk setOk sizeIn entryOk noteOk entryOf noteOf formedAt flawFrom formFault passOf readPass flowPass Marks·.meet Marks·.markOf Marks·.marksWith ofNumbers orMark marksAt reached raisedAt entryMarks sentBy takenIn closedAt closed raisedByWords raisedOnce raisedUntilClosed listingOf listingAnswer listed
+unfolding readingOf format00 format10 format11 operandOf countOf signExtend lowest first all any slotRuns targetOf isSlot isTarget widthOf leastOf mostOf fieldAt valuesOk fieldOk endBefore fieldFits fieldAtOk regionOk policyOk setOk sizeIn entryOk noteOk entryOf noteOf formedAt flawFrom formFault scratchUnset passOf readPass flowPass Marks·.meet Marks·.markOf Marks·.marksWith ofNumbers orMark marksAt reached raisedAt entryMarks sentBy takenIn closedAt closed raisedByWords raisedOnce raisedUntilClosed listingOf listingAnswer listed
 lists-newer = refl
 
 lists-older : Kinds·.Holds V8 Lists.olderRows
-unfolding readingOf format00 format10 format11 operandOf countOf signExtend lowest first all widthOf leastOf mostOf fieldAt valuesOk fieldOk endBefore fieldFits fieldAtOk regionOk policyOk setOk sizeIn entryOk noteOk entryOf noteOf formedAt flawFrom formFault passOf readPass listingOf listingAnswer listed
+unfolding readingOf format00 format10 format11 operandOf countOf signExtend lowest first all widthOf leastOf mostOf fieldAt valuesOk fieldOk endBefore fieldFits fieldAtOk regionOk policyOk setOk sizeIn entryOk noteOk entryOf noteOf formedAt flawFrom formFault scratchUnset passOf readPass listingOf listingAnswer listed
 lists-older = refl
 
 newer-holds : NewerHolds

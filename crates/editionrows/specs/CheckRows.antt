@@ -4,7 +4,7 @@
 use Prim.Native.Nat.{ℕ}
 use mathlib.Core.List.{List, [], _∷_, _++_}
 use Rattle.trials.specs.Case.{Row, Given, _gives_, bundle, answers}
-use Rattle.trials.specs.Entries.{unset, wordThen, bytesOf, bytesOfEntry, bytesOfRows}
+use Rattle.trials.specs.Entries.{unset, wordThen, bytesOfEntry, narrowOf, narrowOfRows}
 use Rattle.trials.specs.CheckRows.{flow}
 use Rattle.trials.specs.BundleRows.{head, called}
 use Rattle.editionrows.specs.Hints.{allGive}
@@ -12,7 +12,7 @@ use Rattle.editionrows.specs.Hints.{allGive}
 -- a bundle of no region: a word and a nop, at a call
 abbrev pub bundled : ℕ → Given
 bundled w =
-    bundle (head 0x52 1 0 2 ++ bytesOf called ++ bytesOfEntry unset ++ wordThen w (wordThen 0x01000000 (bytesOfRows (called ∷ called ∷ []))))
+    bundle (head 0x52 1 0 2 ++ narrowOf called ++ bytesOfEntry unset ++ wordThen w (wordThen 0x01000000 (narrowOfRows (called ∷ called ∷ []))))
 
 -- a predicted branch and a nop, as words and as a bundle: ba,pn %icc 0; nop, and ba,pt %icc 0; nop
 abbrev pub looped : List Row

@@ -10,7 +10,7 @@ use Rattle.policy.specs.Element.{widthOf, leastOf, mostOf}
 use Rattle.policy.specs.Policy.{fieldAt, valuesOk, fieldOk, endBefore, fieldFits, fieldAtOk, regionOk, policyOk}
 use Rattle.sets.specs.Sets.{setOk}
 use Rattle.rows.specs.Entry.{sizeIn, entryOk, noteOk}
-use Rattle.rows.specs.Row.{entryOf, noteOf, formedAt, formFault}
+use Rattle.rows.specs.Row.{entryOf, noteOf, formedAt, formFault, scratchUnset}
 use Rattle.rows.specs.Flaw.{flawFrom}
 use Rattle.passes.specs.Answer.{passOf}
 use Rattle.passes.specs.Passes.{readPass, flowPass}
@@ -32,11 +32,11 @@ unfolding readingOf format00 format10 format11 operandOf countOf signExtend mark
 words-hold e = refl
 
 lists-hold : (e : Edition) → Holds e listRows
-unfolding readingOf format00 format10 format11 operandOf countOf signExtend lowest first all slotRuns targetOf isSlot isTarget any widthOf leastOf mostOf fieldAt valuesOk fieldOk endBefore fieldFits fieldAtOk regionOk policyOk setOk sizeIn entryOk noteOk entryOf noteOf formedAt flawFrom formFault passOf readPass flowPass meet markOf marksWith ofNumbers sumMark differenceMark orMark marksAt reached raisedAt entryMarks sentBy takenIn closedAt closed raisedByWords raisedOnce raisedUntilClosed listingOf listingAnswer listed
+unfolding readingOf format00 format10 format11 operandOf countOf signExtend lowest first all slotRuns targetOf isSlot isTarget any widthOf leastOf mostOf fieldAt valuesOk fieldOk endBefore fieldFits fieldAtOk regionOk policyOk setOk sizeIn entryOk noteOk entryOf noteOf formedAt flawFrom formFault scratchUnset passOf readPass flowPass meet markOf marksWith ofNumbers sumMark differenceMark orMark marksAt reached raisedAt entryMarks sentBy takenIn closedAt closed raisedByWords raisedOnce raisedUntilClosed listingOf listingAnswer listed
 lists-hold e = refl
 
 refusals-hold : (e : Edition) → Holds e refusedRows
-unfolding readingOf format00 format10 format11 operandOf countOf signExtend lowest first all slotRuns targetOf isSlot isTarget any widthOf leastOf mostOf fieldAt valuesOk fieldOk endBefore fieldFits fieldAtOk regionOk policyOk setOk sizeIn entryOk noteOk entryOf noteOf formedAt flawFrom formFault passOf readPass flowPass meet markOf marksWith ofNumbers sumMark differenceMark orMark marksAt reached raisedAt entryMarks sentBy takenIn closedAt closed raisedByWords raisedOnce raisedUntilClosed listingOf listingAnswer listed
+unfolding readingOf format00 format10 format11 operandOf countOf signExtend lowest first all slotRuns targetOf isSlot isTarget any widthOf leastOf mostOf fieldAt valuesOk fieldOk endBefore fieldFits fieldAtOk regionOk policyOk setOk sizeIn entryOk noteOk entryOf noteOf formedAt flawFrom formFault scratchUnset passOf readPass flowPass meet markOf marksWith ofNumbers sumMark differenceMark orMark marksAt reached raisedAt entryMarks sentBy takenIn closedAt closed raisedByWords raisedOnce raisedUntilClosed listingOf listingAnswer listed
 refusals-hold e = refl
 
 pub table-holds : (e : Edition) → TableHolds e

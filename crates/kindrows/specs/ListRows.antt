@@ -123,7 +123,7 @@ refusedRows =
     -- 21: no words, 129 words; an entry row of another length, badly formed; a table of another length
     ∷ refused policy [] (bytesOf entry) tableMarks 21 0
     ∷ refused policy (replicate 129 0x01000000) (bytesOf entry) tableMarks 21 0
-    ∷ refused policy leaf (take 391 (bytesOf entry)) tableMarks 21 0
+    ∷ refused policy leaf (take 463 (bytesOf entry)) tableMarks 21 0
     ∷ refused policy leaf (bytesOf entry ++ 0 ∷ []) tableMarks 21 0
     ∷ refused policy leaf (bytesOf (put 4 (entryWith 5 0 0 bias bias) entry)) tableMarks 21 0
     ∷ refused policy leaf (bytesOf (put 2 (addr 1 8 bias bias) entry)) tableMarks 21 0

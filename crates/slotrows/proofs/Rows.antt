@@ -20,9 +20,9 @@ use Rattle.sets.specs.Rules.{within, addSets}
 use Rattle.sets.specs.Narrow.{atMost, atLeast, lessThan, isMember, only, without}
 use Rattle.rows.specs.Entry.{sizeIn, entryOk, fits, noteOk, fitsNote, fieldEntry}
 use Rattle.rows.specs.Flaw.{flawFrom}
-use Rattle.rows.specs.Row.{entryAt, entriesWith, entryOf, noteOf, rowOf, formedAt, formFault, fitsAt, misfit}
+use Rattle.rows.specs.Row.{entryAt, entriesWith, entryOf, noteOf, rowOf, formedAt, formFault, scratchUnset, fitsAt, misfit}
 use Rattle.rules.specs.Result.{offsetsGive, addressSum, aluResult}
-use Rattle.rules.specs.Reach.{inField, inRegion, reachOf}
+use Rattle.rules.specs.Reach.{inField, inRegion, frameReach, reachOf}
 use Rattle.rules.specs.Change.{noteAfter, codesNote, aluChange, accessChange, branchChange, returnChange}
 use Rattle.rules.specs.Narrow.{narrowEntry, narrowRow}
 use Rattle.passes.specs.Answer.{passOf}
@@ -47,7 +47,7 @@ unfolding readingOf format00 format10 format11 operandOf countOf signExtend lowe
 flows-hold e = refl
 
 shared-hold : (e : Edition) → Holds e sharedRows
-unfolding readingOf format00 format10 format11 operandOf countOf signExtend conditionOf lowest first any widthOf fieldAt holdsIn stopOf findIn slotRuns targetOf isSlot isTarget ended fitsSet within addSets fits fitsNote fieldEntry entryAt entriesWith entryOf noteOf rowOf flawFrom fitsAt misfit offsetsGive addressSum aluResult inField inRegion reachOf noteAfter codesNote aluChange accessChange branchChange returnChange narrowRow passOf flowPass cross narrowedEdge wordPass
+unfolding readingOf format00 format10 format11 operandOf countOf signExtend conditionOf lowest first any widthOf fieldAt holdsIn stopOf findIn slotRuns targetOf isSlot isTarget ended fitsSet within addSets fits fitsNote fieldEntry entryAt entriesWith entryOf noteOf rowOf flawFrom fitsAt misfit offsetsGive addressSum aluResult inField inRegion frameReach reachOf noteAfter codesNote aluChange accessChange branchChange returnChange narrowRow passOf flowPass cross narrowedEdge wordPass
 shared-hold e = refl
 
 own-hold : (e : Edition) → Holds e ownRows
@@ -59,11 +59,11 @@ unfolding readingOf format00 format10 format11 operandOf countOf signExtend cond
 homes-hold e = refl
 
 idle-hold : (e : Edition) → Holds e idleRows
-unfolding readingOf format00 format10 format11 operandOf countOf signExtend conditionOf lowest first any widthOf fieldAt holdsIn stopOf findIn slotRuns targetOf isSlot isTarget ended fitsSet within addSets fits fitsNote fieldEntry entryAt entriesWith entryOf noteOf rowOf flawFrom fitsAt misfit offsetsGive addressSum aluResult inField inRegion reachOf noteAfter accessChange branchChange returnChange narrowRow passOf flowPass cross narrowedEdge wordPass
+unfolding readingOf format00 format10 format11 operandOf countOf signExtend conditionOf lowest first any widthOf fieldAt holdsIn stopOf findIn slotRuns targetOf isSlot isTarget ended fitsSet within addSets fits fitsNote fieldEntry entryAt entriesWith entryOf noteOf rowOf flawFrom fitsAt misfit offsetsGive addressSum aluResult inField inRegion frameReach reachOf noteAfter accessChange branchChange returnChange narrowRow passOf flowPass cross narrowedEdge wordPass
 idle-hold e = refl
 
 checks-hold : (e : Edition) → Trials·.Holds e checkRows
-unfolding readingOf format00 format10 format11 operandOf countOf signExtend conditionOf lowest first all any widthOf leastOf mostOf fieldAt valuesOk fieldOk endBefore fieldFits fieldAtOk regionOk policyOk holdsIn stopOf findIn slotRuns targetOf isSlot isTarget ended setOk fitsSet within addSets sizeIn entryOk fits noteOk fitsNote fieldEntry entryAt entriesWith entryOf noteOf rowOf formedAt flawFrom formFault fitsAt misfit offsetsGive addressSum aluResult inField inRegion reachOf noteAfter codesNote aluChange accessChange branchChange returnChange narrowRow passOf shapeOk rowPass readPass flowPass entryPass cross narrowedEdge wordPass answerOf checkOf
+unfolding readingOf format00 format10 format11 operandOf countOf signExtend conditionOf lowest first all any widthOf leastOf mostOf fieldAt valuesOk fieldOk endBefore fieldFits fieldAtOk regionOk policyOk holdsIn stopOf findIn slotRuns targetOf isSlot isTarget ended setOk fitsSet within addSets sizeIn entryOk fits noteOk fitsNote fieldEntry entryAt entriesWith entryOf noteOf rowOf formedAt flawFrom formFault scratchUnset fitsAt misfit offsetsGive addressSum aluResult inField inRegion frameReach reachOf noteAfter codesNote aluChange accessChange branchChange returnChange narrowRow passOf shapeOk rowPass readPass flowPass entryPass cross narrowedEdge wordPass answerOf checkOf
 checks-hold e = refl
 
 runs-hold : (e : Edition) → Trials·.Holds e runRows
@@ -71,7 +71,7 @@ unfolding readingOf format00 format10 format11 operandOf countOf signExtend cond
 runs-hold e = refl
 
 lists-hold : (e : Edition) → Kinds·.Holds e listRows
-unfolding readingOf format00 format10 format11 operandOf countOf signExtend lowest first all any slotRuns targetOf isSlot isTarget widthOf leastOf mostOf fieldAt valuesOk fieldOk endBefore fieldFits fieldAtOk regionOk policyOk setOk sizeIn entryOk noteOk entryOf noteOf formedAt flawFrom formFault passOf readPass flowPass Marks·.meet Marks·.markOf Marks·.marksWith ofNumbers orMark marksAt reached raisedAt entryMarks sentBy takenIn closedAt closed raisedByWords raisedOnce raisedUntilClosed listingOf listingAnswer listed
+unfolding readingOf format00 format10 format11 operandOf countOf signExtend lowest first all any slotRuns targetOf isSlot isTarget widthOf leastOf mostOf fieldAt valuesOk fieldOk endBefore fieldFits fieldAtOk regionOk policyOk setOk sizeIn entryOk noteOk entryOf noteOf formedAt flawFrom formFault scratchUnset passOf readPass flowPass Marks·.meet Marks·.markOf Marks·.marksWith ofNumbers orMark marksAt reached raisedAt entryMarks sentBy takenIn closedAt closed raisedByWords raisedOnce raisedUntilClosed listingOf listingAnswer listed
 lists-hold e = refl
 
 pub table-holds : (e : Edition) → TableHolds e

@@ -16,9 +16,10 @@ use Rattle.policy.specs.Element.{widthOf, leastOf, mostOf}
 use Rattle.policy.specs.Policy.{fieldAt, valuesOk, fieldOk, endBefore, fieldFits, fieldAtOk, regionOk, policyOk}
 use Rattle.policy.specs.Find.{holdsIn, stopOf, findIn}
 use Rattle.policy.specs.Build.{regionNumber, fieldNumber, built}
+use Rattle.memory.specs.Frame.{isScratch}
 use Rattle.memory.specs.Place.{partStart}
 use Rattle.step.specs.Registers.{valueIn, setIn, valuesWith, marksWith}
-use Rattle.access.specs.Locate.{insideRegion, regionIn, locate}
+use Rattle.access.specs.Locate.{insideRegion, regionIn, scratchIn, locate}
 use Rattle.step.specs.Effect.{aimIn}
 use Rattle.step.specs.Step.{stepOf}
 use Rattle.machine.specs.Placement.{disjointIn, placedIn}
@@ -28,9 +29,9 @@ use Rattle.sets.specs.Rules.{within, addSets, subSets, andSets, sllSet, sraSet,
 use Rattle.sets.specs.Narrow.{atMost, atLeast, lessThan, isMember, only, without}
 use Rattle.rows.specs.Entry.{sizeIn, entryOk, fits, noteOk, fitsNote, fieldEntry}
 use Rattle.rows.specs.Flaw.{flawFrom}
-use Rattle.rows.specs.Row.{entryAt, entriesWith, entryOf, noteOf, rowOf, formedAt, formFault, fitsAt, misfit}
+use Rattle.rows.specs.Row.{entryAt, entriesWith, entryOf, noteOf, rowOf, formedAt, formFault, scratchUnset, fitsAt, misfit}
 use Rattle.rules.specs.Result.{offsetsGive, addressSum, addressDifference, aluResult, shiftResult}
-use Rattle.rules.specs.Reach.{inField, inRegion, reachOf}
+use Rattle.rules.specs.Reach.{inField, inRegion, frameReach, reachOf}
 use Rattle.rules.specs.Change.{noteAfter, codesNote, aluChange, shiftChange, accessChange, branchChange, returnChange}
 use Rattle.rules.specs.Narrow.{narrowEntry, narrowRow}
 use Rattle.passes.specs.Answer.{passOf}
@@ -39,6 +40,7 @@ use Rattle.checker.specs.Passes.{cross, narrowedEdge, wordPass, answerOf, check
 use Rattle.bundle.specs.Layout.{fieldsBefore, fieldRead, bundleOk}
 use Rattle.bundle.specs.Bundle.{regionTo, fieldTo, withRegions, withFieldsOf, withFields, bundleAnswer}
 use Rattle.trials.specs.Case.{Row, Outcome, expected, found, Holds}
+use Rattle.trials.specs.CheckRows.{shapeRows, formPassRows, flowRows, edgeRows, slipRows}
 use Rattle.claims.proofs.Answered.{return-then-nop, one-nop, loop-accepted}
 use Rattle.claims.proofs.Looped.{loop-never-returns}
 use Rattle.claims.proofs.Unlinked.{start-exists}
@@ -50,23 +52,42 @@ both : (e : Edition) (a b : List Row) → Holds e a → Holds e b → Holds e (a
 both e a b p q = map-append (found e) a b ∙ ap₂ (λ (x y : List Outcome). x ++ y) p q ∙ sym (map-append expected a b)
 
 machine-rows-hold : (e : Edition) → Holds e machineTable
-unfolding readingOf format00 format10 format11 operandOf countOf signExtend writingOf packed packOf sethiWord signedBits fiveBits codesOf condHolds conditionOf isSlot isTarget any xor all widthOf leastOf mostOf fieldAt valuesOk fieldOk endBefore fieldFits fieldAtOk regionOk policyOk regionNumber fieldNumber built partStart lowest first holdsIn stopOf findIn valueIn setIn valuesWith marksWith insideRegion regionIn locate aimIn slotRuns targetOf stepOf disjointIn placedIn runFrom refusalOf runOf
+unfolding readingOf format00 format10 format11 operandOf countOf signExtend writingOf packed packOf sethiWord signedBits fiveBits codesOf condHolds conditionOf isSlot isTarget any xor all widthOf leastOf mostOf fieldAt valuesOk fieldOk endBefore fieldFits fieldAtOk regionOk policyOk regionNumber fieldNumber built partStart lowest first holdsIn stopOf findIn valueIn setIn valuesWith marksWith isScratch insideRegion regionIn scratchIn locate aimIn slotRuns targetOf stepOf disjointIn placedIn runFrom refusalOf runOf
 machine-rows-hold e = refl
 
 row-rows-hold : (e : Edition) → Holds e rowTable
-unfolding readingOf format00 format10 format11 operandOf countOf signExtend conditionOf lowest first widthOf fieldAt holdsIn stopOf findIn ended setOk fitsSet within addSets subSets andSets sllSet sraSet srlSet atMost atLeast lessThan isMember only without sizeIn entryOk fits noteOk fitsNote fieldEntry entryAt entriesWith entryOf noteOf formedAt flawFrom formFault fitsAt misfit offsetsGive addressSum addressDifference aluResult shiftResult inField inRegion reachOf noteAfter codesNote aluChange shiftChange accessChange branchChange returnChange narrowEntry narrowRow
+unfolding readingOf format00 format10 format11 operandOf countOf signExtend conditionOf lowest first widthOf fieldAt holdsIn stopOf findIn ended setOk fitsSet within addSets subSets andSets sllSet sraSet srlSet atMost atLeast lessThan isMember only without sizeIn entryOk fits noteOk fitsNote fieldEntry entryAt entriesWith entryOf noteOf formedAt flawFrom formFault fitsAt misfit offsetsGive addressSum addressDifference aluResult shiftResult inField inRegion frameReach reachOf noteAfter codesNote aluChange shiftChange accessChange branchChange returnChange narrowEntry narrowRow
 row-rows-hold e = refl
 
+shape-rows-hold : (e : Edition) → Holds e shapeRows
+unfolding readingOf format00 format10 format11 operandOf countOf signExtend lowest first all widthOf leastOf mostOf fieldAt valuesOk fieldOk endBefore fieldFits fieldAtOk regionOk policyOk targetOf setOk fitsSet sizeIn entryOk fits noteOk fitsNote entryAt entryOf noteOf rowOf formedAt flawFrom formFault fitsAt misfit passOf isSlot isTarget any scratchUnset shapeOk rowPass readPass flowPass entryPass answerOf checkOf
+shape-rows-hold e = refl
+
+form-rows-hold : (e : Edition) → Holds e formPassRows
+unfolding readingOf format00 format10 format11 operandOf countOf signExtend lowest first all widthOf leastOf mostOf fieldAt valuesOk fieldOk endBefore fieldFits fieldAtOk regionOk policyOk targetOf setOk fitsSet sizeIn entryOk fits noteOk fitsNote entryAt entryOf noteOf rowOf formedAt flawFrom formFault fitsAt misfit passOf isSlot isTarget any scratchUnset shapeOk rowPass readPass flowPass entryPass answerOf checkOf
+form-rows-hold e = refl
+
+flow-rows-hold : (e : Edition) → Holds e flowRows
+unfolding readingOf format00 format10 format11 operandOf countOf signExtend lowest first all widthOf leastOf mostOf fieldAt valuesOk fieldOk endBefore fieldFits fieldAtOk regionOk policyOk targetOf setOk fitsSet sizeIn entryOk fits noteOk fitsNote entryAt entryOf noteOf rowOf formedAt flawFrom formFault fitsAt misfit passOf isSlot isTarget any scratchUnset shapeOk rowPass readPass flowPass entryPass answerOf checkOf
+flow-rows-hold e = refl
+
 pass-rows-hold : (e : Edition) → Holds e passTable
-unfolding readingOf format00 format10 format11 operandOf countOf signExtend lowest first all widthOf leastOf mostOf fieldAt valuesOk fieldOk endBefore fieldFits fieldAtOk regionOk policyOk targetOf setOk fitsSet sizeIn entryOk fits noteOk fitsNote entryAt entryOf noteOf rowOf formedAt flawFrom formFault fitsAt misfit passOf isSlot isTarget any shapeOk rowPass readPass flowPass entryPass answerOf checkOf
-pass-rows-hold e = refl
+pass-rows-hold e =
+    both e shapeRows (formPassRows ++ flowRows) (shape-rows-hold e) (both e formPassRows flowRows (form-rows-hold e) (flow-rows-hold e))
+
+last-rows-hold : (e : Edition) → Holds e edgeRows
+unfolding readingOf format00 format10 format11 operandOf countOf signExtend conditionOf lowest first all widthOf leastOf mostOf fieldAt valuesOk fieldOk endBefore fieldFits fieldAtOk regionOk policyOk holdsIn stopOf findIn slotRuns targetOf ended setOk fitsSet within addSets subSets andSets sllSet sraSet srlSet atMost atLeast lessThan isMember only without sizeIn entryOk fits noteOk fitsNote fieldEntry entryAt entriesWith entryOf noteOf formedAt flawFrom formFault fitsAt misfit rowOf offsetsGive addressSum addressDifference aluResult shiftResult inField inRegion frameReach reachOf noteAfter codesNote aluChange shiftChange accessChange branchChange returnChange narrowEntry narrowRow passOf isSlot isTarget any scratchUnset shapeOk rowPass readPass flowPass entryPass cross narrowedEdge wordPass answerOf checkOf
+last-rows-hold e = refl
+
+slip-rows-hold : (e : Edition) → Holds e slipRows
+unfolding readingOf format00 format10 format11 operandOf countOf signExtend conditionOf lowest first all widthOf leastOf mostOf fieldAt valuesOk fieldOk endBefore fieldFits fieldAtOk regionOk policyOk holdsIn stopOf findIn slotRuns targetOf ended setOk fitsSet within addSets subSets andSets sllSet sraSet srlSet atMost atLeast lessThan isMember only without sizeIn entryOk fits noteOk fitsNote fieldEntry entryAt entriesWith entryOf noteOf formedAt flawFrom formFault fitsAt misfit rowOf offsetsGive addressSum addressDifference aluResult shiftResult inField inRegion frameReach reachOf noteAfter codesNote aluChange shiftChange accessChange branchChange returnChange narrowEntry narrowRow passOf isSlot isTarget any scratchUnset shapeOk rowPass readPass flowPass entryPass cross narrowedEdge wordPass answerOf checkOf
+slip-rows-hold e = refl
 
 edge-rows-hold : (e : Edition) → Holds e edgeTable
-unfolding readingOf format00 format10 format11 operandOf countOf signExtend conditionOf lowest first all widthOf leastOf mostOf fieldAt valuesOk fieldOk endBefore fieldFits fieldAtOk regionOk policyOk holdsIn stopOf findIn slotRuns targetOf ended setOk fitsSet within addSets subSets andSets sllSet sraSet srlSet atMost atLeast lessThan isMember only without sizeIn entryOk fits noteOk fitsNote fieldEntry entryAt entriesWith entryOf noteOf formedAt flawFrom formFault fitsAt misfit rowOf offsetsGive addressSum addressDifference aluResult shiftResult inField inRegion reachOf noteAfter codesNote aluChange shiftChange accessChange branchChange returnChange narrowEntry narrowRow passOf isSlot isTarget any shapeOk rowPass readPass flowPass entryPass cross narrowedEdge wordPass answerOf checkOf
-edge-rows-hold e = refl
+edge-rows-hold e = both e edgeRows slipRows (last-rows-hold e) (slip-rows-hold e)
 
 bundle-rows-hold : (e : Edition) → Holds e bundleTable
-unfolding readingOf format00 format10 format11 operandOf countOf signExtend lowest first all widthOf leastOf mostOf fieldAt valuesOk fieldOk endBefore fieldFits fieldAtOk regionOk policyOk regionNumber fieldNumber built targetOf setOk fitsSet sizeIn entryOk fits noteOk fitsNote entryAt entriesWith entryOf noteOf rowOf formedAt flawFrom formFault fitsAt misfit branchChange returnChange narrowEntry narrowRow noteAfter passOf isSlot isTarget any shapeOk rowPass readPass flowPass entryPass cross narrowedEdge wordPass answerOf checkOf fieldsBefore fieldRead bundleOk regionTo fieldTo withRegions withFieldsOf withFields bundleAnswer
+unfolding readingOf format00 format10 format11 operandOf countOf signExtend lowest first all widthOf leastOf mostOf fieldAt valuesOk fieldOk endBefore fieldFits fieldAtOk regionOk policyOk regionNumber fieldNumber built targetOf setOk fitsSet sizeIn entryOk fits noteOk fitsNote entryAt entriesWith entryOf noteOf rowOf formedAt flawFrom formFault fitsAt misfit branchChange returnChange narrowEntry narrowRow noteAfter passOf isSlot isTarget any scratchUnset shapeOk rowPass readPass flowPass entryPass cross narrowedEdge wordPass answerOf checkOf fieldsBefore fieldRead bundleOk regionTo fieldTo withRegions withFieldsOf withFields bundleAnswer
 bundle-rows-hold e = refl
 
 every-claim-holds : (c : Claim) → Says c

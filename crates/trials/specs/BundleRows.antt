@@ -5,7 +5,7 @@ use mathlib.Core.List.{List, [], _∷_, _++_}
 use lib.ListN.{replicate}
 use Rattle.rows.specs.declared.Row as Rows·
 use Rattle.trials.specs.Case.{Row, _gives_, Given, bundle, answers}
-use Rattle.trials.specs.Entries.{unset, returnAddress, bare, put, wordThen, bytesOf, bytesOfEntry, bytesOfRows}
+use Rattle.trials.specs.Entries.{unset, returnAddress, bare, put, wordThen, bytesOfEntry, narrowOf, narrowOfRows}
 
 -- the head: the mark's third byte, the version, how many regions and how many words
 abbrev pub head : ℕ → ℕ → ℕ → ℕ → List ℕ
@@ -25,11 +25,11 @@ called = put 15 returnAddress bare
 
 -- the return and a nop, with an entry row and a result entry that asks nothing
 abbrev pub routine : List ℕ
-routine = bytesOf called ++ bytesOfEntry unset ++ wordThen 0x81C3E008 (wordThen 0x01000000 (bytesOfRows (called ∷ called ∷ [])))
+routine = narrowOf called ++ bytesOfEntry unset ++ wordThen 0x81C3E008 (wordThen 0x01000000 (narrowOfRows (called ∷ called ∷ [])))
 
 -- the same with no words
 abbrev pub nothing : List ℕ
-nothing = bytesOf called ++ bytesOfEntry unset
+nothing = narrowOf called ++ bytesOfEntry unset
 
 -- bundles that are opened, with no region, one region, one region with one field
 abbrev pub openedRows : List Row
@@ -53,7 +53,7 @@ closedRows =
     ∷ bundle (head 0x52 1 0 1 ++ nothing) gives answers 23 0 0
     -- the mark's third byte; the version
     ∷ bundle (head 0x53 1 0 0 ++ nothing) gives answers 23 0 0
-    ∷ bundle (head 0x52 2 0 0 ++ nothing) gives answers 23 0 0
+    ∷ bundle (head 0x52 3 0 0 ++ nothing) gives answers 23 0 0
     -- a region's zero; a field's zero, also in a field that an add would refuse
     ∷ bundle (head 0x52 1 1 0 ++ regionBytes 0 1 ++ nothing) gives answers 23 0 0
     ∷ bundle (head 0x52 1 1 0 ++ regionBytes 1 0 ++ fieldBytes 1 3 ++ nothing) gives answers 23 0 0

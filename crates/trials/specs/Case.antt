@@ -85,8 +85,8 @@ pub data Given : Type 0 where
   stored : StoreOp → ℕ → ℕ → List ℕ → Given
   -- the sizes of the regions, and the region whose part of the memory is sought
   begins : List ℕ → ℕ → Given
-  -- a run: policy, words, bases, return address, registers, allowance, memory
-  runs : Policy → List ℕ → List ℕ → ℕ → Registers → ℕ → List ℕ → Given
+  -- a run: policy, words, bases, return address, frame address, registers, allowance, memory
+  runs : Policy → List ℕ → List ℕ → ℕ → ℕ → Registers → ℕ → List ℕ → Given
   -- a row's bytes, whose form is tested: how many regions there are, their sizes, the bytes
   form : ℕ → List ℕ → List ℕ → Given
   -- an entry, a note or a row, and the one that it is to fit
@@ -216,7 +216,7 @@ outcome e (adds p more) = numbers (numbersOf p more)
 outcome e (loaded op m a) = yields (loadOf op m a)
 outcome e (stored op v a m) = leaves (storeOf op v a m)
 outcome e (begins sizes r) = yields (partStart sizes r)
-outcome e (runs p words bases returns g allowance memory) = endsOf (runOf e p words bases returns g allowance memory)
+outcome e (runs p words bases returns frame g allowance memory) = endsOf (runOf e p words bases returns frame g allowance memory)
 outcome e (form regions sizes bytes) = flaw (formFault regions sizes bytes 0)
 outcome e (fitting a b) = fitted (fits a b)
 outcome e (fittingNote a b) = fitted (fitsNote a b)

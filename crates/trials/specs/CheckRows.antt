@@ -59,7 +59,7 @@ twoRows = bytesOfRows (called ∷ called ∷ [])
 abbrev pub fours : Entry
 fours = num 4 bias (above 36)
 
--- "20 policy breaks a rule above. 21 words not 1 to 128, rows not 392 bytes a word, or the entry row or result entry badly formed."
+-- "20 policy breaks a rule above. 21 words not 1 to 128, rows not [464] bytes a word, or the entry row or result entry badly formed."
 abbrev pub shapeRows : List Row
 shapeRows =
     -- a region of 7 bytes, and no words
@@ -68,9 +68,9 @@ shapeRows =
     ∷ check oneWord [] [] (bytesOf called) (bytesOfEntry unset) gives answers 21 0 0
     ∷ check oneWord (replicate 129 0x01000000) (replicate (rowBytes * 129) 0) (bytesOf called) (bytesOfEntry unset) gives answers 21 0 0
     -- the lengths of rows, entry row and result entry, each one byte short or long
-    ∷ shaped (take 783 twoRows) (bytesOf called) (bytesOfEntry unset) gives answers 21 0 0
+    ∷ shaped (take 927 twoRows) (bytesOf called) (bytesOfEntry unset) gives answers 21 0 0
     ∷ shaped (twoRows ++ 0 ∷ []) (bytesOf called) (bytesOfEntry unset) gives answers 21 0 0
-    ∷ shaped twoRows (take 391 (bytesOf called)) (bytesOfEntry unset) gives answers 21 0 0
+    ∷ shaped twoRows (take 463 (bytesOf called)) (bytesOfEntry unset) gives answers 21 0 0
     ∷ shaped twoRows (bytesOf called ++ 0 ∷ []) (bytesOfEntry unset) gives answers 21 0 0
     ∷ shaped twoRows (bytesOf called) (take 11 (bytesOfEntry unset)) gives answers 21 0 0
     ∷ shaped twoRows (bytesOf called) (bytesOfEntry unset ++ 0 ∷ []) gives answers 21 0 0

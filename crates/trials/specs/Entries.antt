@@ -1,14 +1,14 @@
--- Entries, notes and rows as the rows of the table write them, and their bytes (document 01, "Rows").
+-- Entries, notes and rows as the rows of the table write them, and their bytes (document 01, "Rows"; document 02, request 7).
 use Prim.Native.Nat.{ℕ, _+_, _-_, _/_, _%_}
 use mathlib.Core.List.{List, [], _∷_}
-use lib.ListN.{replicate, set}
+use lib.ListN.{replicate, set, take}
 use Rattle.v8.specs.Signed.{excess, bias}
 use Rattle.sets.specs.Sets.{numbers, single, full}
 use Rattle.rows.specs.declared.Entry.{Entry}
 use Rattle.rows.specs.declared.Note.{Note}
 use Rattle.rows.specs.declared.Row.{Row}
 use Rattle.rows.specs.Entry.{numberIn, addressIn, blank}
-use Rattle.rows.specs.Geometry.{entryCount}
+use Rattle.rows.specs.Geometry.{registerCount, entryCount}
 
 -- the numbers n and -n in excess form
 abbrev pub above : ℕ → ℕ
@@ -46,7 +46,7 @@ addr region step lo hi = addressIn region (numbers step lo hi)
 abbrev pub at : ℕ → ℕ → Entry
 at region offset = addressIn region (single (above offset))
 
--- kind 0, unset; kind 3, the start of a region, or null; kind 4, the return address
+-- kind 0, unset; kind 3, the start of a region, or null; kind 4, the return address; kind 5, the frame address
 abbrev pub unset : Entry
 unset = record { kind = 0; region = 0; set = blank }
 
@@ -55,6 +55,9 @@ startOrNull region = record { kind = 3; region = region; set = blank }
 
 abbrev pub returnAddress : Entry
 returnAddress = record { kind = 4; region = 0; set = blank }
+
+abbrev pub frameAddress : Entry
+frameAddress = record { kind = 5; region = 0; set = blank }
 
 -- a note of any fields: kind, register, number
 abbrev pub noteWith : ℕ → ℕ → ℕ → Note
@@ -74,7 +77,7 @@ compared register number = noteWith 2 register number
 abbrev pub bare : Row
 bare = record { entries = just bias ∷ replicate (entryCount - 1) unset; note = noCodes }
 
--- a row with another entry of register r; with another note
+-- a row with another entry of register r, or as it stands in the bytes of a scratch word; with another note
 abbrev pub put : ℕ → Entry → Row → Row
 put r e row = record { entries = set (row .entries) r e; note = row .note }
 
@@ -105,3 +108,11 @@ bytesOfRows (row ∷ rows) = rowThen (row .entries) (row .note) (bytesOfRows row
 
 abbrev pub bytesOf : Row → List ℕ
 bytesOf row = bytesOfRows (row ∷ [])
+
+-- the bytes of rows, of a row, in a bundle of version 1: without the entries of the scratch words
+abbrev pub narrowOfRows : List Row → List ℕ
+narrowOfRows [] = []
+narrowOfRows (row ∷ rows) = rowThen (take registerCount (row .entries)) (row .note) (narrowOfRows rows)
+
+abbrev pub narrowOf : Row → List ℕ
+narrowOf row = narrowOfRows (row ∷ [])

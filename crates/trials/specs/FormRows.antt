@@ -55,7 +55,7 @@ soundRows =
 abbrev pub brokenRows : List Row
 brokenRows =
     -- no such kind
-    entryIn 7 (entryWith 5 0 0 bias bias) gives flaw (At 7)
+    entryIn 7 (entryWith 6 0 0 bias bias) gives flaw (At 7)
     ∷ entryIn 31 (entryWith 255 0 0 bias bias) gives flaw (At 31)
     -- the zero byte of an unset entry, of a number, of the return address
     ∷ byteIn (entryStart 0 4 + 3) 1 gives flaw (At 4)

@@ -6,6 +6,7 @@ use mathlib.Core.List.{List, [], _∷_, _++_}
 use lib.ListN.{replicate}
 use Rattle.policy.specs.declared.Policy.{Policy}
 use Rattle.policy.specs.Build.{emptyPolicy, withRegion, withField}
+use Rattle.memory.specs.Frame.{frameBytes, scratchCount}
 use Rattle.step.specs.declared.Registers.{Registers}
 use Rattle.machine.specs.declared.End.{End}
 use Rattle.machine.specs.declared.End.the-variants.{Returned, Spent, Fault, Refused}
@@ -40,13 +41,20 @@ twoBases = 0x3000 ∷ 0x2000 ∷ []
 abbrev pub sixteenBytes : List ℕ
 sixteenBytes = 0xA0 ∷ 0xA1 ∷ 0xA2 ∷ 0xA3 ∷ 0xA4 ∷ 0xA5 ∷ 0xA6 ∷ 0xA7 ∷ 0xB0 ∷ 0xB1 ∷ 0xB2 ∷ 0xB3 ∷ 0xB4 ∷ 0xB5 ∷ 0xB6 ∷ 0xB7 ∷ []
 
+-- where the frame lies (document 02, request 7), apart from the regions of all runs here; what is lent of it comes after the regions' parts
+abbrev pub frameBase : ℕ
+frameBase = 0x8000
+
+abbrev pub framed : List ℕ → List ℕ
+framed memory = memory ++ replicate frameBytes 0
+
 -- registers: r0 comes as an unset 7, r1 and r2 hold the bases, r3 an address in no region, r4 is unset and 5, r5 to r7 are 0;
--- given are r15 and its mark, and the codes' digit and their mark
+-- given are r15 and its mark, and the codes' digit and their mark; the scratch words are unset
 abbrev pub registersOf : ℕ → Bool → ℕ → Bool → Registers
 registersOf link linked digit coded =
     record {
       values = 7 ∷ 0x3000 ∷ 0x2000 ∷ 0x12345678 ∷ 5 ∷ replicate 10 0 ++ link ∷ replicate 16 0;
-      marks = false ∷ true ∷ true ∷ true ∷ false ∷ true ∷ true ∷ true ∷ replicate 7 false ++ linked ∷ replicate 16 false;
+      marks = false ∷ true ∷ true ∷ true ∷ false ∷ true ∷ true ∷ true ∷ replicate 7 false ++ linked ∷ replicate (16 + scratchCount) false;
       codes = record { value = codesAt digit; set = coded };
     }
 
@@ -58,9 +66,13 @@ start = registersOf 0x1000 true 4 false
 abbrev pub equal : Registers
 equal = registersOf 0x1000 true 4 true
 
+-- a run with the frame there: policy, words, bases, return address, registers, allowance, the regions' parts of the memory
+abbrev pub placed : Policy → List ℕ → List ℕ → ℕ → Registers → ℕ → List ℕ → Given
+placed p words bases returns g allowance memory = runs p words bases returns frameBase g allowance (framed memory)
+
 -- registers, an allowance and words
 abbrev pub from : Registers → ℕ → List ℕ → Given
-from g allowance words = runs twoRegions words twoBases 0x1000 g allowance sixteenBytes
+from g allowance words = placed twoRegions words twoBases 0x1000 g allowance sixteenBytes
 
 -- words, run from the start, with an allowance of 9
 abbrev pub code : List ℕ → Given
@@ -80,12 +92,12 @@ branching g word = from g 9 (word ∷ 0x8A016001 ∷ 0x8C01A001 ∷ 0x8E01E001 �
 
 -- the nop, run once with an allowance of 1: bases, return address, memory
 abbrev pub laid : List ℕ → ℕ → List ℕ → Given
-laid bases returns memory = runs twoRegions (0x01000000 ∷ []) bases returns start 1 memory
+laid bases returns memory = placed twoRegions (0x01000000 ∷ []) bases returns start 1 memory
 
 -- an end after some steps, with r5, r6 and r7, the codes and the memory; r0 is a set zero, r1 to r4 are as at the start
 abbrev pub left : End → ℕ → ℕ → ℕ → ℕ → ℕ → List ℕ → Outcome
 left e steps v5 v6 v7 digit memory =
-    ends e steps (0 ∷ 0x3000 ∷ 0x2000 ∷ 0x12345678 ∷ 5 ∷ v5 ∷ v6 ∷ v7 ∷ []) (true ∷ true ∷ true ∷ true ∷ false ∷ true ∷ true ∷ true ∷ []) digit memory
+    ends e steps (0 ∷ 0x3000 ∷ 0x2000 ∷ 0x12345678 ∷ 5 ∷ v5 ∷ v6 ∷ v7 ∷ []) (true ∷ true ∷ true ∷ true ∷ false ∷ true ∷ true ∷ true ∷ []) digit (framed memory)
 
 -- the same where neither codes nor memory have changed
 abbrev pub counted : End → ℕ → ℕ → ℕ → ℕ → Outcome
@@ -110,7 +122,7 @@ stores memory = left Spent 1 0 0 0 4 memory
 -- all is handed back as it came: r0 too
 abbrev pub handedBack : ℕ → List ℕ → Outcome
 handedBack n memory =
-    ends (Refused n) 0 (7 ∷ 0x3000 ∷ 0x2000 ∷ 0x12345678 ∷ 5 ∷ 0 ∷ 0 ∷ 0 ∷ []) (false ∷ true ∷ true ∷ true ∷ false ∷ true ∷ true ∷ true ∷ []) 4 memory
+    ends (Refused n) 0 (7 ∷ 0x3000 ∷ 0x2000 ∷ 0x12345678 ∷ 5 ∷ 0 ∷ 0 ∷ 0 ∷ []) (false ∷ true ∷ true ∷ true ∷ false ∷ true ∷ true ∷ true ∷ []) 4 (framed memory)
 
 -- Branches and their slots. "It is skipped when the annul bit is set and the condition is always or the branch isn't taken"; "a
 -- skipped slot is no step". Each run leaves the code after word 3: 101.
@@ -151,7 +163,7 @@ endRows =
     ∷ from start 1 (0x8A016001 ∷ 0 ∷ []) gives counted Spent 1 1 0 0
     ∷ from start 0 (0 ∷ []) gives kept Spent 0
     -- the return address may be 0
-    ∷ runs twoRegions (0x81C3E008 ∷ 0x8A016001 ∷ []) twoBases 0 (registersOf 0 true 4 false) 2 sixteenBytes gives counted Returned 2 1 0 0
+    ∷ placed twoRegions (0x81C3E008 ∷ 0x8A016001 ∷ []) twoBases 0 (registersOf 0 true 4 false) 2 sixteenBytes gives counted Returned 2 1 0 0
     ∷ []
 
 -- "101 word outside, unread, or a transfer in a slot"
@@ -207,8 +219,8 @@ unsetRows =
     ∷ one 0x1E800003 gives faults 102
     ∷ back 0x1000 false gives faults 102
     -- what is written need not be set, and is set then: add %g1,1,%g4; ldub [%g1+1],%g4
-    ∷ one 0x88006001 gives ends Spent 1 (0 ∷ 0x3000 ∷ 0x2000 ∷ 0x12345678 ∷ 0x3001 ∷ 0 ∷ 0 ∷ 0 ∷ []) (replicate 8 true) 4 sixteenBytes
-    ∷ one 0xC8086001 gives ends Spent 1 (0 ∷ 0x3000 ∷ 0x2000 ∷ 0x12345678 ∷ 0xA1 ∷ 0 ∷ 0 ∷ 0 ∷ []) (replicate 8 true) 4 sixteenBytes
+    ∷ one 0x88006001 gives ends Spent 1 (0 ∷ 0x3000 ∷ 0x2000 ∷ 0x12345678 ∷ 0x3001 ∷ 0 ∷ 0 ∷ 0 ∷ []) (replicate 8 true) 4 (framed sixteenBytes)
+    ∷ one 0xC8086001 gives ends Spent 1 (0 ∷ 0x3000 ∷ 0x2000 ∷ 0x12345678 ∷ 0xA1 ∷ 0 ∷ 0 ∷ 0 ∷ []) (replicate 8 true) 4 (framed sixteenBytes)
     ∷ []
 
 -- "103 not inside one field of matching element and permission"
@@ -222,7 +234,7 @@ fieldFaultRows =
     -- in region 1 and in no field: stb %g3,[%g2+6]
     ∷ one 0xC628A006 gives faults 103
     -- below the first field of a region: ldub [%g1+3],%g5
-    ∷ runs laterField (0xCA086003 ∷ []) (0x3000 ∷ []) 0x1000 start 1 (replicate 8 0) gives left (Fault 103) 0 0 0 0 4 (replicate 8 0)
+    ∷ placed laterField (0xCA086003 ∷ []) (0x3000 ∷ []) 0x1000 start 1 (replicate 8 0) gives left (Fault 103) 0 0 0 0 4 (replicate 8 0)
     -- another element: ldsb, lduh and ld [%g1],%g5; lduh [%g2+4],%g5; stb %g3,[%g1+4]; stb %g3,[%g2+4]
     ∷ one 0xCA484000 gives faults 103
     ∷ one 0xCA104000 gives faults 103
@@ -298,7 +310,7 @@ accessRows =
     -- a store and the load of what it stored: stb %g3,[%g1+3]; ldub [%g1+3],%g5
     ∷ from start 2 (0xC6286003 ∷ 0xCA086003 ∷ []) gives left Spent 2 0x78 0 0 4 (0xA0 ∷ 0xA1 ∷ 0xA2 ∷ 0x78 ∷ 0xA4 ∷ 0xA5 ∷ 0xA6 ∷ 0xA7 ∷ 0xB0 ∷ 0xB1 ∷ 0xB2 ∷ 0xB3 ∷ 0xB4 ∷ 0xB5 ∷ 0xB6 ∷ 0xB7 ∷ [])
     -- region 1 begins where region 0 ends, and the address there is its: stb %g3,[%g1+8]
-    ∷ runs twoRegions (0xC6286008 ∷ []) (0x3000 ∷ 0x3008 ∷ []) 0x1000 start 1 sixteenBytes gives stores (0xA0 ∷ 0xA1 ∷ 0xA2 ∷ 0xA3 ∷ 0xA4 ∷ 0xA5 ∷ 0xA6 ∷ 0xA7 ∷ 0x78 ∷ 0xB1 ∷ 0xB2 ∷ 0xB3 ∷ 0xB4 ∷ 0xB5 ∷ 0xB6 ∷ 0xB7 ∷ [])
+    ∷ placed twoRegions (0xC6286008 ∷ []) (0x3000 ∷ 0x3008 ∷ []) 0x1000 start 1 sixteenBytes gives stores (0xA0 ∷ 0xA1 ∷ 0xA2 ∷ 0xA3 ∷ 0xA4 ∷ 0xA5 ∷ 0xA6 ∷ 0xA7 ∷ 0x78 ∷ 0xB1 ∷ 0xB2 ∷ 0xB3 ∷ 0xB4 ∷ 0xB5 ∷ 0xB6 ∷ 0xB7 ∷ [])
     -- addresses add modulo 2^32: add %g1,4,%g5; ldub [%g5-3],%g6
     ∷ from start 2 (0x8A006004 ∷ 0xCC097FFD ∷ []) gives counted Spent 2 0x3004 0xA1 0
     ∷ []
@@ -327,11 +339,11 @@ zeroRows =
 abbrev pub refusalRows : List Row
 refusalRows =
     -- a policy that breaks a rule: before 21 and 22
-    runs (uniform 1 7 0) (0x01000000 ∷ []) (0x3000 ∷ []) 0x1000 start 1 (replicate 7 0) gives handedBack 20 (replicate 7 0)
-    ∷ runs (uniform 1 7 0) [] [] 2 start 1 sixteenBytes gives handedBack 20 sixteenBytes
+    placed (uniform 1 7 0) (0x01000000 ∷ []) (0x3000 ∷ []) 0x1000 start 1 (replicate 7 0) gives handedBack 20 (replicate 7 0)
+    ∷ placed (uniform 1 7 0) [] [] 2 start 1 sixteenBytes gives handedBack 20 sixteenBytes
     -- no words, 129 words: before 22; 128 words
     ∷ from start 1 [] gives handedBack 21 sixteenBytes
-    ∷ runs twoRegions [] [] 2 start 1 [] gives handedBack 21 []
+    ∷ placed twoRegions [] [] 2 start 1 [] gives handedBack 21 []
     ∷ from start 1 (replicate 129 0x01000000) gives handedBack 21 sixteenBytes
     ∷ from start 1 (replicate 128 0x01000000) gives kept Spent 1
     -- bases: 0, no multiple of 8, the end of the addresses
@@ -345,7 +357,7 @@ refusalRows =
     ∷ laid (0x3000 ∷ 0x2000 ∷ 0x4000 ∷ []) 0x1000 sixteenBytes gives handedBack 22 sixteenBytes
     -- overlapping, also one that is not the region before; touching, either way round
     ∷ laid (0x3000 ∷ 0x3000 ∷ []) 0x1000 sixteenBytes gives handedBack 22 sixteenBytes
-    ∷ runs (uniform 3 8 0) (0x01000000 ∷ []) (0x3000 ∷ 0x2000 ∷ 0x3000 ∷ []) 0x1000 start 1 (replicate 24 0) gives handedBack 22 (replicate 24 0)
+    ∷ placed (uniform 3 8 0) (0x01000000 ∷ []) (0x3000 ∷ 0x2000 ∷ 0x3000 ∷ []) 0x1000 start 1 (replicate 24 0) gives handedBack 22 (replicate 24 0)
     ∷ laid (0x3000 ∷ 0x3008 ∷ []) 0x1000 sixteenBytes gives kept Spent 1
     ∷ laid (0x3008 ∷ 0x3000 ∷ []) 0x1000 sixteenBytes gives kept Spent 1
     -- the return address

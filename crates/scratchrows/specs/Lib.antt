@@ -1,0 +1,9 @@
+pub mod Case
+pub mod FormRows
+pub mod FitRows
+pub mod ChangeRows
+pub mod RunRows
+pub mod CheckRows
+pub mod ListRows
+pub mod BundleRows
+pub mod Table
