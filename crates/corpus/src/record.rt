@@ -13,7 +13,7 @@ use v8::WordIndex;
 ghost use Prim.Native.Nat.{_<_};
 
 // The longest bundle that is read: one byte more than any that is well-formed.
-const ROOM: usize = 53181;
+const ROOM: usize = 62469;
 
 pub struct Answers {
     pub answered: Answer,
