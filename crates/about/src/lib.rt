@@ -17,7 +17,7 @@
 //                                       with its own row, since a branch lands on it
 //   row W                               the row of word W: its entries that are not unset, and its note
 //   handed, made                        the same of the row that an edge hands on, and that it ends with
-//   entry R KIND REGION STEP LO HI
+//   entry R KIND REGION STEP LO HI      R is 33 to 38 for a scratch word
 //   note KIND REGISTER NUMBER
 //   edge TAKEN EXISTS RUNS              an edge, and whether its slot runs; then where it ends
 //   to W IN SLOT                        .. at a word, inside the code, a slot

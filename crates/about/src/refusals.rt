@@ -1,5 +1,10 @@
 // What an answer is about, by its number.
+ghost use mathlib.Core.Path.{_≡_};
+ghost use mathlib.Core.Bool.{true};
 ghost use Prim.Native.Nat.{_≤_};
+ghost use lib.ListN.{length};
+ghost use Rattle.bundle.specs.Layout.{narrow};
+ghost use Rattle.bundle.specs.Open.{Holds, Inside};
 use crate::adding::show_adds;
 use crate::flowing::show_flow;
 use crate::flowing::show_written;
@@ -17,8 +22,12 @@ use crate::words::show_row_of;
 use crate::words::show_way;
 use crate::words::show_word_in;
 use crate::words::way_refused;
+use bundle::Opened;
+use bundle::ROWS_ROOM;
 use bundle::answer;
+use bundle::layout::is_narrow;
 use bundle::open;
+use bundle::widen;
 use flow::readings::read_all;
 use flow::readings::reading_at;
 use output::print;
@@ -161,9 +170,87 @@ fn show_named(
     }
 }
 
+// What a refusal of an opened bundle is about, with its rows, its entry row and its result entry as they
+// are read.
+fn show_refusal(
+    edition: Edition,
+    bytes: &[u8],
+    opened: Opened,
+    rows: &[u8],
+    entry: &[u8],
+    result: &[u8],
+    a: Answer,
+)
+    requires { ⌜ Inside opened (length (now bytes)) ⌝ }
+{
+    if a.number == BAD_SHAPE {
+        return show_shape(bytes, opened, entry);
+    }
+    if a.number == BAD_ROW {
+        return show_broken_row(bytes, opened.rows, a.word.0 as usize, a.register);
+    }
+    let words = opened.words;
+    let count = opened.count;
+    show_named(
+        edition,
+        opened.policy,
+        &words[..count],
+        rows,
+        entry,
+        result,
+        a,
+    )
+}
+
+// The same of a bundle of version 2, as it stands.
+fn show_wide(edition: Edition, bytes: &[u8], opened: Opened, a: Answer)
+    requires { ⌜ Inside opened (length (now bytes)) ⌝ }
+{
+    let entry = opened.entry;
+    let result = opened.result;
+    let code = opened.code;
+    let rows = opened.rows;
+    let end = opened.end;
+    show_refusal(
+        edition,
+        bytes,
+        opened,
+        &bytes[rows..end],
+        &bytes[entry..result],
+        &bytes[result..code],
+        a,
+    )
+}
+
+// The same of a bundle of version 1, with its rows widened.
+fn show_narrow(edition: Edition, bytes: &[u8], opened: Opened, a: Answer)
+    requires { ⌜ Holds (now bytes) opened × Inside opened (length (now bytes)) × (narrow (now bytes) ≡ true) ⌝ }
+{
+    let count = opened.count;
+    let result = opened.result;
+    let code = opened.code;
+    let mut entry = [0u8; ROW_BYTES];
+    let mut rows = [0u8; ROWS_ROOM];
+    widen(bytes, opened.entry, 1, &mut entry);
+    widen(bytes, opened.rows, count, &mut rows);
+    let end = ROW_BYTES * count;
+    show_refusal(
+        edition,
+        bytes,
+        opened,
+        &rows[..end],
+        &entry,
+        &bytes[result..code],
+        a,
+    )
+}
+
 // What the answer to a bundle is about, on a terminal of the edition; nothing where it is accepted.
 pub fn show_answer(edition: Edition, bytes: &[u8]) {
     let a = answer(edition, bytes);
+    if a.number == ACCEPTED {
+        return;
+    }
     if a.number == BAD_BUNDLE {
         return show_no_bundle(bytes);
     }
@@ -171,28 +258,8 @@ pub fn show_answer(edition: Edition, bytes: &[u8]) {
     if opened.number != ACCEPTED {
         return show_adds(bytes);
     }
-    if a.number == BAD_SHAPE {
-        return show_shape(bytes, opened);
+    if is_narrow(bytes) {
+        return show_narrow(edition, bytes, opened, a);
     }
-    let words = opened.words;
-    let count = opened.count;
-    let entry = opened.entry;
-    let result = opened.result;
-    let code = opened.code;
-    let rows = opened.rows;
-    let end = opened.end;
-    if a.number == BAD_ROW {
-        return show_broken_row(bytes, rows, a.word.0 as usize, a.register);
-    }
-    if a.number != ACCEPTED {
-        show_named(
-            edition,
-            opened.policy,
-            &words[..count],
-            &bytes[rows..end],
-            &bytes[entry..result],
-            &bytes[result..code],
-            a,
-        );
-    }
+    show_wide(edition, bytes, opened, a)
 }

@@ -9,8 +9,11 @@ use rows::Entry;
 use rows::Note;
 use rows::Row;
 use rows::entries::UNSET;
+use rows::entries::no_entry;
 use rows::entry_at;
 use rows::geometry::NOTE_NAME;
+use rows::geometry::PLACES;
+use rows::geometry::entry_named;
 use v8::Access;
 use v8::AluOp;
 use v8::BranchForm;
@@ -174,13 +177,24 @@ pub fn end_entry(e: Entry) {
     done();
 }
 
-// An entry of a register, if it is not unset.
-fn show_register(r: u8, e: Entry) {
+// The entry that a place of a row names; there is none at the note's and after the last.
+pub fn entry_of(row: Row, place: u8) -> Entry {
+    if place == NOTE_NAME {
+        return no_entry();
+    }
+    if PLACES <= place {
+        return no_entry();
+    }
+    entry_at(row, entry_named(place) as u8)
+}
+
+// The entry of a place, if it is not unset.
+fn show_entry(place: u8, e: Entry) {
     if e.kind == UNSET {
         return;
     }
     print(b"entry");
-    value(r as u64);
+    value(place as u64);
     end_entry(e);
 }
 
@@ -195,10 +209,10 @@ pub fn show_note(name: &[u8], n: Note) {
 
 // The entries of a row that are not unset, and its note.
 pub fn show_row(row: Row) {
-    let mut r: u8 = 0;
-    while r < NOTE_NAME {
-        show_register(r, entry_at(row, r));
-        r += 1;
+    let mut place: u8 = 0;
+    while place < PLACES {
+        show_entry(place, entry_of(row, place));
+        place += 1;
     }
     show_note(b"note", row.note);
 }

@@ -2,13 +2,13 @@
 use crate::items::bare;
 use crate::items::single;
 use bundle::layout::HEAD_BYTES;
-use bundle::layout::MOST;
 use bundle::layout::REGION_BYTES;
 use bundle::layout::field_place;
 use bundle::layout::field_total;
 use bundle::layout::field_zero;
 use bundle::layout::head_ok;
 use bundle::layout::length_given;
+use bundle::layout::most_bytes;
 use bundle::layout::region_count;
 use bundle::layout::region_zero;
 
@@ -44,7 +44,7 @@ fn show_field_zero(bytes: &[u8]) {
 pub fn show_no_bundle(bytes: &[u8]) {
     let length = bytes.len();
     single(b"length", length as u64);
-    if MOST < length {
+    if most_bytes(bytes) < length {
         return bare(b"part size");
     }
     if !head_ok(bytes) {

@@ -5,6 +5,7 @@ use crate::items::flag;
 use crate::items::single;
 use crate::items::value;
 use crate::shown::end_entry;
+use crate::shown::entry_of;
 use crate::shown::show_note;
 use crate::shown::show_row;
 use checker::change_by;
@@ -228,9 +229,9 @@ pub fn show_misfit(place: u8, has: Row, asks: Row) {
         return show_note(b"asks-note", asks.note);
     }
     print(b"has");
-    end_entry(entry_at(has, place));
+    end_entry(entry_of(has, place));
     print(b"asks");
-    end_entry(entry_at(asks, place));
+    end_entry(entry_of(asks, place));
 }
 
 // What does not fit where a row arrives at a word.

@@ -1,26 +1,26 @@
--- `show_row` is safe and ends. Measure: the registers left.
+-- `show_row` is safe and ends. Measure: the places left.
 use Prim.Native.Nat.{_≤_, _-_}
 use borrow.Author.Needs.{needs}
 use Rattle.about.proofs.shown.show_row.Statement.{statement}
 use Rattle.about.proofs.shown.show_row.Tie as tie
 
 abbrev Inv-loop : tie.InvT-loop
-Inv-loop row r₀ t3 r = r ≤ 32
+Inv-loop row place₀ t3 place = place ≤ 39
 
 abbrev μ-loop : tie.MeasureT-loop
-μ-loop row r₀ t3 r = 32 - r
+μ-loop row place₀ t3 place = 39 - place
 
 loop-holds : tie.Need-loop-holds Inv-loop μ-loop
 loop-holds c = search needs
 
-entry-at-requires : tie.Need-entry-at-requires Inv-loop μ-loop
-entry-at-requires c κs = search needs
+entry-of-requires : tie.Need-entry-of-requires Inv-loop μ-loop
+entry-of-requires c κs = search needs
 
-show-register-requires : tie.Need-show-register-requires Inv-loop μ-loop
-show-register-requires c κs = search needs
+show-entry-requires : tie.Need-show-entry-requires Inv-loop μ-loop
+show-entry-requires c κs = search needs
 
-add-r : tie.Need-add-r Inv-loop μ-loop
-add-r c = search needs
+add-place : tie.Need-add-place Inv-loop μ-loop
+add-place c = search needs
 
 loop-less : tie.Need-loop-less Inv-loop μ-loop
 loop-less c = search needs
@@ -44,9 +44,9 @@ show-row-spec =
     Inv-loop
     μ-loop
     loop-holds
-    entry-at-requires
-    show-register-requires
-    add-r
+    entry-of-requires
+    show-entry-requires
+    add-place
     loop-less
     loop-again
     slice-aggregate-show-note
