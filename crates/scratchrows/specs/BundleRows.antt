@@ -2,7 +2,6 @@
 -- words are those that GNU as gives, and stand above each row.
 use Prim.Native.Nat.{ℕ}
 use mathlib.Core.List.{List, [], _∷_, _++_}
-use Rattle.rows.specs.declared.Entry.{Entry}
 use Rattle.rows.specs.declared.Row as Rows·
 use Rattle.trials.specs.Case.{Row, Given, _gives_, bundle, answers}
 use Rattle.trials.specs.Entries.{unset, frameAddress, put, wordThen, bytesOf, bytesOfEntry, bytesOfRows, narrowOf, narrowOfRows}
@@ -16,14 +15,14 @@ framed = put 14 frameAddress called
 abbrev pub given : Rows·.Row
 given = put 1 fours framed
 
--- a bundle of no region: retl and a word in its slot, all rows alike; with the narrow rows of version 1, with wide ones
+-- a bundle of no region: retl and a word in its slot, with the slot's row; with the narrow rows of version 1, with wide ones
 abbrev pub narrowly : ℕ → Rows·.Row → Given
 narrowly slot row =
-    bundle (head 0x52 1 0 2 ++ narrowOf row ++ bytesOfEntry unset ++ wordThen 0x81C3E008 (wordThen slot (narrowOfRows (row ∷ row ∷ []))))
+    bundle (head 0x52 1 0 2 ++ narrowOf given ++ bytesOfEntry unset ++ wordThen 0x81C3E008 (wordThen slot (narrowOfRows (given ∷ row ∷ []))))
 
 abbrev pub widely : ℕ → Rows·.Row → Given
 widely slot row =
-    bundle (head 0x52 2 0 2 ++ bytesOf row ++ bytesOfEntry unset ++ wordThen 0x81C3E008 (wordThen slot (bytesOfRows (row ∷ row ∷ []))))
+    bundle (head 0x52 2 0 2 ++ bytesOf given ++ bytesOfEntry unset ++ wordThen 0x81C3E008 (wordThen slot (bytesOfRows (given ∷ row ∷ []))))
 
 -- no words, with a wide entry row
 abbrev pub wideNothing : List ℕ
@@ -31,11 +30,11 @@ wideNothing = bytesOf called ++ bytesOfEntry unset
 
 abbrev pub bundleRows : List Row
 bundleRows =
-    -- st %g1, [%sp + 96]; ld [%sp + 96], %g1: of a scratch word that is unset, which it always is at version 1
+    -- st %g1, [%sp + 96], with wide rows; ld [%sp + 96], %g1 with narrow ones: "read with six unset entries"
     widely 0xC223A060 given gives answers 0 0 0
-    ∷ narrowly 0xC223A060 given gives answers 0 0 0
-    ∷ widely 0xC203A060 given gives answers 4 1 33
     ∷ narrowly 0xC203A060 given gives answers 4 1 33
+    -- the last entry of a wide row is read: it is kind 5
+    ∷ widely 0xC223A060 (put 37 frameAddress given) gives answers 1 1 38
     -- no words: the check's 21
     ∷ bundle (head 0x52 2 0 0 ++ wideNothing) gives answers 21 0 0
     -- narrow rows at version 2, wide rows at version 1; versions 0 and 3

@@ -7,7 +7,6 @@ use mathlib.Core.List.{List, [], _∷_, _++_, map}
 use Rattle.v8.specs.Signed.{bias}
 use Rattle.policy.specs.Build.{emptyPolicy}
 use Rattle.rows.specs.declared.Entry.{Entry}
-use Rattle.rows.specs.declared.Note.{Note}
 use Rattle.rows.specs.declared.Row as Rows·
 use Rattle.trials.specs.Case.{Row, _gives_, Given, change}
 use Rattle.trials.specs.Entries.{above, below, num, just, anyNumber, addr, at, startOrNull, returnAddress, frameAddress, someCodes, compared, bare, put, noted}
@@ -113,6 +112,10 @@ indexedRows =
     ++ outsideBy1 (above 120)
     ++ outsideBy1 (above 124)
     ++ tooNarrowBy1 (above 96)
+    ++ tooNarrowBy1 (above 100)
+    ++ tooNarrowBy1 (above 104)
+    ++ tooNarrowBy1 (above 108)
+    ++ tooNarrowBy1 (above 112)
     ++ tooNarrowBy1 (above 116)
     ++ by1 (above 96) ldIndexed gives puts 3 (just (above 9))
     ∷ by1 (above 100) ldIndexed gives puts 3 (num 4 bias (above 36))
@@ -121,6 +124,10 @@ indexedRows =
     ∷ by1 (above 112) ldIndexed gives puts 3 returnAddress
     ∷ by1 (above 116) ldIndexed gives puts 3 anyNumber
     ∷ by1 (above 96) stIndexed gives puts 32 fours
+    ∷ by1 (above 100) stIndexed gives puts 33 fours
+    ∷ by1 (above 104) stIndexed gives puts 34 fours
+    ∷ by1 (above 108) stIndexed gives puts 35 fours
+    ∷ by1 (above 112) stIndexed gives puts 36 fours
     ∷ by1 (above 116) stIndexed gives puts 37 fours
     ∷ []
 

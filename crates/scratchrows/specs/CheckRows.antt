@@ -4,9 +4,9 @@ use Prim.Native.Nat.{ℕ}
 use mathlib.Core.List.{List, [], _∷_}
 use Rattle.v8.specs.Signed.{bias}
 use Rattle.rows.specs.declared.Row as Rows·
-use Rattle.trials.specs.Case.{Row, Given, _gives_, answers}
-use Rattle.trials.specs.Entries.{above, num, just, unset, returnAddress, frameAddress, someCodes, compared, put, noted}
-use Rattle.trials.specs.CheckRows.{routine, called, first, rowed, fours}
+use Rattle.trials.specs.Case.{Row, _gives_, answers}
+use Rattle.trials.specs.Entries.{just, unset, returnAddress, frameAddress, someCodes, put, noted}
+use Rattle.trials.specs.CheckRows.{routine, called, rowed, fours}
 use Rattle.slotrows.specs.Case as Slots·
 use Rattle.slotrows.specs.PassRows as Passes·
 
@@ -26,14 +26,11 @@ checkRows =
     routine (0xC223A060 ∷ 0x81C3E008 ∷ 0xD003A060 ∷ []) (given ∷ spilled ∷ called ∷ []) given fours gives answers 0 0 0
     -- the load before any store: retl; ld [%sp + 96], %o0
     ∷ routine (0x81C3E008 ∷ 0xD003A060 ∷ []) (framed ∷ called ∷ []) framed fours gives answers 4 1 33
-    -- 15: the lowest of r3, the note and scratch words; the note before a scratch word; the lowest scratch word
-    ∷ rowed (noted someCodes (put 33 fours (put 3 fours called))) called gives answers 15 0 3
+    -- 15: the note before a scratch word; the lowest scratch word
     ∷ rowed (noted someCodes (put 33 fours called)) called gives answers 15 0 32
     ∷ rowed (put 37 fours (put 33 fours called)) called gives answers 15 0 34
-    -- 1: kind 5 in r13, and in a scratch word; the note before it
-    ∷ rowed called (put 13 frameAddress called) gives answers 1 1 13
+    -- 1: kind 5 in a scratch word
     ∷ rowed (put 37 frameAddress called) called gives answers 1 0 38
-    ∷ rowed (noted (compared 0 bias) (put 32 frameAddress called)) called gives answers 1 0 32
     -- 21 and not 15: the entry row has a scratch word set, though row 0 asks for none; 21: the frame address as the result
     ∷ routine (0x81C3E008 ∷ 0x01000000 ∷ []) (called ∷ called ∷ []) (put 37 fours called) unset gives answers 21 0 0
     ∷ routine (0x81C3E008 ∷ 0x01000000 ∷ []) (called ∷ called ∷ []) called frameAddress gives answers 21 0 0

@@ -11,7 +11,7 @@ use Rattle.rows.specs.declared.Flaw.the-variants.{None, At}
 use Rattle.rows.specs.declared.Row as Rows·
 use Rattle.rows.specs.Geometry.{entryStart}
 use Rattle.trials.specs.Case.{Row, _gives_, Given, flaw}
-use Rattle.trials.specs.Entries.{above, below, entryWith, num, just, anyNumber, addr, at, unset, startOrNull, returnAddress, frameAddress, noteWith, compared, bare, put, noted, bytesOf}
+use Rattle.trials.specs.Entries.{above, below, entryWith, num, just, anyNumber, addr, at, unset, startOrNull, returnAddress, frameAddress, compared, bare, put, noted, bytesOf}
 use Rattle.trials.specs.FormRows.{formOf, byteIn}
 use Rattle.scratchrows.specs.Case.{EntryRow}
 

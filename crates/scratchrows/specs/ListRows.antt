@@ -1,6 +1,5 @@
 -- Whole listings with the frame address (document 02, request 7): "the listing marks it unset". The words are those that GNU as gives, and stand above each
 -- row.
-use Prim.Native.Nat.{ℕ}
 use mathlib.Core.List.{List, [], _∷_}
 use Rattle.v8.specs.Signed.{bias}
 use Rattle.rows.specs.declared.Row as Rows·
