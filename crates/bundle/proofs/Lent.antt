@@ -1,5 +1,5 @@
 -- What an opened bundle says: its places lie in its bytes, and the check of what it lends is the bundle's answer.
-use Prim.Native.Nat.{ℕ, _+_, _*_, _-_, _≤_}
+use Prim.Native.Nat.{ℕ, _+_, _*_, _-_}
 use mathlib.Core.Bool.{true, false, true≢false, cond}
 use mathlib.Core.List.{List}
 use mathlib.Core.Path.{_≡_, refl, sym, _∙_}
@@ -15,7 +15,7 @@ use Rattle.passes.specs.declared.Answer.{Answer}
 use Rattle.passes.specs.Answer.{refuse}
 use Rattle.checker.specs.Passes.{checkOf}
 use Rattle.bundle.specs.declared.Opened.{Opened}
-use Rattle.bundle.specs.Layout.{narrowRowBytes, mostGiven, narrow, rowsBytes, wordCount, wordsPlace, bundleOk}
+use Rattle.bundle.specs.Layout.{narrowRowBytes, narrow, rowsBytes, wordCount, wordsPlace, bundleOk}
 use Rattle.bundle.specs.Wide.{part, wideRows, rowsRead, entryRead}
 use Rattle.bundle.specs.Bundle.{builtOf, checkedWith, bundleAnswer}
 use Rattle.bundle.specs.Open.{Holds, Inside, closed, openedWith, openedOf}

@@ -1,5 +1,5 @@
 -- The answer to a bundle (document 01, "Bundle"): "23 ..; then the add refusals, then the check's"; "All regions are added before fields."
-use Prim.Native.Nat.{ℕ, zero, suc, _+_, _*_}
+use Prim.Native.Nat.{ℕ, zero, suc, _+_}
 use mathlib.Core.Bool.{cond}
 use mathlib.Core.List.{List, [], _∷_}
 use lib.Dec.{eqb}

@@ -1,6 +1,6 @@
 -- `copy_on` meets its contract. Invariant: i bytes are copied. Measure: the bytes left.
 use Prim.Native.Nat.{_+_, _-_, _≤_}
-use mathlib.Core.Path.{_≡_, refl, sym, ap, _∙_}
+use mathlib.Core.Path.{_≡_, refl, _∙_}
 use mathlib.Core.List.{_++_}
 use native.Mathlib.Nat.{le-antisymm}
 use denote.Ref.{now}

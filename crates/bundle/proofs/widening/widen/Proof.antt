@@ -1,6 +1,6 @@
 -- `widen` meets its contract. Invariant: i rows are written. Measure: the rows left.
 use Prim.Native.Nat.{_*_, _-_, _≤_}
-use mathlib.Core.Path.{_≡_, refl, _∙_}
+use mathlib.Core.Path.{_≡_, refl}
 use denote.Ref.{now}
 use native.Mathlib.Nat.{le-antisymm}
 use lib.ListN.{length, take}

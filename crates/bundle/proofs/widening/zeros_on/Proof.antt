@@ -1,6 +1,6 @@
 -- `zeros_on` meets its contract. Invariant: i zeros are written. Measure: the zeros left.
 use Prim.Native.Nat.{_+_, _-_, _≤_}
-use mathlib.Core.Path.{_≡_, refl, sym, ap, _∙_}
+use mathlib.Core.Path.{_≡_, refl, _∙_}
 use mathlib.Core.List.{_++_}
 use denote.Ref.{now}
 use native.Mathlib.Nat.{le-antisymm}
