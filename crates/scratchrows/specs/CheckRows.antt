@@ -24,8 +24,6 @@ abbrev pub checkRows : List Row
 checkRows =
     -- a routine that spills and reloads: st %g1, [%sp + 96]; retl; ld [%sp + 96], %o0, with the result 0, 4, .. 36
     routine (0xC223A060 ∷ 0x81C3E008 ∷ 0xD003A060 ∷ []) (given ∷ spilled ∷ called ∷ []) given fours gives answers 0 0 0
-    -- the load before any store: retl; ld [%sp + 96], %o0
-    ∷ routine (0x81C3E008 ∷ 0xD003A060 ∷ []) (framed ∷ called ∷ []) framed fours gives answers 4 1 33
     -- 15: the note before a scratch word; the lowest scratch word
     ∷ rowed (noted someCodes (put 33 fours called)) called gives answers 15 0 32
     ∷ rowed (put 37 fours (put 33 fours called)) called gives answers 15 0 34
@@ -52,6 +50,8 @@ passRows =
     ∷ Slots·._gives_ (onward called (put 37 fours (put 33 fours called))) (answers 12 0 34)
     ∷ Slots·._gives_ (onward (put 33 fours called) (put 33 fours called)) (answers 0 0 0)
     ∷ Slots·._gives_ (onward (put 33 fours called) called) (answers 0 0 0)
+    -- the load before any store: retl; ld [%sp + 96], %o0
+    ∷ Slots·._gives_ (Passes·.routine (0x81C3E008 ∷ 0xD003A060 ∷ []) (framed ∷ called ∷ []) fours) (answers 4 1 33)
     -- a store in a loop, st %g1, [%sp + 104]: what it stores is what row 0 asks for, and is not; another word is not touched
     ∷ Slots·._gives_ (looping 0xC223A068 (put 34 fours given)) (answers 0 0 0)
     ∷ Slots·._gives_ (looping 0xC223A068 (put 34 (just bias) given)) (answers 12 0 35)
