@@ -1,0 +1,206 @@
+// Where an access or an address is refused, the cause may be an entry that grows in a loop with nothing
+// to bound it. Such entries are kept from growing, one after another: if the check then names the way
+// back on which one grows, by 12, the dealer is told of that.
+ghost use mathlib.Core.Path.{_≡_};
+ghost use Prim.Native.Nat.{_+_, _≤_, _*_};
+ghost use lib.ListN.{length};
+ghost use Rattle.v8.specs.Numbers.{mostWords};
+ghost use Rattle.rows.specs.Geometry.{rowBytes, entryBytes, RowLies};
+use crate::trying::try_rows;
+use drafts::TABLE_ENTRIES;
+use growth::NO_LIMIT;
+use passes::Answer;
+use policy::Policy;
+use rows::geometry::ENTRIES;
+use rows::geometry::NOTE_NAME;
+use v8::Edition;
+use v8::Reading;
+use v8::numbers::EDGE_MISFIT;
+use v8::numbers::MOST_WORDS;
+use v8::numbers::OFF_GRID;
+use v8::numbers::OUTSIDE_FIELDS;
+use v8::numbers::OUTSIDE_REGION;
+
+// How many entries are tried at most.
+const TRIALS: u32 = 16;
+
+// The first of the numbers of growths that are tried; each further one is half of it.
+const FIRST_STRETCH: u16 = 128;
+
+// Whether a refusal may come from an entry that grows too far.
+pub fn from_growth(number: u8) -> bool {
+    (number == OUTSIDE_FIELDS) | (number == OFF_GRID) | (number == OUTSIDE_REGION)
+}
+
+// The number that names entry i of a row.
+fn name_of(i: usize) -> u32 {
+    let index = (i % ENTRIES) as u32;
+    if index < NOTE_NAME as u32 {
+        return index;
+    }
+    index + 1
+}
+
+// Whether an answer names a way back, given by its word plus 1, and entry i.
+fn is_way(a: Answer, way: u8, i: usize) -> bool {
+    let named = a.register as u32 == name_of(i);
+    named & (a.word.0 as u64 + 1 == way as u64)
+}
+
+// Whether an answer names the way back on which an entry grows that is kept from it.
+fn is_named(ways: &[u8; TABLE_ENTRIES], limits: &[u16; TABLE_ENTRIES], a: Answer) -> bool {
+    if a.number != EDGE_MISFIT {
+        return false;
+    }
+    let mut i: usize = 0;
+    while i < TABLE_ENTRIES {
+        if (limits[i] != NO_LIMIT) & is_way(a, ways[i], i) {
+            return true;
+        }
+        i += 1;
+    }
+    false
+}
+
+// Whether two answers are the same.
+fn same(a: Answer, b: Answer) -> bool {
+    (a.number == b.number) & (a.word.0 == b.word.0) & (a.register == b.register)
+}
+
+// How many growths are kept, with some more or not.
+fn longer(kept: u16, more: u16, holds: bool) -> u16
+    requires { ⌜ kept + more ≤ 256 ⌝ }
+    ensures { λ r. ⌜ r ≤ kept + more ⌝ }
+{
+    if holds {
+        return kept + more;
+    }
+    kept
+}
+
+// Gives all entries that are limited the same limit.
+fn limit_all(limits: &mut [u16; TABLE_ENTRIES], n: u16) {
+    let mut i: usize = 0;
+    while i < TABLE_ENTRIES {
+        if limits[i] != NO_LIMIT {
+            limits[i] = n;
+        }
+        i += 1;
+    }
+}
+
+// Lets the entries that are limited grow as far as the answer stays the same, so that the rows say how
+// far that is.
+fn stretch(
+    edition: Edition,
+    policy: Policy,
+    words: &[u32],
+    readings: [Reading; MOST_WORDS],
+    examined: &[bool; MOST_WORDS],
+    given: &[bool; MOST_WORDS],
+    entry: &[u8],
+    result: &[u8],
+    rows: &mut [u8],
+    limits: &mut [u16; TABLE_ENTRIES],
+    named: Answer,
+)
+    requires { ⌜ (length (now words) ≤ mostWords) × (rowBytes * length (now words) ≡ length (now rows)) × RowLies 0 (length (now entry)) × (entryBytes ≤ length (now result)) ⌝ }
+{
+    let mut spare = [0u8; TABLE_ENTRIES];
+    let mut kept: u16 = 0;
+    let mut more = FIRST_STRETCH;
+    while 0 < more {
+        limit_all(limits, kept + more);
+        let found = try_rows(
+            edition,
+            policy,
+            words,
+            readings,
+            examined,
+            given,
+            limits,
+            true,
+            entry,
+            result,
+            rows,
+            &mut spare,
+        );
+        kept = longer(kept, more, same(found, named));
+        more = more / 2;
+    }
+    limit_all(limits, kept);
+}
+
+// Keeps entries from growing until the answer names the way back on which one grows; whether one does. If
+// none does, no entry is limited at the end. `ways` and `first` are of the search without limits.
+pub fn blame(
+    edition: Edition,
+    policy: Policy,
+    words: &[u32],
+    readings: [Reading; MOST_WORDS],
+    examined: &[bool; MOST_WORDS],
+    given: &[bool; MOST_WORDS],
+    entry: &[u8],
+    result: &[u8],
+    rows: &mut [u8],
+    ways: &[u8; TABLE_ENTRIES],
+    limits: &mut [u16; TABLE_ENTRIES],
+    first: Answer,
+) -> bool
+    requires { ⌜ (length (now words) ≤ mostWords) × (rowBytes * length (now words) ≡ length (now rows)) × RowLies 0 (length (now entry)) × (entryBytes ≤ length (now result)) ⌝ }
+{
+    let mut spare = [0u8; TABLE_ENTRIES];
+    let mut answer = first;
+    let mut left = TRIALS;
+    let mut i: usize = 0;
+    while i < TABLE_ENTRIES {
+        if left == 0 {
+            break;
+        }
+        if (ways[i] == 0) | (limits[i] != NO_LIMIT) {
+            i += 1;
+            continue;
+        }
+        left -= 1;
+        limits[i] = 0;
+        let found = try_rows(
+            edition,
+            policy,
+            words,
+            readings,
+            examined,
+            given,
+            limits,
+            true,
+            entry,
+            result,
+            rows,
+            &mut spare,
+        );
+        if is_named(ways, limits, found) {
+            stretch(
+                edition,
+                policy,
+                words,
+                readings,
+                examined,
+                given,
+                entry,
+                result,
+                rows,
+                limits,
+                found,
+            );
+            return true;
+        }
+        if (found.number != EDGE_MISFIT) & (answer.word.0 < found.word.0) {
+            answer = found;
+            i = 0;
+        } else {
+            limits[i] = NO_LIMIT;
+            i += 1;
+        }
+    }
+    limit_all(limits, NO_LIMIT);
+    false
+}
