@@ -19,7 +19,6 @@ calls the functions of the check; this script has the names and the words.
 import os
 import re
 import struct
-import subprocess
 import sys
 from collections import namedtuple
 
@@ -27,13 +26,11 @@ sys.dont_write_bytecode = True
 import assembly
 import bundle
 import layout
+import programs
 import script
 from script import Problem
 
-ROOT = os.path.join(os.path.dirname(os.path.abspath(__file__)), "..")
-CARD = os.path.join(ROOT, "docs", "CARD.md")
-PROGRAMS = os.path.join(ROOT, "target", "bin")
-SECONDS = 60  # for the program to end
+CARD = os.path.join(programs.ROOT, "docs", "CARD.md")
 NOTE = layout.NOTE_NAMED  # the register that stands for the note
 KINDS = ["an unset entry", "a number", "an address", "an address that may be null", "the return address", "the frame's address"]
 ELEMENTS = {number: name for name, (number, _, _) in layout.ELEMENTS.items()}
@@ -65,29 +62,7 @@ def card_entry(number):
     raise Problem(f"{number} is no answer to a bundle: docs/CARD.md has all of them")
 
 
-# The program
-
-def program_of(name, edition):
-    """The program of a name for a terminal."""
-    return name if edition == script.OLDER else f"{name}{edition}"
-
-
-def is_built(name):
-    return os.path.exists(os.path.join(PROGRAMS, name))
-
-
-def run_program(name, data):
-    """What a program prints for a bundle, line by line."""
-    if not is_built(name):
-        raise Problem(f"target/bin/{name} is not built: `rt check {name}` proves and builds it")
-    done = subprocess.run([os.path.join(PROGRAMS, name)], input=data, capture_output=True, timeout=SECONDS)
-    return done.stdout.decode("ascii", "replace").splitlines()
-
-
-def unknown(name):
-    """The problem that a program prints something else than is known here."""
-    return Problem(f"target/bin/{name} does not say what is known here: `rt check {name}` builds it anew")
-
+# What the program says
 
 def said_of(lines, edition):
     """The answer and the items."""
@@ -109,7 +84,7 @@ def said_of(lines, edition):
                 rows[next(key for key in rows if rows[key] is row)] = row._replace(note=tuple(values))
         return Said(answer, items, rows, edition)
     except (ValueError, IndexError, AttributeError):
-        raise unknown(program_of("explain", edition)) from None
+        raise programs.unknown(programs.program_of("explain", edition)) from None
 
 
 def first(said, name):
@@ -594,7 +569,7 @@ def policy_of(data):
 
 def explained(data, names, remarks, edition):
     """The answer to a bundle, the card's entry and what in the bundle the answer is about, line by line."""
-    said = said_of(run_program(program_of("explain", edition), data), edition)
+    said = said_of(programs.lines_of(programs.run(programs.program_of("explain", edition), data)), edition)
     lines = ["{} {} {}".format(*said.answer), card_entry(said.answer[0])]
     return lines + ([""] + remarks + detail_lines(data, names, said) if said.answer[0] else [])
 

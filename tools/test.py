@@ -34,6 +34,7 @@ import kinds
 import layout
 import mutants
 import parts
+import programs
 import runs
 import script
 import searches
@@ -284,7 +285,7 @@ def text_shows_what_is_printed():
         tool, *options, folder = command.split()
         told, _ = script.taken_edition(options)
         edition = script.edition_of(os.path.join(ROOT, folder), told)
-        if not explain.is_built(explain.program_of(tool.removesuffix(".py"), edition)):
+        if not programs.is_built(programs.program_of(tool.removesuffix(".py"), edition)):
             continue
         _, out, _ = called(tool, *options, os.path.join(ROOT, folder))
         lines = [line[4:] for line in shown.splitlines() if line != "    .."]
