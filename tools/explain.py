@@ -11,7 +11,8 @@ Prints the answer, the entry of its number in docs/CARD.md, and then what in the
 by GNU binutils for SPARC, if that is here), its operands, the region's fields, or the frame's scratch words, and the bytes
 reached; for 12 and 14 the way, what was narrowed on it or why nothing was, what the word and its slot make of the register or
 scratch word and what it does not fit; for 1 and 18 to 23 the bytes that are badly formed. A slot is shown with the row that its
-branch or return hands on; or with its own, if a branch lands on it and it is refused with that.
+branch or return hands on; or with its own, if a branch lands on it and it is refused with that. Where rows.txt does not have
+all rows, the row is shown whole.
 
 All this is found by the program `explain` (target/bin/explain, made by `rt check explain`) or, for edition 9, `explain9`, which
 calls the functions of the check; this script has the names and the words.
@@ -567,18 +568,29 @@ def policy_of(data):
         return None
 
 
-def explained(data, names, remarks, edition):
-    """The answer to a bundle, the card's entry and what in the bundle the answer is about, line by line."""
+def row_lines(data, names, said, given):
+    """The row that the answer is about, where rows.txt has only so many of the rows and the others were found."""
+    rows = layout.open_bundle(data)[4] if "row" in said.items else []
+    if given is None or given >= len(rows):
+        return []
+    at = first(said, "row")[0]
+    return [f"row {at}, all of it: {bundle.row_text(rows[at], [name for name, _ in names])}",
+            f"(rows.txt has {given} of the {len(rows)} rows, the others were found: `bundle.py --rows` prints all)"]
+
+
+def explained(data, names, remarks, edition, given=None):
+    """The answer to a bundle, the card's entry and what in the bundle the answer is about, line by line; given is how many rows
+    rows.txt has, if there is one."""
     said = said_of(programs.lines_of(programs.run(programs.program_of("explain", edition), data)), edition)
     lines = ["{} {} {}".format(*said.answer), card_entry(said.answer[0])]
-    return lines + ([""] + remarks + detail_lines(data, names, said) if said.answer[0] else [])
+    return lines + ([""] + remarks + detail_lines(data, names, said) + row_lines(data, names, said, given) if said.answer[0] else [])
 
 
 def explain(path, edition):
     folder = os.path.isdir(path)
     data = script.read_bytes(os.path.join(path, "bundle.bin") if folder else path)
     names, remarks = bundle.names_of(path, policy_of(data)) if folder else ([], [])
-    return "\n".join(explained(data, names, remarks, edition))
+    return "\n".join(explained(data, names, remarks, edition, bundle.rows_in(path) if folder else None))
 
 
 def main(arguments):
