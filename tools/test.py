@@ -49,6 +49,7 @@ EXAMPLES = os.path.join(ROOT, "examples")
 NAMES = sorted(name for name in os.listdir(EXAMPLES) if os.path.isdir(os.path.join(EXAMPLES, name)))
 ANSWER, EXPLAIN, INFER, KINDS = (os.path.join(programs.FOLDER, program) for program in ("answer", "explain", "infer", "kinds"))
 ANSWER_9, EXPLAIN_9, INFER_9, KINDS_9 = (program + "9" for program in (ANSWER, EXPLAIN, INFER, KINDS))
+WITHOUT_ROWS = ["tare", "tare-one-past"]  # examples whose rows are found
 PATH = os.environ.get("PATH", "")
 AS, OBJDUMP = (assembly.BINUTILS + tool for tool in ("as", "objdump"))
 CASES = []
@@ -235,14 +236,30 @@ next + 7: slot
 
 # The examples
 
-@cases(AS)
-def examples_are_made():
-    for name in NAMES:
+def made_again(names):
+    for name in names:
         with example(name) as folder:
             os.remove(os.path.join(folder, "bundle.bin"))
             status, out, said = called("bundle.py", folder)
             same = status == 0 and read(folder, "bundle.bin") == read(EXAMPLES, name, "bundle.bin")
-            yield f"bundle.py makes the bundle of {name}", same and out == "", said
+            yield f"bundle.py makes the bundle of {name}", same and bool(out) == (name in WITHOUT_ROWS), out + said
+
+
+@cases(AS)
+def examples_are_made():
+    yield from made_again(name for name in NAMES if name not in WITHOUT_ROWS)
+
+
+@cases(AS, INFER)
+def examples_without_rows_are_made():
+    yield from made_again(WITHOUT_ROWS)
+
+
+@cases()
+def examples_without_rows():
+    for name in NAMES:
+        count = bundle.rows_in(os.path.join(EXAMPLES, name))
+        yield f"the rows of {name}", count == (0 if name in WITHOUT_ROWS else len(words_of(name))), str(count)
 
 
 @cases()
@@ -293,17 +310,19 @@ def examples_are_answered_on_the_newer():
         yield f"the newer terminal's bundle program answers {name}", out == read(EXAMPLES, name, "answer.txt"), out.decode()
 
 
-@cases(OBJDUMP)
+@cases(AS, OBJDUMP)
 def text_shows_what_is_printed():
     """What examples/README.md shows of the tools."""
     text = read(EXAMPLES, "README.md").decode()
-    for command, shown in re.findall(r"^    \$ tools/((?:explain|kinds)\.py .*)\n((?:    .+\n)+)", text, re.M):
+    for command, shown in re.findall(r"^    \$ tools/((?:bundle|explain|kinds)\.py .*)\n((?:    .+\n)+)", text, re.M):
         tool, *options, folder = command.split()
-        told, _ = script.taken_edition(options)
-        edition = script.edition_of(os.path.join(ROOT, folder), told)
-        if not programs.is_built(programs.program_of(tool.removesuffix(".py"), edition)):
+        told, options = script.taken_edition(options)
+        edition, name = script.edition_of(os.path.join(ROOT, folder), told), "infer" if tool == "bundle.py" else tool.removesuffix(".py")
+        if "--rows" not in options and not programs.is_built(programs.program_of(name, edition)):
             continue
-        _, out, _ = called(tool, *options, os.path.join(ROOT, folder))
+        with tempfile.TemporaryDirectory() as scratch:
+            shutil.copytree(os.path.join(ROOT, folder), os.path.join(scratch, folder))
+            _, out, _ = called(*command.split(), cwd=scratch)
         lines = [line[4:] for line in shown.splitlines() if line != "    .."]
         yield f"examples/README.md shows {command}", "\n".join(lines) in out, out
 
