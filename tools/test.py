@@ -16,6 +16,7 @@ none failed.
 """
 import contextlib
 import io
+import lzma
 import os
 import re
 import shutil
@@ -30,12 +31,14 @@ import bundle
 import cases as bundles
 import corpus
 import explain
+import found
 import kindcases
 import kinds
 import layout
 import mutants
 import parts
 import programs
+import routines
 import runs
 import script
 import searches
@@ -819,6 +822,147 @@ def rows_found_are_explained_by_the_program():
         yield "explain.py with a rows.txt without rows", right and ", note compared r1 31\n(rows.txt has 0 of the 9 rows" in out, out + said
         os.remove(os.path.join(folder, ROWS))
         yield "explain.py without rows.txt", called("explain.py", folder) == (0, before, ""), ""
+
+
+# Routines without rows
+
+@cases()
+def routines_without_rows():
+    text = routines.read_source()
+    listed, held = routines.routines_in(text), mutants.records(read(ROOT, "crates", "routines", "stdin"))
+    names = [name for name, _, _ in listed]
+    yield "each routine has a name of its own", len(set(names)) == len(names) == 54, str(names)
+    yield "each routine has an answer", all(re.fullmatch(r"\d+ \d+ \d+", answer) for _, answer, _ in listed), ""
+    expected = [(8, answer) for _, answer, _ in listed] + [(one.edition, one.answer) for one in corpus.examples()]
+    yield "crates/routines has the routines and the examples", [(one.edition, one.answer) for one in held] == expected, str(len(held))
+    yield "their rows are to be found", all(layout.without_rows(one.bundle) == one.bundle for one in held), ""
+    yield "the examples are those of now", held[54:] == routines.examples(), ""
+    yield "crates/routines/stdout", read(ROOT, "crates", "routines", "stdout") == f"{len(held)} bundles, 0 wrong\n".encode(), ""
+    yield "a routine without what is handed over", refused(routines.bundle_of, "x", "region a 8\nresult: 0\n retl\n nop\n"), ""
+
+
+@cases(AS)
+def routines_are_assembled():
+    text = routines.read_source()
+    held = b"".join(map(corpus.record, routines.records(text)))
+    yield "crates/routines has what routines.py makes", held == read(ROOT, "crates", "routines", "stdin"), ""
+    with tempfile.TemporaryDirectory() as folder:
+        path = os.path.join(folder, "finder.py")
+        write(b"class Found: answer = 12, 3, 1\ndef open_bundle(data): return data[3:5], 1, 2, 3, 4\n"
+              b"def infer(version, words, entry, result):\n    assert (version, words, entry, result) == (b'\\0\\1', 1, 3, 4)\n    return Found\n", path)
+        given = routines.routines_in(routines.answered(text, routines.loaded(path)))
+    right = [(name, held) for name, _, held in given] == [(name, held) for name, _, held in routines.routines_in(text)]
+    yield "answers taken from another finder of rows", right and {answer for _, answer, _ in given} == {"12 3 1"}, ""
+    for what, held, expected in [("no such instruction", " unknown\n", "routines.txt: x: routine.s, line 1: Unknown opcode"),
+                                 ("no words", "", "routines.txt: x: routine.s is empty")]:
+        try:
+            said = str(routines.bundle_of("x", f"entry: r15 = return\nresult: 0\n{held}"))
+        except script.Problem as problem:
+            said = str(problem)
+        yield f"a routine with {what}", said.startswith(expected), said
+
+
+def answered_as_expected(edition):
+    program = programs.program_of("infer", edition)
+    for at, one in enumerate(mutants.records(read(ROOT, "crates", "routines", "stdin"))):
+        if one.edition == edition:
+            line, _, filled = programs.run(program, one.bundle).partition(b"\n")
+            right = line.decode() == one.answer and bundle.is_filled(filled, one.bundle)
+            yield f"{program} with record {at} of crates/routines", right, f"{line} {one.answer}"
+
+
+@cases(INFER)
+def rows_of_routines_are_found():
+    yield from answered_as_expected(OLDER)
+
+
+@cases(INFER_9)
+def rows_of_routines_are_found_on_the_newer():
+    yield from answered_as_expected(NEWER)
+
+
+# How many rows are found again
+
+@contextlib.contextmanager
+def program_doing(function):
+    """With a function of a program's name and a bundle in the place of programs."""
+    before, programs.run = programs.run, function
+    try:
+        yield
+    finally:
+        programs.run = before
+
+
+def measured(records, every=1):
+    """What found.py prints of records."""
+    out = io.StringIO()
+    with contextlib.redirect_stdout(out), contextlib.redirect_stderr(io.StringIO()):
+        found.measure([("some", records)], every)
+    return out.getvalue()
+
+
+@cases()
+def words_that_are_reached():
+    number = layout.number
+    for condition, entry, expected in [
+            (1, number(0, 9), True), (1, number(6, 9), False), (1, number(0, 8, 4), False), (9, number(5, 5), False), (9, number(4, 4), True), (9, number(0, 9), True),
+            (3, number(5, 9), False), (3, number(4, 9), True), (2, number(6, 9), False), (2, number(5, 9), True), (10, number(0, 5), False), (10, number(0, 6), True),
+            (11, number(0, 4), False), (11, number(0, 5), True), (4, number(6, 9), True), (0, number(0, 9), False), (8, number(0, 9), True), (1, layout.NOTHING, True)]:
+        given = found.holds_for_some(condition, layout.row({1: entry}, (layout.NOTE_COMPARED, 1, 5)))
+        yield f"whether condition {condition} may hold of {entry}", given == expected, ""
+    yield "whether a condition may hold of codes that are set", found.holds_for_some(1, layout.row({1: layout.ZERO}, (layout.NOTE_SET, 0, 0))), ""
+    never = layout.row({1: number(6, 9)}, (layout.NOTE_COMPARED, 1, 5))
+    for what, words, row, expected in [
+            ("a loop", WORDS, None, set(range(9))), ("a loop that begins in a slot", LOOP, None, set(range(13))),
+            ("a word that is passed over", [AWAY, parts.NOP, parts.NOP, parts.RETURN, parts.NOP], None, {0, 1, 3, 4}),
+            ("a word after the return", [parts.RETURN, parts.NOP, parts.NOP, parts.NOP], None, {0, 1}),
+            ("a branch that is never taken", [0x02800004, parts.NOP, parts.RETURN, parts.NOP, parts.NOP, parts.RETURN, parts.NOP], never, {0, 1, 2, 3})]:
+        data = layout.bundle_bytes([], layout.row({}), layout.NOTHING, words, [row or layout.row({}, (layout.NOTE_SET, 0, 0))] * len(words))
+        yield f"words that are reached: {what}", found.reached(data, OLDER) == expected, repr(found.reached(data, OLDER))
+
+
+@cases()
+def rows_found_again_are_counted():
+    whole, other = read(EXAMPLES, "name", "bundle.bin"), read(EXAMPLES, "linked", "bundle.bin")
+    records = [mutants.Record(8, whole, "0 0 0"), mutants.Record(8, b"", "23 0 0"), mutants.Record(8, other, "0 0 0"), mutants.Record(9, whole, "0 0 0")]
+
+    def giving(line, filled=None):
+        """A program that answers a bundle without rows so, and that does not accept the one of `linked`."""
+        def run(name, data):
+            if data == other:
+                return b"25 0 16\n" + data
+            return b"0 0 0\n" + data if data == whole else line + (whole if filled is None else filled)
+        return run
+
+    for what, line, filled, expected in [
+            ("found", b"0 0 0\n", None, "some: 2 of 2 found again (100.00 %); 1 not accepted any more\nin all: 2 of 2 found again (100.00 %)\nslowest: "),
+            ("missed", b"7 6 10\n", None, "in all: 0 of 2 found again (0.00 %)\n  missed, 7 at a word that is reached: 2\n  some, bundle 1: 7 6 10\n  some, bundle 4: 7 6 10\n"),
+            ("not filled in", b"0 0 0\n", layout.without_rows(whole), "  missed, no answer: 2\n  some, bundle 1: no answer\n")]:
+        with program_doing(giving(line, filled)):
+            given = measured(records)
+        yield f"rows that are {what}", expected in given, given
+    with program_doing(giving(b"0 0 0\n")):
+        given = measured(records, 3)
+    yield "one of three", given.startswith("some: 1 of 1 found again"), given
+    yield "no records", measured([]) == "some: 0 of 0 found again; 0 not accepted any more\nin all: 0 of 0 found again\n", ""
+    for arguments, expected in [(["--every", "3", "a"], (3, ["a"])), (["a"], (1, ["a"]))]:
+        yield f"the number in {arguments}", found.taken_every(arguments) == expected, ""
+    for arguments in ["--every"], ["--every", "0"], ["--every", "x", "a"]:
+        yield f"no number in {arguments}", refused(found.taken_every, arguments), ""
+
+
+@cases(INFER)
+def rows_are_found_again():
+    with tempfile.TemporaryDirectory() as folder:
+        shown = [one for one in corpus.examples() if one.edition == OLDER]
+        held = b"".join(struct.pack(">I", len(one.bundle)) + one.bundle for one in shown)
+        write(held, folder, "some.bin")
+        write(lzma.compress(held), folder, "some.bin.xz")
+        write("".join(f"{one.answer}\n" for one in shown).encode(), folder, "some.txt")
+        count = sum(one.answer == "0 0 0" for one in shown)
+        for name in "some.bin", "some.bin.xz":
+            status, out, said = called("found.py", "8", os.path.join(folder, name), os.path.join(folder, "some.txt"))
+            yield f"found.py with {name}", (status, said) == (0, "") and out.startswith(f"some: {count} of {count} found again (100.00 %)"), out + said
 
 
 # Listings of kinds
@@ -1647,6 +1791,10 @@ def wrong_calls():
             ("corpus.py", ["x"]), ("corpus.py", ["none", "none"]), ("corpus.py", ["9", "none", "none"]),
             ("corpus.py", ["7", os.path.join(name, "bundle.bin"), os.path.join(name, "answer.txt")]), ("mutants.py", ["x"]), ("runs.py", ["x", "y"]), ("runs.py", ["none"]), ("speed.py", ["x"]),
             ("tables.py", ["x", "y"]), ("tables.py", ["none"]), ("tables.py", [os.path.join(ROOT, "README.md")]),
+            ("routines.py", ["x"]), ("routines.py", ["--answers"]), ("routines.py", ["--answers", "none"]), ("routines.py", ["--answers", os.path.join(ROOT, "none.py")]),
+            ("found.py", []), ("found.py", ["8", "none"]), ("found.py", ["8", "none", "none"]), ("found.py", ["--every", "0", "8", "none", "none"]),
+            ("found.py", ["7", os.path.join(name, "bundle.bin"), os.path.join(name, "answer.txt")]),
+            ("bundle.py", ["--rows"]), ("bundle.py", ["--rows", EXAMPLES]), ("bundle.py", ["--rows", "--version", "1", name]),
             ("searches.py", ["x", "y"]), ("searches.py", ["none"]), ("searches.py", [os.path.join(ROOT, "README.md")])]:
         status, out, said = called(tool, *arguments)
         yield f"{tool} {' '.join(arguments)[:60]}", one_line(tool, status, out, said), f"{status} {out} {said}"
