@@ -559,7 +559,7 @@ def changes(row, base, names):
 
 def row_text(row, names):
     """The row's set registers but r0, its set scratch words, and its note if there is one."""
-    return ", ".join(changes(row, SLOT, names)) or "all unset"
+    return "to be found" if row == layout.TO_FIND else ", ".join(changes(row, SLOT, names)) or "all unset"
 
 
 def short_text(row, bases, names):

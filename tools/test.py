@@ -722,6 +722,8 @@ def rows_that_are_printed_of_any_bundle():
         lines = bundle.rows_text(folder, 8).splitlines()
         right = [line.partition(":")[0] for line in lines[2:]] == ["0", "1", "2", "4", "5", "7", "8"] and lines[5].startswith("4: as before, r1 = ")
         yield "rows to be found are not printed", right, "\n".join(lines)
+        lines = bundle.listing(folder, 8).splitlines()
+        yield "rows to be found are listed as such", [k for k, line in enumerate(lines[-9:]) if line.endswith("  to be found")] == [3, 6], "\n".join(lines)
         for what, data in [("an entry of kind 9", with_row(whole, 3, b"\1\0\x08" + bytes(9) + b"\x09" + bytes(451))), ("a note of kind 9", whole[:-8] + b"\x09" + whole[-7:]),
                            ("a byte that is not 0", whole[:-5] + b"\1" + whole[-4:])]:
             write(data, folder, "bundle.bin")
@@ -776,6 +778,10 @@ def rows_that_are_kept():
         yield "a row that is kept is checked", status == 0 and "\n7 " in out and out.count("refused") == 1, out + said
         shown = called("bundle.py", "--rows", folder)[1]
         yield "a row that is kept stays as it is", "\n1: as entry, r1 = 0..30\n" in shown, shown
+        for what, row in [("registers", b"7: as entry, r1 = 30, r2 = 32..126\n"), ("codes", b"7: r1 = 30, r15 = return, note compared r1 30\n")]:
+            write(START + row, folder, ROWS)
+            status, out, said = called("bundle.py", folder)
+            yield f"a row that is kept with {what} that no later word needs", status == 0 and out.endswith("\n0 0 0: accepted\n"), out + said
 
 
 @cases(INFER, ANSWER)
@@ -1592,7 +1598,7 @@ def versions_of_bundles():
     yield "both versions open alike", layout.open_bundle(both[0]) == layout.open_bundle(both[1]), ""
     yield "72 bytes less a row in version 1", len(both[1]) - len(both[0]) == 72 * 10, ""
     _, out, _ = called("bundle.py", "--list", os.path.join(EXAMPLES, "sum"))
-    yield "bundle.py --list says that a bundle is of version 1", out.startswith("(a bundle of version 1: its rows have no scratch words)\n"), out
+    yield "bundle.py --list says that a bundle is of version 1", "(a bundle of version 1: its rows have no scratch words)\nentry: " in out, out
     for version, data in zip((1, 2), both):
         less = kinds.without_rows(noisy(data))
         policy, entry, result, words, rows = layout.open_bundle(less)
