@@ -950,6 +950,11 @@ def rows_found_again_are_counted():
     with program_doing(giving(b"0 0 0\n")):
         given = measured(records, 3)
     yield "one of three", given.startswith("some: 1 of 1 found again"), given
+    words = [AWAY, parts.NOP, parts.NOP, parts.RETURN, parts.NOP]
+    passed = mutants.Record(8, layout.bundle_bytes([], layout.row({}), layout.NOTHING, words, [layout.row({})] * 5), "0 0 0")
+    for answer, expected in [("4 2 1", "4 at a word that nothing reaches"), ("4 1 1", "4 at a word that is reached"), (None, "no answer")]:
+        given = found.miss_text(found.Outcome(1, passed, "0 0 0", answer, 0))
+        yield f"a miss with {answer}", given == expected, given
     yield "no records", measured([]) == "some: 0 of 0 found again; 0 not accepted any more\nin all: 0 of 0 found again\n", ""
     for arguments, expected in [(["--every", "3", "a"], (3, ["a"])), (["a"], (1, ["a"]))]:
         yield f"the number in {arguments}", found.taken_every(arguments) == expected, ""
