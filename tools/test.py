@@ -800,10 +800,13 @@ def bundles_without_rows_to_find():
             ("no bytes", b"", b"23 0 0\n"), ("a byte less", whole[:-1], b"23 0 0\n"), ("another mark", b"X" + whole[1:], b"23 0 0\n"),
             ("a region of 41 bytes", whole[:9] + b"\x29" + whole[10:], b"19 0 0\n"), ("all rows", whole, b"0 0 0\n" + whole),
             ("all rows, refused", read(EXAMPLES, "name-one-past", "bundle.bin"), b"7 6 10\n" + read(EXAMPLES, "name-one-past", "bundle.bin")),
-            ("all rows of version 1", made_in(1), b"0 0 0\n" + made_in(1)),
-            ("no rows of version 1", layout.without_rows(made_in(1)), b"0 0 0\n" + made_in(1))]:
+            ("all rows of version 1", made_in(1), b"0 0 0\n" + made_in(1))]:
         given = programs.run("infer", data)
         yield f"infer with {what}", given == expected, repr(given[:20])
+    for version in layout.ROW_SIZES:
+        data = layout.without_rows(made_in(version))
+        line, _, filled = programs.run("infer", data).partition(b"\n")
+        yield f"infer with no rows of version {version}", line == b"0 0 0" and bundle.is_filled(filled, data), repr(line)
 
 
 @cases()
