@@ -163,6 +163,12 @@ def landings(words, edition=script.OLDER):
     return found
 
 
+def plain_slots(words, edition=script.OLDER):
+    """The slots that no branch lands on: their rows are not read."""
+    landed = landings(words, edition)
+    return {k for k in range(1, len(words)) if is_transfer(words[k - 1], edition) and k not in landed}
+
+
 def branches_text(branches):
     """That these words branch to a word: `word 3 branches`, `words 3 and 9 branch`."""
     *first, last = branches

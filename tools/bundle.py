@@ -3,6 +3,7 @@
 
     tools/bundle.py FOLDER               reads FOLDER/routine.s, policy.txt and rows.txt, writes FOLDER/bundle.bin
     tools/bundle.py --list FOLDER        prints each word of FOLDER/bundle.bin with its disassembly and its row
+    tools/bundle.py --rows FOLDER        prints the rows of FOLDER/bundle.bin as a rows.txt would have them
     tools/bundle.py --edition 9 ..       for the newer terminal, which follows SPARC Version 9; 8 is the older one
     tools/bundle.py --version 1 FOLDER   writes a bundle of version 1, whose rows have no scratch words; 2 has them
 
@@ -13,6 +14,11 @@ To make a bundle needs GNU as for SPARC (Debian: binutils-sparc64-linux-gnu); to
 the disassembly, which is left out otherwise. It writes down what the files say and does not check it: to
 accept or refuse a bundle is the bundle program's task. On a file that cannot be written down it prints the
 file, the line and the reason, and ends with status 1; there is then no bundle.bin, also none of before.
+
+Rows that rows.txt does not have are found by the program `infer` (target/bin/infer, made by `rt check infer`) or, for
+edition 9, `infer9`; those that it has are kept. Then two lines are printed: how many rows were found, and the answer to the
+bundle with them. A refused one is written too, so that `explain.py FOLDER` says what is wrong. If rows.txt has them all,
+nothing is found and nothing printed.
 
 The files are UTF-8. In policy.txt and rows.txt, `#` begins a comment and an indented line goes on with the
 line above, except that each `field` is a line of its own. Numbers are decimal, or hexadecimal after 0x.
@@ -31,7 +37,7 @@ policy.txt
 rows.txt
     entry: ROW          what the terminal hands over
     result: ENTRY       what must be in r8 at the return
-    WORD: ROW           one line for each word, ascending
+    WORD: ROW           what holds at the word; ascending; left out, it is found
   WORD         its number, from 0 on; a label of routine.s; LABEL+N, so many words after it; or +1, the word
                after that of the row above
   ROW          parts with commas between; registers and scratch words that are not named are unset, r0 is 0, the note is
@@ -56,6 +62,7 @@ import sys
 sys.dont_write_bytecode = True
 import assembly
 import layout
+import programs
 import script
 from layout import (ADDRESS, ELEMENTS, FRAME, FRAME_ADDRESS, FULL, NO_NOTE, NOTE_COMPARED, NOTE_NONE, NOTE_SET, NOTHING, NUMBER,
                     OR_NULL, PERMISSIONS, RETURN, RETURN_ADDRESS, SINGLE_STEP, TO_START, TO_START_OR_NULL, UNSET)
@@ -70,7 +77,8 @@ FIELD = re.compile(rf"field ([\w-]+) at ({NUM}): ({NUM}) ([^,]+), ([^,]+?)(?:, (
 WORD = re.compile(r"([0-9]+)|\+([0-9]+)|([^\W\d][\w.$]*|[.$][\w.$]*)(?: ?\+ ?([0-9]+))?")
 SCRATCH = re.compile(r"\[ ?(%\w+|r[0-9]+) ?\+ ?([0-9]+|0x[0-9a-fA-F]+) ?\]")
 SLOT = layout.row({})
-MOST_LISTED = 128  # words of a routine that lacks rows; more are not accepted
+ANSWER = re.compile(r"\d+ \d+ \d+")
+ACCEPTED = "0 0 0"
 
 
 # Lines
@@ -244,6 +252,15 @@ class Rows:
         start = self.labels[label] if label else self.last() if after else 0
         return start + whole((number or after or distance or "0").lstrip("0") or "0", 0, 65535, "a word")
 
+    def parts(self):
+        """Entry row, result entry and rows; those that no line has are to be found."""
+        return self.named["entry"], self.named["result"], [self.rows.get(word, layout.TO_FIND) for word in range(self.count)]
+
+    def lacking(self):
+        """How many words have no row, in words; nothing if each has one."""
+        words = [word for word in range(self.count) if word not in self.rows]
+        return f"no row for {len(words)} of the {self.count} words, from {self.called(words[0])} on" if words else ""
+
     def called(self, word):
         """A word with its labels."""
         labels = [label for label, at in self.labels.items() if at == word]
@@ -363,18 +380,23 @@ def set_of(text):
 
 
 def read_rows(path, names, labels, words, edition, version):
-    """Entry row, result entry, rows."""
+    """The rows of a rows.txt."""
     rows, name = Rows(names, labels, len(words), assembly.landings(words, edition), version), os.path.basename(path)
     for first, last, text in lines_of(path):
         at_lines(path, first, last, rows.add, text)
     for key in ("entry", "result"):
         if key not in rows.named:
             raise Problem(f"{name} has no line `{key}:`")
-    lacking = [word for word in range(len(words)) if word not in rows.rows]
-    if lacking:
-        raise Problem(f"{name} has no row for {len(lacking)} of the {len(words)} words, from {rows.called(lacking[0])} on\n"
-                      + "\n".join(word_lines(words, labels, lacking, edition)[:MOST_LISTED]))
-    return rows.named["entry"], rows.named["result"], list(rows.rows.values())
+    return rows
+
+
+def rows_in(folder):
+    """How many rows a folder's rows.txt has; None if it is not there or no text."""
+    try:
+        keys = [text.partition(":")[0].strip() for _, _, text in lines_of(os.path.join(folder, "rows.txt"))]
+    except Problem:
+        return None
+    return sum(key not in ("entry", "result") for key in keys)
 
 
 def words_shown(words, labels, edition):
@@ -384,30 +406,34 @@ def words_shown(words, labels, edition):
     return [f"{k:3}  {names[k]:<{wide}}{word:08X}" + (f"  {texts[k]:<32}" if texts else "") for k, word in enumerate(words)]
 
 
-def word_lines(words, labels, lacking, edition):
-    """Each word as it is shown; those without a row are marked."""
-    return [f"  {text}  {'<- no row' if k in lacking else ''}".rstrip() for k, text in enumerate(words_shown(words, labels, edition))]
-
-
 # Bundle
 
 def bundle_of(folder, edition, version):
-    """The bundle of a folder's three files."""
+    """The bundle of a folder's three files, and in words how many rows are to be found in it."""
     regions = read_policy(os.path.join(folder, "policy.txt"))
     words, labels = assembly.assemble(folder, edition)
     if len(words) > layout.ROOM_WORDS:
         raise Problem(f"routine.s has {len(words)} words: a bundle has room for {layout.ROOM_WORDS}")
     names = [name for name, _, _ in regions]
-    entry, result, rows = read_rows(os.path.join(folder, "rows.txt"), names, labels, words, edition, version)
-    return layout.bundle_bytes(unnamed(regions), entry, result, words, rows, version)
+    rows = read_rows(os.path.join(folder, "rows.txt"), names, labels, words, edition, version)
+    entry, result, given = rows.parts()
+    return layout.bundle_bytes(unnamed(regions), entry, result, words, given, version), rows.lacking()
 
 
 def make(folder, edition, told=None):
-    """Writes a folder's bundle. The one of before is gone first, so that it is never taken for the new one."""
+    """Writes a folder's bundle, and gives the lines that tell what was found for it. The one of before is gone first, so that
+    it is never taken for the new one."""
     path = os.path.join(folder, "bundle.bin")
     if os.path.lexists(path):
         os.remove(path)
-    data = bundle_of(folder, edition, version_of(folder, told))
+    data, lacking = bundle_of(folder, edition, version_of(folder, told))
+    answer, held = rows_found(data, lacking, edition) if lacking else ("", data)
+    write_whole(path, held)
+    return found_lines(folder, edition, lacking, answer, held != data) if lacking else []
+
+
+def write_whole(path, data):
+    """Writes a file that is there whole or not at all."""
     try:
         with open(path + ".new", "wb") as file:
             file.write(data)
@@ -416,6 +442,37 @@ def make(folder, edition, told=None):
         if os.path.exists(path + ".new"):
             os.remove(path + ".new")
         raise
+
+
+# Rows that are found
+
+def rows_found(data, lacking, edition):
+    """The answer of the program that finds rows, and the bundle with these; as it was, if it does not open."""
+    program = programs.program_of("infer", edition)
+    if not programs.is_built(program):
+        raise Problem(f"rows.txt has {lacking}, and {programs.not_built(program)}")
+    line, _, filled = programs.run(program, data).partition(b"\n")
+    answer = line.decode("ascii", "replace")
+    if not ANSWER.fullmatch(answer) or filled and not is_filled(filled, data):
+        raise programs.unknown(program)
+    return answer, filled or data
+
+
+def is_filled(filled, data):
+    """Whether a bundle is another one with all rows that are to be found in it."""
+    before, given = layout.row_parts(data)
+    if len(filled) != len(data) or not filled.startswith(before):
+        return False
+    _, rows = layout.row_parts(filled)
+    return all(not layout.is_to_find(row) and (layout.is_to_find(old) or row == old) for row, old in zip(rows, given))
+
+
+def found_lines(folder, edition, lacking, answer, found):
+    """How many rows were found, and what becomes of the bundle with them."""
+    done = f"found by target/bin/{programs.program_of('infer', edition)}" if found else "not looked for, since the bundle does not open"
+    told = "" if script.edition_of(folder) == edition else f"--edition {edition} "
+    more = "" if answer == ACCEPTED else f"; `tools/explain.py {told}{folder}` says why"
+    return [f"rows.txt has {lacking}: {done}", f"{answer}: {'accepted' if answer == ACCEPTED else 'refused'}{more}"]
 
 
 def read_bundle(path):
@@ -494,11 +551,59 @@ def note_text(note):
     return {0: "note none", 1: "note set", 2: f"note compared r{register} {number}"}.get(kind, f"note of kind {kind}")
 
 
+def changes(row, base, names):
+    """The parts of a row that are not those of another."""
+    parts = [f"{place_text(k)} = {entry_text(entry, names)}" for k, (entry, other) in enumerate(zip(row[0], base[0])) if entry != other]
+    return parts + ([note_text(row[1])] if row[1] != base[1] else [])
+
+
 def row_text(row, names):
     """The row's set registers but r0, its set scratch words, and its note if there is one."""
-    entries, note = row
-    parts = [f"{place_text(k)} = {entry_text(entry, names)}" for k, entry in enumerate(entries) if k and entry != NOTHING]
-    return ", ".join(parts + ([note_text(note)] if note != NO_NOTE else [])) or "all unset"
+    return "to be found" if row == layout.TO_FIND else ", ".join(changes(row, SLOT, names)) or "all unset"
+
+
+def short_text(row, bases, names):
+    """A row as rows.txt has it: by itself or, if that is shorter, by what is changed in one of the rows that it may begin with."""
+    texts = [", ".join(changes(row, SLOT, names)) or "note none"]
+    return min(texts + [", ".join([f"as {name}", *changes(row, base, names)]) for name, base in bases], key=len)
+
+
+def rows_lines(entry, result, words, rows, names, edition):
+    """The lines of a rows.txt with these rows; those that are to be found are left out."""
+    lines = [f"entry: {', '.join(changes(entry, SLOT, names))}".rstrip(), f"result: {entry_text(result, names)}"]
+    slots, above, last = assembly.plain_slots(words, edition), None, None  # the row above, and the last that is no `slot`
+    for word in (word for word, row in enumerate(rows) if row != layout.TO_FIND):
+        bases = [("entry", entry)] + ([("before" if last == above else str(last), rows[last])] if last is not None else [])
+        is_slot = word in slots and rows[word] == SLOT
+        lines.append(f"{word}: " + ("slot" if is_slot else short_text(rows[word], bases, names)))
+        above, last = word, last if is_slot else word
+    return lines
+
+
+def reads_as(lines, names, data, edition):
+    """Whether a rows.txt with these lines gives the bundle."""
+    policy, _, _, words, _ = layout.open_bundle(data)
+    version = layout.version_of(data)
+    rows = Rows(names, {}, len(words), assembly.landings(words, edition), version)
+    try:
+        for line in lines:
+            rows.add(line)
+        entry, result, given = rows.parts()
+        return layout.bundle_bytes(policy, entry, result, words, given, version) == data
+    except Problem:
+        return False
+
+
+def rows_text(folder, edition):
+    """The rows of a folder's bundle as a rows.txt has them."""
+    path = os.path.join(folder, "bundle.bin")
+    _, (policy, *parts) = read_bundle(path)
+    named, remarks = names_of(folder, policy)
+    names = [name for name, _ in named] or [f"region{k}" for k in range(len(policy))]
+    lines = rows_lines(*parts, names, edition)
+    if not reads_as(lines, names, script.read_bytes(path), edition):
+        raise Problem("bundle.bin has a row that is badly formed, and rows.txt has no words for it: `explain.py` says where it stands")
+    return "\n".join([f"# {remark}" for remark in remarks] + lines)
 
 
 def listing(folder, edition):
@@ -520,17 +625,15 @@ def listing(folder, edition):
 def main(arguments):
     told, others = script.taken_edition(arguments)
     version, others = taken_version(others)
-    listed = others[:1] == ["--list"]
-    folders = others[1:] if listed else others
-    if len(folders) != 1 or folders[0].startswith("-") or listed and version:
-        raise Problem("call it as `bundle.py FOLDER` or `bundle.py --list FOLDER`; `bundle.py --help` says more")
+    printing = {"--list": listing, "--rows": rows_text}.get(others[0]) if others else None
+    folders = others[1:] if printing else others
+    if len(folders) != 1 or folders[0].startswith("-") or printing and version:
+        raise Problem("call it as `bundle.py FOLDER`, `bundle.py --list FOLDER` or `bundle.py --rows FOLDER`; `bundle.py --help` says more")
     if not os.path.isdir(folders[0]):
         raise Problem(f"{folders[0]} is no folder")
     edition = script.edition_of(folders[0], told)
-    if listed:
-        print(listing(folders[0], edition))
-    else:
-        make(folders[0], edition, version)
+    for line in [printing(folders[0], edition)] if printing else make(folders[0], edition, version):
+        print(line)
 
 
 if __name__ == "__main__":

@@ -7,7 +7,8 @@
     tools/corpus.py --examples                     takes the examples as they are now; all else stays
 
 EDITION is 8 or 9, the terminal. BUNDLES has bundles one after another, each after its length as a 32-bit big-endian
-number; line n of ANSWERS is the answer to bundle n on that terminal: number, word and register in decimal.
+number; it may be compressed, and its name then ends with .xz. Line n of ANSWERS is the answer to bundle n on that terminal:
+number, word and register in decimal.
 
 There are three sources: the independent implementation's bundles, the bundles of cases.py and framecases.py, and those of
 examples/ with the answers that stand beside them (on the terminal that the file `edition` there names; without one it is 8).
@@ -29,6 +30,7 @@ The records stand in the order of the sources. The first made bundle is that of 
 stands before it is the independent implementation's. A record: edition (a byte), number (a byte), register (a byte), word
 (16 bits), the bundle's length (32 bits), big-endian, and then the bundle.
 """
+import lzma
 import os
 import struct
 import sys
@@ -75,14 +77,12 @@ def stream(edition, bundles, answers):
 
 
 def streams(arguments):
-    """The records that the arguments name, three arguments each time."""
+    """The records of each three arguments that name some."""
     if len(arguments) % 3:
-        raise script.Problem("call it as `corpus.py`, `corpus.py --examples` or `corpus.py [--anew] EDITION BUNDLES ANSWERS ..`")
-    found = []
+        raise script.Problem("call it with EDITION BUNDLES ANSWERS, once or more; `--help` says more")
     for edition, bundles, answers in zip(*[iter(arguments)] * 3):
-        with open(bundles, "rb") as data, open(answers) as lines:
-            found += stream(script.edition_named([edition], "EDITION"), data.read(), lines.read())
-    return found
+        with (lzma.open if bundles.endswith(".xz") else open)(bundles, "rb") as data, open(answers) as lines:
+            yield stream(script.edition_named([edition], "EDITION"), data.read(), lines.read())
 
 
 def examples():
@@ -203,10 +203,11 @@ def chosen(lengths, told, sorts, always):
     return sorted(taken)
 
 
-def write(held):
-    with open(os.path.join(CRATE, "stdin"), "wb") as file:
+def write(held, crate=CRATE):
+    """Writes records as the data of a program, and what it must print."""
+    with open(os.path.join(crate, "stdin"), "wb") as file:
         file.write(b"".join(map(record, held)))
-    with open(os.path.join(CRATE, "stdout"), "w") as file:
+    with open(os.path.join(crate, "stdout"), "w") as file:
         file.write(f"{len(held)} bundles, 0 wrong\n")
 
 
@@ -223,7 +224,7 @@ def main(arguments):
     if arguments == ["--examples"]:
         return with_examples()
     anew = arguments[:1] == ["--anew"]
-    more, shown = streams(arguments[anew:]), examples()
+    more, shown = [one for several in streams(arguments[anew:]) for one in several], examples()
     made = mutants.case_records(lambda length: length <= mutants.ROOM)
     kept, rest = standing(made[0])
     other = [one for one in dict.fromkeys(kept + shortest(more)) if len(one.bundle) <= mutants.ROOM]

@@ -11,7 +11,8 @@ Prints the answer, the entry of its number in docs/CARD.md, and then what in the
 by GNU binutils for SPARC, if that is here), its operands, the region's fields, or the frame's scratch words, and the bytes
 reached; for 12 and 14 the way, what was narrowed on it or why nothing was, what the word and its slot make of the register or
 scratch word and what it does not fit; for 1 and 18 to 23 the bytes that are badly formed. A slot is shown with the row that its
-branch or return hands on; or with its own, if a branch lands on it and it is refused with that.
+branch or return hands on; or with its own, if a branch lands on it and it is refused with that. Where rows.txt does not have
+all rows, the row is shown whole.
 
 All this is found by the program `explain` (target/bin/explain, made by `rt check explain`) or, for edition 9, `explain9`, which
 calls the functions of the check; this script has the names and the words.
@@ -19,7 +20,6 @@ calls the functions of the check; this script has the names and the words.
 import os
 import re
 import struct
-import subprocess
 import sys
 from collections import namedtuple
 
@@ -27,13 +27,11 @@ sys.dont_write_bytecode = True
 import assembly
 import bundle
 import layout
+import programs
 import script
 from script import Problem
 
-ROOT = os.path.join(os.path.dirname(os.path.abspath(__file__)), "..")
-CARD = os.path.join(ROOT, "docs", "CARD.md")
-PROGRAMS = os.path.join(ROOT, "target", "bin")
-SECONDS = 60  # for the program to end
+CARD = os.path.join(programs.ROOT, "docs", "CARD.md")
 NOTE = layout.NOTE_NAMED  # the register that stands for the note
 KINDS = ["an unset entry", "a number", "an address", "an address that may be null", "the return address", "the frame's address"]
 ELEMENTS = {number: name for name, (number, _, _) in layout.ELEMENTS.items()}
@@ -65,29 +63,7 @@ def card_entry(number):
     raise Problem(f"{number} is no answer to a bundle: docs/CARD.md has all of them")
 
 
-# The program
-
-def program_of(name, edition):
-    """The program of a name for a terminal."""
-    return name if edition == script.OLDER else f"{name}{edition}"
-
-
-def is_built(name):
-    return os.path.exists(os.path.join(PROGRAMS, name))
-
-
-def run_program(name, data):
-    """What a program prints for a bundle, line by line."""
-    if not is_built(name):
-        raise Problem(f"target/bin/{name} is not built: `rt check {name}` proves and builds it")
-    done = subprocess.run([os.path.join(PROGRAMS, name)], input=data, capture_output=True, timeout=SECONDS)
-    return done.stdout.decode("ascii", "replace").splitlines()
-
-
-def unknown(name):
-    """The problem that a program prints something else than is known here."""
-    return Problem(f"target/bin/{name} does not say what is known here: `rt check {name}` builds it anew")
-
+# What the program says
 
 def said_of(lines, edition):
     """The answer and the items."""
@@ -109,7 +85,7 @@ def said_of(lines, edition):
                 rows[next(key for key in rows if rows[key] is row)] = row._replace(note=tuple(values))
         return Said(answer, items, rows, edition)
     except (ValueError, IndexError, AttributeError):
-        raise unknown(program_of("explain", edition)) from None
+        raise programs.unknown(programs.program_of("explain", edition)) from None
 
 
 def first(said, name):
@@ -592,18 +568,29 @@ def policy_of(data):
         return None
 
 
-def explained(data, names, remarks, edition):
-    """The answer to a bundle, the card's entry and what in the bundle the answer is about, line by line."""
-    said = said_of(run_program(program_of("explain", edition), data), edition)
+def row_lines(data, names, said, given):
+    """The row that the answer is about, where rows.txt has only so many of the rows and the others were found."""
+    rows = layout.open_bundle(data)[4] if "row" in said.items else []
+    if given is None or given >= len(rows):
+        return []
+    at = first(said, "row")[0]
+    return [f"row {at}, all of it: {bundle.row_text(rows[at], [name for name, _ in names])}",
+            f"(rows.txt has {given} of the {len(rows)} rows, the others were found: `bundle.py --rows` prints all)"]
+
+
+def explained(data, names, remarks, edition, given=None):
+    """The answer to a bundle, the card's entry and what in the bundle the answer is about, line by line; given is how many rows
+    rows.txt has, if there is one."""
+    said = said_of(programs.lines_of(programs.run(programs.program_of("explain", edition), data)), edition)
     lines = ["{} {} {}".format(*said.answer), card_entry(said.answer[0])]
-    return lines + ([""] + remarks + detail_lines(data, names, said) if said.answer[0] else [])
+    return lines + ([""] + remarks + detail_lines(data, names, said) + row_lines(data, names, said, given) if said.answer[0] else [])
 
 
 def explain(path, edition):
     folder = os.path.isdir(path)
     data = script.read_bytes(os.path.join(path, "bundle.bin") if folder else path)
     names, remarks = bundle.names_of(path, policy_of(data)) if folder else ([], [])
-    return "\n".join(explained(data, names, remarks, edition))
+    return "\n".join(explained(data, names, remarks, edition, bundle.rows_in(path) if folder else None))
 
 
 def main(arguments):

@@ -39,6 +39,7 @@ import assembly
 import bundle
 import explain
 import layout
+import programs
 import script
 from script import Problem
 
@@ -96,18 +97,18 @@ def marks_of(lines, words):
     """The letters of each word's registers."""
     matches = [LINE.fullmatch(line) for line in lines]
     if not all(matches) or [(int(m[1]), int(m[2], 16)) for m in matches] != list(enumerate(words)):
-        raise explain.unknown("kinds")
+        raise programs.unknown("kinds")
     return ["".join(m.groups()[2:]) for m in matches]
 
 
 def refusal_lines(answer, data, names, edition):
     """A refusal: the card's entry, and what it is about. The check refuses with the same where there is nothing in the rows."""
-    program = explain.program_of("explain", edition)
-    if not explain.is_built(program):
+    program = programs.program_of("explain", edition)
+    if not programs.is_built(program):
         return [answer, explain.card_entry(int(answer.split()[0])), "", f"(`rt check {program}` builds the program that says more)"]
     lines = explain.explained(without_rows(data), names, [], edition)
     if lines[0] != answer:
-        raise explain.unknown("kinds")
+        raise programs.unknown("kinds")
     return lines
 
 
@@ -140,7 +141,7 @@ def listing_lines(words, labels, marks, table, edition):
 
 def listing(path, table, edition):
     data, labels, names = of_folder(path, edition) if os.path.isdir(path) else (script.read_bytes(path), {}, [])
-    lines = explain.run_program(explain.program_of("kinds", edition), data)
+    lines = programs.lines_of(programs.run(programs.program_of("kinds", edition), data))
     if len(lines) == 1 and ANSWER.fullmatch(lines[0]):
         return "\n".join(refusal_lines(lines[0], data, names, edition))
     words = layout.open_bundle(data)[3]

@@ -55,6 +55,8 @@ ZERO = (NUMBER, 0, SINGLE_STEP, 0, 0)
 RETURN_ADDRESS = (RETURN, 0, 0, 0, 0)
 FRAME_ADDRESS = (FRAME, 0, 0, 0, 0)
 NO_NOTE = (NOTE_NONE, 0, 0)
+# A row that is to be found has r0 unset, as no well-formed row has; it is written as zeros.
+TO_FIND = ([NOTHING] * ENTRIES, NO_NOTE)
 
 
 def number(lo, hi, step=1):
@@ -155,3 +157,21 @@ def row_in(data, at, version=VERSION):
     kind, register, _, number = NOTE.unpack_from(data, at + held * ENTRY.size)
     entries = [entry_in(data, at + ENTRY.size * k) for k in range(held)]
     return entries + [NOTHING] * (ENTRIES - held), (kind, register, number)
+
+
+def row_parts(data):
+    """What stands before the rows of a bundle, and the bytes of each row."""
+    size, count = ROW_SIZES[version_of(data)], len(open_bundle(data)[3])
+    start = len(data) - size * count
+    return data[:start], [data[at:at + size] for at in range(start, len(data), size)]
+
+
+def is_to_find(row):
+    """Whether the row of these bytes is to be found."""
+    return row[0] == UNSET
+
+
+def without_rows(data):
+    """A bundle with all its rows to be found."""
+    before, _ = row_parts(data)
+    return before.ljust(len(data), b"\0")

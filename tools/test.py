@@ -4,17 +4,19 @@
     tools/test.py
 
 Holds bundle.py, explain.py and kinds.py against the examples, and tries on them what can be wrong with a file, a folder, the
-assembler, an answer or the place where they run: each must be said in a line with the file and the line, with status 1.
+assembler, a program, an answer or the place where they run: each must be said in a line with the file and the line, with status 1.
+Sees that rows are found, kept, printed and read again as they were.
 Holds the words and the data of both terminals against what they must be, and the examples and routines that use the frame
 against the answers of the plain checker too.
 Sees that each script says what it does when asked for help, and does nothing else.
 
-What needs GNU binutils for SPARC, gcc or a program (target/bin/answer, explain or kinds, and answer9, explain9 or kinds9) is left
+What needs GNU binutils for SPARC, gcc or a program (target/bin/answer, explain, infer or kinds, or those with a 9) is left
 out where that is not here, and this is said. The last line is `N passed, 0 failed`, with the number of those left out if there are any; the status is 0 if
 none failed.
 """
 import contextlib
 import io
+import lzma
 import os
 import re
 import shutil
@@ -29,11 +31,14 @@ import bundle
 import cases as bundles
 import corpus
 import explain
+import found
 import kindcases
 import kinds
 import layout
 import mutants
 import parts
+import programs
+import routines
 import runs
 import script
 import searches
@@ -45,8 +50,9 @@ TOOLS = os.path.dirname(os.path.abspath(__file__))
 ROOT = os.path.dirname(TOOLS)
 EXAMPLES = os.path.join(ROOT, "examples")
 NAMES = sorted(name for name in os.listdir(EXAMPLES) if os.path.isdir(os.path.join(EXAMPLES, name)))
-ANSWER, EXPLAIN, KINDS = (os.path.join(ROOT, "target", "bin", program) for program in ("answer", "explain", "kinds"))
-ANSWER_9, EXPLAIN_9, KINDS_9 = (program + "9" for program in (ANSWER, EXPLAIN, KINDS))
+ANSWER, EXPLAIN, INFER, KINDS = (os.path.join(programs.FOLDER, program) for program in ("answer", "explain", "infer", "kinds"))
+ANSWER_9, EXPLAIN_9, INFER_9, KINDS_9 = (program + "9" for program in (ANSWER, EXPLAIN, INFER, KINDS))
+WITHOUT_ROWS = ["tare", "tare-one-past"]  # examples whose rows are found
 PATH = os.environ.get("PATH", "")
 AS, OBJDUMP = (assembly.BINUTILS + tool for tool in ("as", "objdump"))
 CASES = []
@@ -115,16 +121,31 @@ def assembler_giving(data):
             yield
 
 
+@contextlib.contextmanager
+def only_program(name, printed):
+    """With no program but this one, which prints these bytes and keeps what it is given in the file that is yielded."""
+    with tempfile.TemporaryDirectory() as scratch:
+        path, cat, before = os.path.join(scratch, name), shutil.which("cat", path=PATH), programs.FOLDER
+        write(printed, path + ".prints")
+        write(f"#!/bin/sh\n{cat} > '{path}.given'\n{cat} '{path}.prints'\n".encode(), path)
+        os.chmod(path, 0o755)
+        programs.FOLDER = scratch
+        try:
+            yield path + ".given"
+        finally:
+            programs.FOLDER = before
+
+
 def called(tool, *arguments, **more):
     """A script's status, standard output and standard error."""
     done = subprocess.run([sys.executable, os.path.join(TOOLS, tool), *arguments], capture_output=True, **more)
     return done.returncode, done.stdout.decode("utf-8", "replace"), done.stderr.decode("utf-8", "replace")
 
 
-def problem_of(*arguments):
-    """What bundle.py says is wrong, called with these arguments; nothing if it does its work."""
+def problem_of(*arguments, out=None):
+    """What bundle.py says is wrong, called with these arguments; nothing if it does its work. What it prints goes to out."""
     try:
-        with contextlib.redirect_stdout(io.StringIO()):
+        with contextlib.redirect_stdout(io.StringIO() if out is None else out):
             bundle.main(list(arguments))
     except (script.Problem, OSError) as problem:
         return script.shown(script.reason(problem))
@@ -218,14 +239,30 @@ next + 7: slot
 
 # The examples
 
-@cases(AS)
-def examples_are_made():
-    for name in NAMES:
+def made_again(names):
+    for name in names:
         with example(name) as folder:
             os.remove(os.path.join(folder, "bundle.bin"))
             status, out, said = called("bundle.py", folder)
             same = status == 0 and read(folder, "bundle.bin") == read(EXAMPLES, name, "bundle.bin")
-            yield f"bundle.py makes the bundle of {name}", same and out == "", said
+            yield f"bundle.py makes the bundle of {name}", same and bool(out) == (name in WITHOUT_ROWS), out + said
+
+
+@cases(AS)
+def examples_are_made():
+    yield from made_again(name for name in NAMES if name not in WITHOUT_ROWS)
+
+
+@cases(AS, INFER)
+def examples_without_rows_are_made():
+    yield from made_again(WITHOUT_ROWS)
+
+
+@cases()
+def examples_without_rows():
+    for name in NAMES:
+        count = bundle.rows_in(os.path.join(EXAMPLES, name))
+        yield f"the rows of {name}", count == (0 if name in WITHOUT_ROWS else len(words_of(name))), str(count)
 
 
 @cases()
@@ -276,17 +313,19 @@ def examples_are_answered_on_the_newer():
         yield f"the newer terminal's bundle program answers {name}", out == read(EXAMPLES, name, "answer.txt"), out.decode()
 
 
-@cases(OBJDUMP)
+@cases(AS, OBJDUMP)
 def text_shows_what_is_printed():
     """What examples/README.md shows of the tools."""
     text = read(EXAMPLES, "README.md").decode()
-    for command, shown in re.findall(r"^    \$ tools/((?:explain|kinds)\.py .*)\n((?:    .+\n)+)", text, re.M):
+    for command, shown in re.findall(r"^    \$ tools/((?:bundle|explain|kinds)\.py .*)\n((?:    .+\n)+)", text, re.M):
         tool, *options, folder = command.split()
-        told, _ = script.taken_edition(options)
-        edition = script.edition_of(os.path.join(ROOT, folder), told)
-        if not explain.is_built(explain.program_of(tool.removesuffix(".py"), edition)):
+        told, options = script.taken_edition(options)
+        edition, name = script.edition_of(os.path.join(ROOT, folder), told), "infer" if tool == "bundle.py" else tool.removesuffix(".py")
+        if "--rows" not in options and not programs.is_built(programs.program_of(name, edition)):
             continue
-        _, out, _ = called(tool, *options, os.path.join(ROOT, folder))
+        with tempfile.TemporaryDirectory() as scratch:
+            shutil.copytree(os.path.join(ROOT, folder), os.path.join(scratch, folder))
+            _, out, _ = called(*command.split(), cwd=scratch)
         lines = [line[4:] for line in shown.splitlines() if line != "    .."]
         yield f"examples/README.md shows {command}", "\n".join(lines) in out, out
 
@@ -438,7 +477,6 @@ MISTAKES = [
     (ROWS, b"8: slot", b"9: slot", r"rows.txt, line \d+: there is no word 9: routine.s has words 0 to 8"),
     (ROWS, b"8: slot", b"next: slot", r"rows.txt, line \d+: a second row of word 1 \(next\)"),
     (ROWS, b"8: slot", b"nxt: slot", r"rows.txt, line \d+: routine.s has no label `nxt`; it has next"),
-    (ROWS, b"6: slot\n", b"", r"rows.txt has no row for 1 of the 9 words, from word 6 on\n"),
     (ROWS, b"5: as before", b"4: as before", r"rows.txt, line \d+: a second row of word 4"),
     (ROWS, b"0: as entry\n1: as", b"1: as entry\n0: as",
      r"rows.txt, line \d+: the row of word 0 stands below that of word 1 \(next\)"),
@@ -475,18 +513,6 @@ def files_that_are_none():
         os.mkdir(os.path.join(folder, "bundle.bin"))
         said = problem_of(folder)
         yield "bundle.bin is a folder", "bundle.bin: " in said, said
-
-
-@cases()
-def rows_that_are_missing():
-    with routine() as folder, assembler_giving(OBJECT):
-        write(re.sub(rb"(?m)^[36]: .*\n", b"", TEXTS[ROWS]), folder, ROWS)
-        said = problem_of(folder)
-    first, *lines = said.split("\n")
-    yield "missing rows are counted", first == "rows.txt has no row for 2 of the 9 words, from word 3 on", said
-    lacking = [k for k, line in enumerate(lines) if line.endswith("<- no row")]
-    yield "words without a row are marked", len(lines) == 9 and lacking == [3, 6], said
-    yield "words are listed with their labels", [k for k, line in enumerate(lines) if "next: " in line] == [1], said
 
 
 # What is wrong with the assembler
@@ -565,6 +591,392 @@ def labels_of_the_assembler():
         write(LABELLED, folder, ROWS)
         right = problem_of(folder) == "" and read(folder, "bundle.bin") == read(EXAMPLES, "name", "bundle.bin")
         yield "words by label, assembled", right, ""
+
+
+# Rows that are found
+
+SOME = re.sub(rb"(?m)^[36]: .*\n", b"", TEXTS[ROWS]).replace(b"4: as before,", b"4: as before, r10 = haulier+0..29,")
+START = b"".join(line + b"\n" for line in TEXTS[ROWS].split(b"\n")[:2])
+LACKING = "rows.txt has no row for 2 of the 9 words, from word 3 on"
+
+
+def start_lines(name):
+    """Of an example's rows.txt the lines `entry:` and `result:`."""
+    lines = bundle.lines_of(os.path.join(EXAMPLES, name, ROWS))
+    return "".join(f"{text}\n" for _, _, text in lines if text.startswith(("entry:", "result:"))).encode()
+
+
+def row_at(data, word):
+    """Where the row of a word of a bundle begins and ends."""
+    before, rows = layout.row_parts(data)
+    return len(before) + sum(map(len, rows[:word])), len(before) + sum(map(len, rows[:word + 1]))
+
+
+def with_row(data, word, row):
+    begin, end = row_at(data, word)
+    return data[:begin] + row + data[end:]
+
+
+def found_by(printed, rows=SOME, name="infer", *options):
+    """What bundle.py says is wrong, what it prints, the bundle that it writes and the one that it hands to a program, which
+    prints these bytes."""
+    out = io.StringIO()
+    with routine() as folder, assembler_giving(OBJECT), only_program(name, printed) as given:
+        write(rows, folder, ROWS)
+        said = problem_of(*options, folder, out=out)
+        held = read(folder, "bundle.bin") if "bundle.bin" in os.listdir(folder) else None
+        return said, out.getvalue().replace(folder, "FOLDER"), held, read(given) if os.path.exists(given) else None
+
+
+@cases()
+def rows_that_are_missing():
+    whole = read(EXAMPLES, "name", "bundle.bin")
+    blank = with_row(with_row(whole, 3, bytes(464)), 6, bytes(464))
+    for what, line, second in [("accepted", b"0 0 0\n", "0 0 0: accepted\n"),
+                               ("refused", b"7 6 10\n", "7 6 10: refused; `tools/explain.py FOLDER` says why\n")]:
+        given = found_by(line + whole)
+        yield f"rows that are found, and {what}", given == ("", f"{LACKING}: found by target/bin/infer\n{second}", whole, blank), repr(given[:2])
+    given = found_by(b"20 0 0\n")
+    second = "not looked for, since the bundle does not open\n20 0 0: refused; `tools/explain.py FOLDER` says why\n"
+    yield "a bundle that does not open", given == ("", f"{LACKING}: {second}", blank, blank), repr(given[:2])
+    said, out, held, given = found_by(b"7 6 10\n" + whole, SOME, "infer9", "--edition", "9")
+    right = (said, held, given) == ("", whole, blank) and "found by target/bin/infer9" in out and "explain.py --edition 9 FOLDER`" in out
+    yield "rows that are found for the newer terminal", right, said + out
+    said, out, held, given = found_by(b"0 0 0\n" + whole, START)
+    right = held == whole and given == layout.without_rows(whole) and "no row for 9 of the 9 words, from word 0 on: found" in out
+    yield "no row at all", right, said + out
+    given = found_by(b"", TEXTS[ROWS])
+    yield "no program is called where all rows are there", given == ("", "", whole, None), repr(given[:2])
+
+
+@cases()
+def mistakes_of_the_program():
+    whole = read(EXAMPLES, "name", "bundle.bin")
+    begin, _ = row_at(whole, 4)
+    for options, name in ((), "infer"), (("--edition", "9"), "infer9"):
+        given = found_by(b"", SOME, "other", *options)
+        expected = f"{LACKING}, and target/bin/{name} is not built: `rt check {name}` proves and builds it"
+        yield f"{name} is not built", given == (expected, "", None, None), repr(given)
+    for what, printed in [
+            ("nothing", b""), ("no answer", b"x\n"), ("two numbers", b"0 0\n"), ("an answer that is no ASCII", b"\xff\n"),
+            ("a byte less", b"0 0 0\n" + whole[:-1]), ("a byte too much", b"0 0 0\n" + whole + b"\0"),
+            ("another version", b"0 0 0\n" + whole[:4] + b"\1" + whole[5:]), ("another mark", b"0 0 0\n" + b"X" + whole[1:]),
+            ("another policy", b"0 0 0\n" + whole[:9] + b"\x30" + whole[10:]),
+            ("another row in the place of one that is given", b"0 0 0\n" + whole[:begin + 24] + b"\0" + whole[begin + 25:]),
+            ("a row that is still to be found", b"0 0 0\n" + with_row(whole, 6, bytes(464)))]:
+        said, out, held, _ = found_by(printed)
+        right = said.endswith("target/bin/infer does not say what is known here: `rt check infer` builds it anew") and (out, held) == ("", None)
+        yield f"a program that prints {what}", right, said + out
+
+
+@cases()
+def rows_to_be_found():
+    for version, size in layout.ROW_SIZES.items():
+        yield f"the bytes of a row to be found, version {version}", layout.row_bytes(layout.TO_FIND, version) == bytes(size), ""
+        data = made_in(version)
+        before, rows = layout.row_parts(data)
+        right = len(rows) == 9 and {len(row) for row in rows} == {size} and before + b"".join(rows) == data and not any(map(layout.is_to_find, rows))
+        yield f"the rows of a bundle of version {version}", right, ""
+        right = layout.without_rows(data) == before + bytes(9 * size) and layout.open_bundle(layout.without_rows(data))[4] == [layout.TO_FIND] * 9
+        yield f"a bundle of version {version} without rows", right, ""
+    for what, words, expected in [("a loop", WORDS, {6, 8}), ("a loop that begins in a slot", LOOP, {7, 10, 12}), ("no transfer", [parts.NOP], set())]:
+        yield f"slots that no branch lands on: {what}", assembly.plain_slots(words) == expected, repr(assembly.plain_slots(words))
+    yield "slots on each terminal", (assembly.plain_slots(NET), assembly.plain_slots(NET, 9)) == ({11}, {5, 9, 11}), ""
+    for what, rows, expected in [("all", TEXTS[ROWS], 9), ("some", SOME, 7), ("none", START, 0), ("no text", b"\xff", None)]:
+        with example() as folder:
+            write(rows, folder, ROWS)
+            yield f"the rows of a rows.txt: {what}", bundle.rows_in(folder) == expected, str(bundle.rows_in(folder))
+
+
+@cases()
+def rows_that_are_printed():
+    for name in NAMES:
+        edition, data = script.edition_of(os.path.join(EXAMPLES, name)), read(EXAMPLES, name, "bundle.bin")
+        text = bundle.rows_text(os.path.join(EXAMPLES, name), edition)
+        with example(name) as folder, assembler_giving(object_file(layout.open_bundle(data)[3])):
+            write(text.encode(), folder, ROWS)
+            said = problem_of(folder)
+            right = not said and read(folder, "bundle.bin") == data
+        yield f"the rows of {name} printed and read again", right, said + text
+    text = bundle.rows_text(os.path.join(EXAMPLES, "name"), 8) + "\n"
+    yield "the rows of name as they are printed", text == TEXTS[ROWS].decode().replace("haulier,", "haulier+0,").replace("line,", "line+0,"), text
+    lines = bundle.rows_text(os.path.join(EXAMPLES, "heaviest"), 8).splitlines()
+    shown = {line.partition(":")[0]: line.partition(": ")[2] for line in lines}
+    expected = {"0": "as entry", "7": "slot", "8": "as 6, note none", "11": "r3 = 0..20000, r15 = return"}
+    yield "rows as short as they can be", {key: shown[key] for key in expected} == expected, "\n".join(lines)
+
+
+@cases()
+def rows_that_are_printed_of_any_bundle():
+    held = [one for one in mutants.records(read(ROOT, "crates", "corpus", "stdin")) if one.answer.split()[0] in ("0", "12", "14", "7")]
+    names = [f"region{k}" for k in range(8)]
+    lost = []
+    for at, one in enumerate(held):
+        _, *given = layout.open_bundle(one.bundle)
+        lines = bundle.rows_lines(*given, names, one.edition)
+        lost += [] if bundle.reads_as(lines, names, one.bundle, one.edition) else [at]
+    yield f"the rows of {len(held)} bundles of crates/corpus printed and read again", held and lost == [], str(lost)
+    with example() as folder:
+        whole = read(folder, "bundle.bin")
+        write(with_row(with_row(whole, 3, bytes(464)), 6, bytes(464)), folder, "bundle.bin")
+        lines = bundle.rows_text(folder, 8).splitlines()
+        right = [line.partition(":")[0] for line in lines[2:]] == ["0", "1", "2", "4", "5", "7", "8"] and lines[5].startswith("4: as before, r1 = ")
+        yield "rows to be found are not printed", right, "\n".join(lines)
+        lines = bundle.listing(folder, 8).splitlines()
+        yield "rows to be found are listed as such", [k for k, line in enumerate(lines[-9:]) if line.endswith("  to be found")] == [3, 6], "\n".join(lines)
+        for what, data in [("an entry of kind 9", with_row(whole, 3, b"\1\0\x08" + bytes(9) + b"\x09" + bytes(451))), ("a note of kind 9", whole[:-8] + b"\x09" + whole[-7:]),
+                           ("a byte that is not 0", whole[:-5] + b"\1" + whole[-4:])]:
+            write(data, folder, "bundle.bin")
+            said = problem_of("--rows", folder)
+            yield f"bundle.py --rows with {what}", said.startswith("bundle.bin has a row that is badly formed"), said
+        write(whole[:-1], folder, "bundle.bin")
+        yield "bundle.py --rows with no bundle", problem_of("--rows", folder).startswith("bundle.bin is not a bundle"), ""
+        write(whole, folder, "bundle.bin")
+        write(read(EXAMPLES, "sum", POLICY), folder, POLICY)
+        text = bundle.rows_text(folder, 8)
+        yield "bundle.py --rows with another policy.txt", text.startswith("# (policy.txt is not the policy") and "r8 = region0+0" in text, text
+
+
+def found_again(names, rows_of):
+    """The examples with such lines of their rows.txt: the rows are found, and the answer is theirs."""
+    for name in names:
+        answer = read(EXAMPLES, name, "answer.txt").decode().strip()
+        with example(name) as folder, assembler_giving(object_file(words_of(name))):
+            write(rows_of(name), folder, ROWS)
+            status, out, said = called("bundle.py", folder)
+            lines, held = out.splitlines(), read(folder, "bundle.bin") if status == 0 else b""
+            right = (status, said, len(lines)) == (0, "", 2) and lines[1].startswith(f"{answer}: {'accepted' if answer == '0 0 0' else 'refused'}")
+            yield f"the rows of {name} are found", right, out + said
+            text = called("bundle.py", "--rows", folder)[1]
+            write(text.encode(), folder, ROWS)
+            given = called("bundle.py", folder)
+            yield f"the rows found for {name} read again", held and given == (0, "", "") and read(folder, "bundle.bin") == held, text
+
+
+def first_rows(name):
+    """Of an example's rows.txt the lines up to that of word 1, which name no label."""
+    lines = bundle.lines_of(os.path.join(EXAMPLES, name, ROWS))
+    return "".join(f"{text}\n" for _, _, text in lines[:4]).encode()
+
+
+@cases(INFER)
+def rows_of_examples_are_found():
+    yield from found_again(of_edition(8), start_lines)
+
+
+@cases(INFER_9)
+def rows_of_examples_are_found_on_the_newer():
+    yield from found_again(of_edition(9), start_lines)
+
+
+@cases(INFER)
+def rows_that_are_kept():
+    yield from found_again(["name", "charge", "heaviest"], first_rows)
+    with routine() as folder, assembler_giving(OBJECT):
+        write(START + b"1: as entry, r1 = 0..30\n", folder, ROWS)
+        status, out, said = called("bundle.py", folder)
+        yield "a row that is kept is checked", status == 0 and "\n7 " in out and out.count("refused") == 1, out + said
+        shown = called("bundle.py", "--rows", folder)[1]
+        yield "a row that is kept stays as it is", "\n1: as entry, r1 = 0..30\n" in shown, shown
+        for what, row in [("registers", b"7: as entry, r1 = 30, r2 = 32..126\n"), ("codes", b"7: r1 = 30, r15 = return, note compared r1 30\n")]:
+            write(START + row, folder, ROWS)
+            status, out, said = called("bundle.py", folder)
+            yield f"a row that is kept with {what} that no later word needs", status == 0 and out.endswith("\n0 0 0: accepted\n"), out + said
+
+
+@cases(INFER, ANSWER)
+def rows_found_are_answered_alike():
+    for name in of_edition(8):
+        data = layout.without_rows(read(EXAMPLES, name, "bundle.bin"))
+        line, _, filled = programs.run("infer", data).partition(b"\n")
+        given = subprocess.run([ANSWER], input=filled, capture_output=True).stdout.strip()
+        yield f"the bundle program answers the rows found for {name}", given == line, f"{given} {line}"
+
+
+@cases(INFER)
+def bundles_without_rows_to_find():
+    whole = read(EXAMPLES, "name", "bundle.bin")
+    for what, data, expected in [
+            ("no bytes", b"", b"23 0 0\n"), ("a byte less", whole[:-1], b"23 0 0\n"), ("another mark", b"X" + whole[1:], b"23 0 0\n"),
+            ("a region of 41 bytes", whole[:9] + b"\x29" + whole[10:], b"19 0 0\n"), ("all rows", whole, b"0 0 0\n" + whole),
+            ("all rows, refused", read(EXAMPLES, "name-one-past", "bundle.bin"), b"7 6 10\n" + read(EXAMPLES, "name-one-past", "bundle.bin")),
+            ("all rows of version 1", made_in(1), b"0 0 0\n" + made_in(1))]:
+        given = programs.run("infer", data)
+        yield f"infer with {what}", given == expected, repr(given[:20])
+    for version in layout.ROW_SIZES:
+        data = layout.without_rows(made_in(version))
+        line, _, filled = programs.run("infer", data).partition(b"\n")
+        yield f"infer with no rows of version {version}", line == b"0 0 0" and bundle.is_filled(filled, data), repr(line)
+
+
+@cases()
+def rows_found_are_explained():
+    data = read(EXAMPLES, "name-one-past", "bundle.bin")
+    names, _ = bundle.names_of(os.path.join(EXAMPLES, "name-one-past"), explain.policy_of(data))
+    said = explain.said_of(["7 6 10", f"word 6 {WORDS[6]}", "row 5"], OLDER)
+    lines = explain.row_lines(data, names, said, 0)
+    right = len(lines) == 2 and lines[0].startswith("row 5, all of it: r1 = 1..31, r2 = ") and lines[1].startswith("(rows.txt has 0 of the 9 rows, the others were found")
+    yield "the row is shown where rows.txt has none", right, "\n".join(lines)
+    yield "no row is shown where rows.txt has all", explain.row_lines(data, names, said, 9) == explain.row_lines(data, names, said, None) == [], ""
+    yield "no row is shown where the answer is about none", explain.row_lines(data, names, explain.said_of(["3 6 0"], OLDER), 0) == [], ""
+
+
+@cases(EXPLAIN)
+def rows_found_are_explained_by_the_program():
+    with example("name-one-past") as folder:
+        before = called("explain.py", folder)[1]
+        write(START, folder, ROWS)
+        status, out, said = called("explain.py", folder)
+        right = status == 0 and out.startswith(before) and "\nrow 5, all of it: r1 = 1..31, " in out and not said
+        yield "explain.py with a rows.txt without rows", right and ", note compared r1 31\n(rows.txt has 0 of the 9 rows" in out, out + said
+        os.remove(os.path.join(folder, ROWS))
+        yield "explain.py without rows.txt", called("explain.py", folder) == (0, before, ""), ""
+
+
+# Routines without rows
+
+@cases()
+def routines_without_rows():
+    text = routines.read_source()
+    listed, held = routines.routines_in(text), mutants.records(read(ROOT, "crates", "routines", "stdin"))
+    names = [name for name, _, _ in listed]
+    yield "each routine has a name of its own", len(set(names)) == len(names) == 54, str(names)
+    yield "each routine has an answer", all(re.fullmatch(r"\d+ \d+ \d+", answer) for _, answer, _ in listed), ""
+    expected = [(8, answer) for _, answer, _ in listed] + [(one.edition, one.answer) for one in corpus.examples()]
+    yield "crates/routines has the routines and the examples", [(one.edition, one.answer) for one in held] == expected, str(len(held))
+    yield "their rows are to be found", all(layout.without_rows(one.bundle) == one.bundle for one in held), ""
+    yield "the examples are those of now", held[54:] == routines.examples(), ""
+    yield "crates/routines/stdout", read(ROOT, "crates", "routines", "stdout") == f"{len(held)} bundles, 0 wrong\n".encode(), ""
+    yield "a routine without what is handed over", refused(routines.bundle_of, "x", "region a 8\nresult: 0\n retl\n nop\n"), ""
+
+
+@cases(AS)
+def routines_are_assembled():
+    text = routines.read_source()
+    held = b"".join(map(corpus.record, routines.records(text)))
+    yield "crates/routines has what routines.py makes", held == read(ROOT, "crates", "routines", "stdin"), ""
+    with tempfile.TemporaryDirectory() as folder:
+        path = os.path.join(folder, "finder.py")
+        write(b"class Found: answer = 12, 3, 1\ndef open_bundle(data): return data[3:5], 1, 2, 3, 4\n"
+              b"def infer(version, words, entry, result):\n    assert (version, words, entry, result) == (b'\\0\\1', 1, 3, 4)\n    return Found\n", path)
+        given = routines.routines_in(routines.answered(text, routines.loaded(path)))
+    right = [(name, held) for name, _, held in given] == [(name, held) for name, _, held in routines.routines_in(text)]
+    yield "answers taken from another finder of rows", right and {answer for _, answer, _ in given} == {"12 3 1"}, ""
+    for what, held, expected in [("no such instruction", " unknown\n", "routines.txt: x: routine.s, line 1: Unknown opcode"),
+                                 ("no words", "", "routines.txt: x: routine.s is empty")]:
+        try:
+            said = str(routines.bundle_of("x", f"entry: r15 = return\nresult: 0\n{held}"))
+        except script.Problem as problem:
+            said = str(problem)
+        yield f"a routine with {what}", said.startswith(expected), said
+
+
+def answered_as_expected(edition):
+    program = programs.program_of("infer", edition)
+    for at, one in enumerate(mutants.records(read(ROOT, "crates", "routines", "stdin"))):
+        if one.edition == edition:
+            line, _, filled = programs.run(program, one.bundle).partition(b"\n")
+            right = line.decode() == one.answer and bundle.is_filled(filled, one.bundle)
+            yield f"{program} with record {at} of crates/routines", right, f"{line} {one.answer}"
+
+
+@cases(INFER)
+def rows_of_routines_are_found():
+    yield from answered_as_expected(OLDER)
+
+
+@cases(INFER_9)
+def rows_of_routines_are_found_on_the_newer():
+    yield from answered_as_expected(NEWER)
+
+
+# How many rows are found again
+
+@contextlib.contextmanager
+def program_doing(function):
+    """With a function of a program's name and a bundle in the place of programs."""
+    before, programs.run = programs.run, function
+    try:
+        yield
+    finally:
+        programs.run = before
+
+
+def measured(records, every=1):
+    """What found.py prints of records."""
+    out = io.StringIO()
+    with contextlib.redirect_stdout(out), contextlib.redirect_stderr(io.StringIO()):
+        found.measure([("some", records)], every)
+    return out.getvalue()
+
+
+@cases()
+def words_that_are_reached():
+    number = layout.number
+    for condition, entry, expected in [
+            (1, number(0, 9), True), (1, number(6, 9), False), (1, number(0, 8, 4), False), (9, number(5, 5), False), (9, number(4, 4), True), (9, number(0, 9), True),
+            (3, number(5, 9), False), (3, number(4, 9), True), (2, number(6, 9), False), (2, number(5, 9), True), (10, number(0, 5), False), (10, number(0, 6), True),
+            (11, number(0, 4), False), (11, number(0, 5), True), (4, number(6, 9), True), (0, number(0, 9), False), (8, number(0, 9), True), (1, layout.NOTHING, True)]:
+        given = found.holds_for_some(condition, layout.row({1: entry}, (layout.NOTE_COMPARED, 1, 5)))
+        yield f"whether condition {condition} may hold of {entry}", given == expected, ""
+    yield "whether a condition may hold of codes that are set", found.holds_for_some(1, layout.row({1: layout.ZERO}, (layout.NOTE_SET, 0, 0))), ""
+    never = layout.row({1: number(6, 9)}, (layout.NOTE_COMPARED, 1, 5))
+    for what, words, row, expected in [
+            ("a loop", WORDS, None, set(range(9))), ("a loop that begins in a slot", LOOP, None, set(range(13))),
+            ("a word that is passed over", [AWAY, parts.NOP, parts.NOP, parts.RETURN, parts.NOP], None, {0, 1, 3, 4}),
+            ("a word after the return", [parts.RETURN, parts.NOP, parts.NOP, parts.NOP], None, {0, 1}),
+            ("a branch that is never taken", [0x02800004, parts.NOP, parts.RETURN, parts.NOP, parts.NOP, parts.RETURN, parts.NOP], never, {0, 1, 2, 3})]:
+        data = layout.bundle_bytes([], layout.row({}), layout.NOTHING, words, [row or layout.row({}, (layout.NOTE_SET, 0, 0))] * len(words))
+        yield f"words that are reached: {what}", found.reached(data, OLDER) == expected, repr(found.reached(data, OLDER))
+
+
+@cases()
+def rows_found_again_are_counted():
+    whole, other = read(EXAMPLES, "name", "bundle.bin"), read(EXAMPLES, "linked", "bundle.bin")
+    records = [mutants.Record(8, whole, "0 0 0"), mutants.Record(8, b"", "23 0 0"), mutants.Record(8, other, "0 0 0"), mutants.Record(9, whole, "0 0 0")]
+
+    def giving(line, filled=None):
+        """A program that answers a bundle without rows so, and that does not accept the one of `linked`."""
+        def run(name, data):
+            if data == other:
+                return b"25 0 16\n" + data
+            return b"0 0 0\n" + data if data == whole else line + (whole if filled is None else filled)
+        return run
+
+    for what, line, filled, expected in [
+            ("found", b"0 0 0\n", None, "some: 2 of 2 found again (100.00 %); 1 not accepted any more\nin all: 2 of 2 found again (100.00 %)\nslowest: "),
+            ("missed", b"7 6 10\n", None, "in all: 0 of 2 found again (0.00 %)\n  missed, 7 at a word that is reached: 2\n  some, bundle 1: 7 6 10\n  some, bundle 4: 7 6 10\n"),
+            ("not filled in", b"0 0 0\n", layout.without_rows(whole), "  missed, no answer: 2\n  some, bundle 1: no answer\n")]:
+        with program_doing(giving(line, filled)):
+            given = measured(records)
+        yield f"rows that are {what}", expected in given, given
+    with program_doing(giving(b"0 0 0\n")):
+        given = measured(records, 3)
+    yield "one of three", given.startswith("some: 1 of 1 found again"), given
+    words = [AWAY, parts.NOP, parts.NOP, parts.RETURN, parts.NOP]
+    passed = mutants.Record(8, layout.bundle_bytes([], layout.row({}), layout.NOTHING, words, [layout.row({})] * 5), "0 0 0")
+    for answer, expected in [("4 2 1", "4 at a word that nothing reaches"), ("4 1 1", "4 at a word that is reached"), (None, "no answer")]:
+        given = found.miss_text(found.Outcome(1, passed, "0 0 0", answer, 0))
+        yield f"a miss with {answer}", given == expected, given
+    yield "no records", measured([]) == "some: 0 of 0 found again; 0 not accepted any more\nin all: 0 of 0 found again\n", ""
+    for arguments, expected in [(["--every", "3", "a"], (3, ["a"])), (["a"], (1, ["a"]))]:
+        yield f"the number in {arguments}", found.taken_every(arguments) == expected, ""
+    for arguments in ["--every"], ["--every", "0"], ["--every", "x", "a"]:
+        yield f"no number in {arguments}", refused(found.taken_every, arguments), ""
+
+
+@cases(INFER)
+def rows_are_found_again():
+    with tempfile.TemporaryDirectory() as folder:
+        shown = [one for one in corpus.examples() if one.edition == OLDER]
+        held = b"".join(struct.pack(">I", len(one.bundle)) + one.bundle for one in shown)
+        write(held, folder, "some.bin")
+        write(lzma.compress(held), folder, "some.bin.xz")
+        write("".join(f"{one.answer}\n" for one in shown).encode(), folder, "some.txt")
+        count = sum(one.answer == "0 0 0" for one in shown)
+        for name in "some.bin", "some.bin.xz":
+            status, out, said = called("found.py", "8", os.path.join(folder, name), os.path.join(folder, "some.txt"))
+            yield f"found.py with {name}", (status, said) == (0, "") and out.startswith(f"some: {count} of {count} found again (100.00 %)"), out + said
 
 
 # Listings of kinds
@@ -1194,7 +1606,7 @@ def versions_of_bundles():
     yield "both versions open alike", layout.open_bundle(both[0]) == layout.open_bundle(both[1]), ""
     yield "72 bytes less a row in version 1", len(both[1]) - len(both[0]) == 72 * 10, ""
     _, out, _ = called("bundle.py", "--list", os.path.join(EXAMPLES, "sum"))
-    yield "bundle.py --list says that a bundle is of version 1", out.startswith("(a bundle of version 1: its rows have no scratch words)\n"), out
+    yield "bundle.py --list says that a bundle is of version 1", "(a bundle of version 1: its rows have no scratch words)\nentry: " in out, out
     for version, data in zip((1, 2), both):
         less = kinds.without_rows(noisy(data))
         policy, entry, result, words, rows = layout.open_bundle(less)
@@ -1393,6 +1805,10 @@ def wrong_calls():
             ("corpus.py", ["x"]), ("corpus.py", ["none", "none"]), ("corpus.py", ["9", "none", "none"]),
             ("corpus.py", ["7", os.path.join(name, "bundle.bin"), os.path.join(name, "answer.txt")]), ("mutants.py", ["x"]), ("runs.py", ["x", "y"]), ("runs.py", ["none"]), ("speed.py", ["x"]),
             ("tables.py", ["x", "y"]), ("tables.py", ["none"]), ("tables.py", [os.path.join(ROOT, "README.md")]),
+            ("routines.py", ["x"]), ("routines.py", ["--answers"]), ("routines.py", ["--answers", "none"]), ("routines.py", ["--answers", os.path.join(ROOT, "none.py")]),
+            ("found.py", []), ("found.py", ["8", "none"]), ("found.py", ["8", "none", "none"]), ("found.py", ["--every", "0", "8", "none", "none"]),
+            ("found.py", ["7", os.path.join(name, "bundle.bin"), os.path.join(name, "answer.txt")]),
+            ("bundle.py", ["--rows"]), ("bundle.py", ["--rows", EXAMPLES]), ("bundle.py", ["--rows", "--version", "1", name]),
             ("searches.py", ["x", "y"]), ("searches.py", ["none"]), ("searches.py", [os.path.join(ROOT, "README.md")])]:
         status, out, said = called(tool, *arguments)
         yield f"{tool} {' '.join(arguments)[:60]}", one_line(tool, status, out, said), f"{status} {out} {said}"

@@ -2,8 +2,8 @@
 use mathlib.Core.Path.{sym}
 use lib.Seq.{length-take-le}
 use borrow.Author.Needs.{needs}
-use Rattle.corpus.proofs.record.answer_next.Statement.{statement}
-use Rattle.corpus.proofs.record.answer_next.Tie as tie
+use Rattle.bundles.proofs.record.answer_next.Statement.{statement}
+use Rattle.bundles.proofs.record.answer_next.Tie as tie
 
 returns : tie.Need-returns
 returns c = search needs

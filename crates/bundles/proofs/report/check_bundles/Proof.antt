@@ -1,14 +1,14 @@
 -- `report::check_bundles` is safe and ends. No more answers are wrong than bundles were read, and the measure is how many may still be read. Assumes nothing.
 use Prim.Native.Nat.{_≤_, _-_}
 use borrow.Author.Needs.{needs}
-use Rattle.corpus.proofs.report.check_bundles.Statement.{statement}
-use Rattle.corpus.proofs.report.check_bundles.Tie as tie
+use Rattle.bundles.proofs.report.check_bundles.Statement.{statement}
+use Rattle.bundles.proofs.report.check_bundles.Tie as tie
 
 abbrev Inv-loop : tie.InvT-loop
-Inv-loop bundles₀ wrong₀ t4 t5 bundles wrong = (bundles ≤ 100000) × (wrong ≤ bundles)
+Inv-loop asked bundles₀ wrong₀ t5 t6 bundles wrong = (bundles ≤ 100000) × (wrong ≤ bundles)
 
 abbrev μ-loop : tie.MeasureT-loop
-μ-loop bundles₀ wrong₀ t4 t5 bundles wrong = 100000 - bundles
+μ-loop asked bundles₀ wrong₀ t5 t6 bundles wrong = 100000 - bundles
 
 loop-holds : tie.Need-loop-holds Inv-loop μ-loop
 loop-holds c = search needs

@@ -1,4 +1,5 @@
 // All records of the input, one after another, and what is printed of them.
+use crate::Asked;
 use crate::record::Answers;
 use crate::record::Record;
 use crate::record::next_record;
@@ -52,11 +53,11 @@ fn print_difference(bundle: u64, answers: Answers) -> u64
 
 // Answers each bundle, and prints which answers are wrong and how many. Bad data ends the run, and
 // counts as wrong.
-pub fn check_bundles() {
+pub fn check_bundles(asked: Asked) {
     let mut bundles: u64 = 0;
     let mut wrong: u64 = 0;
     while bundles < MOST_BUNDLES {
-        match next_record() {
+        match next_record(asked) {
             Record::Held(answers) => {
                 bundles += 1;
                 wrong += print_difference(bundles, answers);

@@ -4,6 +4,7 @@
 //   2        its register
 //   3 and 4  its word
 //   5 to 8   the bundle's length
+use crate::Asked;
 use libc::STDIN_FILENO;
 use passes::Answer;
 use records::edition::Told;
@@ -60,27 +61,35 @@ fn length_of(header: &[u8; 9]) -> usize {
     length as usize
 }
 
+// The answer to a bundle that is whole.
+fn answer_to(asked: Asked, edition: Edition, bytes: &mut [u8]) -> Answer {
+    match asked {
+        Asked::Answer => bundle::answer(edition, bytes),
+        Asked::Completion => completion::complete(edition, bytes),
+    }
+}
+
 // Reads a bundle that fills `part` and answers it.
-fn answer_in(edition: Edition, part: &mut [u8]) -> Answered {
+fn answer_in(asked: Asked, edition: Edition, part: &mut [u8]) -> Answered {
     let n = io::read_full(STDIN_FILENO, part);
     if n < part.len() {
         return Answered::Bad;
     }
-    Answered::With(bundle::answer(edition, part))
+    Answered::With(answer_to(asked, edition, part))
 }
 
 // Reads a bundle of `length` bytes and answers it.
-fn answer_next(edition: Edition, length: usize) -> Answered {
+fn answer_next(asked: Asked, edition: Edition, length: usize) -> Answered {
     if length > ROOM {
         return Answered::Bad;
     }
     let mut room = [0u8; ROOM];
-    answer_in(edition, &mut room[..length])
+    answer_in(asked, edition, &mut room[..length])
 }
 
 // Reads the bundle after a header and answers it.
-fn record_of(edition: Edition, header: &[u8; 9]) -> Record {
-    match answer_next(edition, length_of(header)) {
+fn record_of(asked: Asked, edition: Edition, header: &[u8; 9]) -> Record {
+    match answer_next(asked, edition, length_of(header)) {
         Answered::With(answered) => {
             let expected = expected_of(header);
             Record::Held(Answers { answered, expected })
@@ -90,7 +99,7 @@ fn record_of(edition: Edition, header: &[u8; 9]) -> Record {
 }
 
 // Reads the next record and answers its bundle.
-pub fn next_record() -> Record {
+pub fn next_record(asked: Asked) -> Record {
     let mut header = [0u8; 9];
     let n = io::read_full(STDIN_FILENO, &mut header);
     if n == 0 {
@@ -100,7 +109,7 @@ pub fn next_record() -> Record {
         return Record::Bad;
     }
     match told_by(header[0]) {
-        Told::As(edition) => record_of(edition, &header),
+        Told::As(edition) => record_of(asked, edition, &header),
         Told::Not => Record::Bad,
     }
 }
