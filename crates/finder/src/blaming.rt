@@ -21,8 +21,11 @@ use v8::numbers::OFF_GRID;
 use v8::numbers::OUTSIDE_FIELDS;
 use v8::numbers::OUTSIDE_REGION;
 
-// How many entries are tried at most.
+// How many entries are tried at most, and in how many turns: those first that were the first to grow with
+// nothing to bound them.
 const TRIALS: u32 = 16;
+
+const TURNS: usize = 36;
 
 // The first of the numbers of growths that are tried; each further one is half of it.
 const FIRST_STRETCH: u16 = 128;
@@ -41,14 +44,22 @@ fn name_of(i: usize) -> u32 {
     index + 1
 }
 
-// Whether an answer names a way back, given by its word plus 1, and entry i.
-fn is_way(a: Answer, way: u8, i: usize) -> bool {
+// Whether an answer names a way back, and entry i.
+fn is_way(a: Answer, way: u16, i: usize) -> bool {
     let named = a.register as u32 == name_of(i);
-    named & (a.word.0 as u64 + 1 == way as u64)
+    named & (a.word.0 as u64 + 1 == way as u64 % 256)
+}
+
+// Whether it is the turn of an entry with this way back.
+fn is_turn(way: u16, turn: usize) -> bool
+    requires { ⌜ turn ≤ 36 ⌝ }
+{
+    let first = (way / 256) as usize;
+    first == turn + 1
 }
 
 // Whether an answer names the way back on which an entry grows that is kept from it.
-fn is_named(ways: &[u8; TABLE_ENTRIES], limits: &[u16; TABLE_ENTRIES], a: Answer) -> bool {
+fn is_named(ways: &[u16; TABLE_ENTRIES], limits: &[u16; TABLE_ENTRIES], a: Answer) -> bool {
     if a.number != EDGE_MISFIT {
         return false;
     }
@@ -106,7 +117,7 @@ fn stretch(
 )
     requires { ⌜ (length (now words) ≤ mostWords) × (rowBytes * length (now words) ≡ length (now rows)) × RowLies 0 (length (now entry)) × (entryBytes ≤ length (now result)) ⌝ }
 {
-    let mut spare = [0u8; TABLE_ENTRIES];
+    let mut spare = [0u16; TABLE_ENTRIES];
     let mut kept: u16 = 0;
     let mut more = FIRST_STRETCH;
     while 0 < more {
@@ -143,22 +154,23 @@ pub fn blame(
     entry: &[u8],
     result: &[u8],
     rows: &mut [u8],
-    ways: &[u8; TABLE_ENTRIES],
+    ways: &[u16; TABLE_ENTRIES],
     limits: &mut [u16; TABLE_ENTRIES],
     first: Answer,
 ) -> bool
     requires { ⌜ (length (now words) ≤ mostWords) × (rowBytes * length (now words) ≡ length (now rows)) × RowLies 0 (length (now entry)) × (entryBytes ≤ length (now result)) ⌝ }
 {
-    let mut spare = [0u8; TABLE_ENTRIES];
+    let mut spare = [0u16; TABLE_ENTRIES];
     let mut answer = first;
     let mut left = TRIALS;
-    let mut i: usize = 0;
-    while i < TABLE_ENTRIES {
+    let mut k: usize = 0;
+    while k < TURNS * TABLE_ENTRIES {
+        let i = k % TABLE_ENTRIES;
         if left == 0 {
             break;
         }
-        if (ways[i] == 0) | (limits[i] != NO_LIMIT) {
-            i += 1;
+        if !is_turn(ways[i], k / TABLE_ENTRIES) | (limits[i] != NO_LIMIT) {
+            k += 1;
             continue;
         }
         left -= 1;
@@ -195,10 +207,10 @@ pub fn blame(
         }
         if (found.number != EDGE_MISFIT) & (answer.word.0 < found.word.0) {
             answer = found;
-            i = 0;
+            k = 0;
         } else {
             limits[i] = NO_LIMIT;
-            i += 1;
+            k += 1;
         }
     }
     limit_all(limits, NO_LIMIT);

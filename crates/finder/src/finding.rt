@@ -63,7 +63,7 @@ fn search(
         return;
     }
     let mut limits = [NO_LIMIT; TABLE_ENTRIES];
-    let mut ways = [0u8; TABLE_ENTRIES];
+    let mut ways = [0u16; TABLE_ENTRIES];
     let first = try_rows(
         edition,
         policy,

@@ -4,8 +4,6 @@
 
 // Rows made smaller again.
 mod lowering;
-// Rows of words that nothing reaches.
-mod stranding;
 // One search.
 mod trying;
 // What a refusal may come from.

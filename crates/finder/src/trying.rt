@@ -5,8 +5,6 @@ ghost use lib.ListN.{length};
 ghost use Rattle.v8.specs.Numbers.{mostWords};
 ghost use Rattle.rows.specs.Geometry.{rowBytes, entryBytes, RowLies};
 use crate::lowering::lower;
-use crate::stranding::RESULT;
-use crate::stranding::strand;
 use checker::check;
 use drafts::TABLE_BYTES;
 use drafts::TABLE_ENTRIES;
@@ -26,6 +24,8 @@ use rows::entries::UNSET;
 use rows::geometry::ROW_BYTES;
 use rows::read_entry;
 use rows::read_row;
+use strays::RESULT;
+use strays::strand;
 use v8::Edition;
 use v8::Reading;
 use v8::numbers::MOST_WORDS;
@@ -55,7 +55,7 @@ fn strand_all(
     bounds: &mut [u64; MOST_WORDS],
     table: &mut [u8; TABLE_BYTES],
     growths: &mut [u8; TABLE_ENTRIES],
-    ways: &mut [u8; TABLE_ENTRIES],
+    ways: &mut [u16; TABLE_ENTRIES],
     entry: &[u8],
     result: Entry,
     sweeps: u32,
@@ -116,7 +116,7 @@ fn find_all(
     entry: &[u8],
     result: Entry,
     table: &mut [u8; TABLE_BYTES],
-    ways: &mut [u8; TABLE_ENTRIES],
+    ways: &mut [u16; TABLE_ENTRIES],
 )
     requires { ⌜ (count ≤ mostWords) × RowLies 0 (length (now entry)) ⌝ }
 {
@@ -196,8 +196,8 @@ pub fn fill(count: usize, given: &[bool; MOST_WORDS], table: &[u8; TABLE_BYTES],
     }
 }
 
-// Finds the rows that are not given and checks them all. `ways` tells, for an entry that no number
-// compared with bounds, the word from which it grew, plus 1.
+// Finds the rows that are not given and checks them all. `ways` tells the ways back on which entries grow
+// with nothing to bound them (growth::merging).
 pub fn try_rows(
     edition: Edition,
     policy: Policy,
@@ -210,7 +210,7 @@ pub fn try_rows(
     entry: &[u8],
     result: &[u8],
     rows: &mut [u8],
-    ways: &mut [u8; TABLE_ENTRIES],
+    ways: &mut [u16; TABLE_ENTRIES],
 ) -> Answer
     requires { ⌜ (length (now words) ≤ mostWords) × (rowBytes * length (now words) ≡ length (now rows)) × RowLies 0 (length (now entry)) × (entryBytes ≤ length (now result)) ⌝ }
 {

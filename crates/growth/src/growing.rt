@@ -70,7 +70,7 @@ fn arrive(
     table: &mut [u8; TABLE_BYTES],
     pending: &mut [bool; MOST_WORDS],
     growths: &mut [u8; TABLE_ENTRIES],
-    ways: &mut [u8; TABLE_ENTRIES],
+    ways: &mut [u16; TABLE_ENTRIES],
     d: WordIndex,
     row: Row,
     w: usize,
@@ -111,7 +111,7 @@ fn hand_on(
     table: &mut [u8; TABLE_BYTES],
     pending: &mut [bool; MOST_WORDS],
     growths: &mut [u8; TABLE_ENTRIES],
-    ways: &mut [u8; TABLE_ENTRIES],
+    ways: &mut [u16; TABLE_ENTRIES],
     w: usize,
     x: Reading,
     e: Edge,
@@ -163,7 +163,7 @@ fn hand_all(
     table: &mut [u8; TABLE_BYTES],
     pending: &mut [bool; MOST_WORDS],
     growths: &mut [u8; TABLE_ENTRIES],
-    ways: &mut [u8; TABLE_ENTRIES],
+    ways: &mut [u16; TABLE_ENTRIES],
     w: usize,
     x: Reading,
     slot: Reading,
@@ -226,7 +226,7 @@ fn sweep(
     table: &mut [u8; TABLE_BYTES],
     pending: &mut [bool; MOST_WORDS],
     growths: &mut [u8; TABLE_ENTRIES],
-    ways: &mut [u8; TABLE_ENTRIES],
+    ways: &mut [u16; TABLE_ENTRIES],
     spent: bool,
 ) -> bool
     requires { ⌜ count ≤ mostWords ⌝ }
@@ -271,7 +271,7 @@ pub fn grow(
     table: &mut [u8; TABLE_BYTES],
     pending: &mut [bool; MOST_WORDS],
     growths: &mut [u8; TABLE_ENTRIES],
-    ways: &mut [u8; TABLE_ENTRIES],
+    ways: &mut [u16; TABLE_ENTRIES],
     sweeps: u32,
 ) -> u32
     requires { ⌜ count ≤ mostWords ⌝ }

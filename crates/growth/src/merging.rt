@@ -40,6 +40,18 @@ fn one_more(grown: u8) -> u8 {
     if grown == 255 { 255 } else { grown + 1 }
 }
 
+// The way back on which an entry grows with nothing to bound it, after it did so once more: the last
+// word's index plus 1, and 256 times how often the entry had grown the first time.
+fn way_after(way: u16, grown: u8, w: usize) -> u16
+    requires { ⌜ w < mostWords ⌝ }
+{
+    let back = w as u16 + 1;
+    if way < 256 {
+        return 256 * grown as u16 + back;
+    }
+    256 * (way / 256) + back
+}
+
 // An entry of word d takes up what comes from word w; whether it has changed.
 fn merge_entry(
     sizes: &[u16; 8],
@@ -47,7 +59,7 @@ fn merge_entry(
     limits: &[u16; TABLE_ENTRIES],
     table: &mut [u8; TABLE_BYTES],
     growths: &mut [u8; TABLE_ENTRIES],
-    ways: &mut [u8; TABLE_ENTRIES],
+    ways: &mut [u16; TABLE_ENTRIES],
     d: usize,
     i: usize,
     held: Entry,
@@ -73,7 +85,7 @@ fn merge_entry(
     growths[pair] = grown;
     let wide = widen_entry(sizes, bounds, d, w + 2, grown, held, joined);
     if !wide.bounded {
-        ways[pair] = (w + 1) as u8;
+        ways[pair] = way_after(ways[pair], grown, w);
     }
     write_entry(table, at, wide.entry);
     true
@@ -98,7 +110,7 @@ pub fn merge(
     limits: &[u16; TABLE_ENTRIES],
     table: &mut [u8; TABLE_BYTES],
     growths: &mut [u8; TABLE_ENTRIES],
-    ways: &mut [u8; TABLE_ENTRIES],
+    ways: &mut [u16; TABLE_ENTRIES],
     d: usize,
     comes: Row,
     w: usize,

@@ -1,33 +1,43 @@
--- `blame` is safe and ends: it begins anew only after a trial. Measure: the trials left, then the entries left.
+-- `blame` is safe and ends: it begins anew only after a trial. Measure: the trials left, then the turns left.
+use native.Mathlib.Omega.{arith}
 use Prim.Native.Nat.{_≤_, _-_, _*_, _+_}
 use mathlib.Core.Path.{_≡_}
-use lib.ListN.{length}
+use lib.ListN.{length, length-set}
 use borrow.Author.Needs.{needs}
 use Rattle.finder.proofs.blaming.blame.Statement.{statement}
 use Rattle.finder.proofs.blaming.blame.Tie as tie
 
 abbrev Inv-loop : tie.InvT-loop
-Inv-loop edition policy words readings examined given entry result rows₀ ways limits₀ spare₀ answer₀ left₀ i₀ rows limits spare answer left i =
-    (i ≤ 4864) × (left ≤ 16) × (length rows ≡ length rows₀)
+Inv-loop edition policy words readings examined given entry result rows₀ ways limits₀ spare₀ answer₀ left₀ k₀ rows limits spare answer left k =
+    (k ≤ 175104) × (left ≤ 16) × (length rows ≡ length rows₀)
 
 abbrev μ-loop : tie.MeasureT-loop
-μ-loop edition policy words readings examined given entry result rows₀ ways limits₀ spare₀ answer₀ left₀ i₀ rows limits spare answer left i =
-    left * 4865 + (4864 - i)
+μ-loop edition policy words readings examined given entry result rows₀ ways limits₀ spare₀ answer₀ left₀ k₀ rows limits spare answer left k =
+    left * 175105 + (175104 - k)
 
 loop-holds : tie.Need-loop-holds Inv-loop μ-loop
 loop-holds c = search needs
 
-element-copy-out-if2 : tie.Need-element-copy-out-if2 Inv-loop μ-loop
-element-copy-out-if2 c = search needs
+mul-loop : tie.Need-mul-loop Inv-loop μ-loop
+mul-loop c = search needs
+
+mul-is-turn : tie.Need-mul-is-turn Inv-loop μ-loop
+mul-is-turn c = search needs
+
+element-copy-out-is-turn : tie.Need-element-copy-out-is-turn Inv-loop μ-loop
+element-copy-out-is-turn c = search needs
+
+is-turn-requires : tie.Need-is-turn-requires Inv-loop μ-loop
+is-turn-requires c κs = search needs
 
 mul-if2 : tie.Need-mul-if2 Inv-loop μ-loop
 mul-if2 c = search needs
 
-element-copy-out-if2-2 : tie.Need-element-copy-out-if2-2 Inv-loop μ-loop
-element-copy-out-if2-2 c = search needs
+element-copy-out-if2 : tie.Need-element-copy-out-if2 Inv-loop μ-loop
+element-copy-out-if2 c = search needs
 
-add-i : tie.Need-add-i Inv-loop μ-loop
-add-i c = search needs
+add-k : tie.Need-add-k Inv-loop μ-loop
+add-k c = search needs
 
 loop-less : tie.Need-loop-less Inv-loop μ-loop
 loop-less c = search needs
@@ -54,7 +64,7 @@ stretch-requires : tie.Need-stretch-requires Inv-loop μ-loop
 stretch-requires c κs = search needs
 
 same-length : tie.Need-same-length Inv-loop μ-loop
-same-length c = search needs
+same-length c = omega (arith, c .before .before .before .before .before .before .before .before .before .before .before .before .before .before .before .before .before .before .before .before .loop .inv .2, c .before .before .before .before .before .before .before .before .before .before .try-rows .kept, c .before .before .stretch .kept)
 
 returns : tie.Need-returns Inv-loop μ-loop
 returns c = search needs
@@ -71,8 +81,8 @@ mul-limits-2 c = search needs
 element-write-limits-2 : tie.Need-element-write-limits-2 Inv-loop μ-loop
 element-write-limits-2 c = search needs
 
-add-i-2 : tie.Need-add-i-2 Inv-loop μ-loop
-add-i-2 c = search needs
+add-k-2 : tie.Need-add-k-2 Inv-loop μ-loop
+add-k-2 c = search needs
 
 loop-less-3 : tie.Need-loop-less-3 Inv-loop μ-loop
 loop-less-3 c = search needs
@@ -96,10 +106,13 @@ blame-spec =
     Inv-loop
     μ-loop
     loop-holds
-    element-copy-out-if2
+    mul-loop
+    mul-is-turn
+    element-copy-out-is-turn
+    is-turn-requires
     mul-if2
-    element-copy-out-if2-2
-    add-i
+    element-copy-out-if2
+    add-k
     loop-less
     loop-again
     sub-left
@@ -114,7 +127,7 @@ blame-spec =
     loop-again-2
     mul-limits-2
     element-write-limits-2
-    add-i-2
+    add-k-2
     loop-less-3
     loop-again-3
     limit-all-requires

@@ -22,6 +22,9 @@ mul-if2 c = search needs
 element-copy-out-if2 : tie.Need-element-copy-out-if2 Inv-loop μ-loop
 element-copy-out-if2 c = search needs
 
+mul-is-way : tie.Need-mul-is-way Inv-loop μ-loop
+mul-is-way c = search needs
+
 element-copy-out-is-way : tie.Need-element-copy-out-is-way Inv-loop μ-loop
 element-copy-out-is-way c = search needs
 
@@ -53,6 +56,7 @@ is-named-spec =
     loop-holds
     mul-if2
     element-copy-out-if2
+    mul-is-way
     element-copy-out-is-way
     is-way-requires
     returns-2

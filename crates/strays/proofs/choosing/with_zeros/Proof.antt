@@ -3,8 +3,8 @@ use Prim.Native.Nat.{_≤_, _-_}
 use mathlib.Core.Path.{_≡_}
 use lib.ListN.{length}
 use borrow.Author.Needs.{needs}
-use Rattle.finder.proofs.stranding.with_zeros.Statement.{statement}
-use Rattle.finder.proofs.stranding.with_zeros.Tie as tie
+use Rattle.strays.proofs.choosing.with_zeros.Statement.{statement}
+use Rattle.strays.proofs.choosing.with_zeros.Tie as tie
 
 abbrev Inv-loop : tie.InvT-loop
 Inv-loop row entries₀ i₀ entries i = (i ≤ 38) × (length entries ≡ 38)

@@ -1,8 +1,8 @@
 -- `goal_of` is safe and ends. Measure: the words left.
 use Prim.Native.Nat.{_≤_, _-_}
 use borrow.Author.Needs.{needs}
-use Rattle.finder.proofs.stranding.goal_of.Statement.{statement}
-use Rattle.finder.proofs.stranding.goal_of.Tie as tie
+use Rattle.strays.proofs.choosing.goal_of.Statement.{statement}
+use Rattle.strays.proofs.choosing.goal_of.Tie as tie
 
 abbrev Inv-loop : tie.InvT-loop
 Inv-loop count examined table result u readings v₀ v = v₀ ≤ v

@@ -1,8 +1,8 @@
 -- `try_edges` is safe and ends. Measure: the words left.
 use Prim.Native.Nat.{_≤_, _-_}
 use borrow.Author.Needs.{needs}
-use Rattle.finder.proofs.stranding.try_edges.Statement.{statement}
-use Rattle.finder.proofs.stranding.try_edges.Tie as tie
+use Rattle.strays.proofs.choosing.try_edges.Statement.{statement}
+use Rattle.strays.proofs.choosing.try_edges.Tie as tie
 
 abbrev Inv-loop : tie.InvT-loop
 Inv-loop policy readings count table result u goal best₀ score₀ p₀ best score p = p ≤ count

@@ -1,21 +1,18 @@
-// Rows of words that nothing reaches, which the check examines too. Such a word gets a row that it can
-// stand and that, if possible, asks nothing new of the words after it: that of an edge into it that no
-// values pass, or of the entry; and where the next word that has a row has something else, that.
+// The row of a stray: of what its edges, the word before and the entry row give, the one with which it fares
+// best.
 ghost use Prim.Native.Nat.{_≤_, _<_};
-ghost use lib.ListN.{length};
 ghost use Rattle.v8.specs.Numbers.{mostWords};
-ghost use Rattle.rows.specs.Geometry.{entryBytes, RowLies};
-use checker::change_by;
+use crate::faring::FITS;
+use crate::faring::NOT_TRIED;
+use crate::faring::RESULT;
+use crate::faring::fares;
 use drafts::TABLE_BYTES;
 use drafts::leads_to;
-use drafts::narrowed;
 use drafts::row_after;
 use drafts::slot_of;
 use drafts::writing::is_there;
-use drafts::writing::write_entry;
 use drafts::writing::write_row;
 use drafts::writing::write_unset;
-use flow::Destination;
 use flow::Edge;
 use flow::edges::edge_of;
 use flow::readings::transfers;
@@ -27,150 +24,18 @@ use rows::Row;
 use rows::entries::RETURN_ADDRESS;
 use rows::entries::UNSET;
 use rows::entries::constant;
-use rows::entry_at;
 use rows::fits;
-use rows::flawless;
 use rows::geometry::ENTRIES;
-use rows::geometry::ENTRY_BYTES;
 use rows::geometry::ROW_BYTES;
-use rows::misfit;
 use rows::notes::NOTE_UNSET;
 use rows::notes::codes_set;
 use rows::notes::fits_note;
-use rows::read_entry;
 use rows::read_row;
 use rows::row_with;
-use rules::Change;
 use v8::Instruction;
 use v8::Reading;
 use v8::WordIndex;
 use v8::numbers::MOST_WORDS;
-
-// r8, which has the result.
-pub const RESULT: u8 = 8;
-
-// How a word fares with a row: it hands on what fits, it hands on what does not, or it is refused.
-const FITS: u8 = 0;
-
-const MISFITS: u8 = 1;
-
-const REFUSED: u8 = 2;
-
-const NOT_TRIED: u8 = 3;
-
-// A row made by a word, if the word is not refused.
-struct Made {
-    made: bool,
-    row: Row,
-}
-
-// The row after a word, read as x, if that is not refused.
-fn made_by(policy: Policy, row: Row, x: Reading) -> Made {
-    match change_by(policy, row, x) {
-        Change::Writes(register, entry, note) => Made {
-            made: true,
-            row: row_with(row, register, entry, note),
-        },
-        Change::Keeps => Made { made: true, row },
-        Change::Breaks(_, _) => Made { made: false, row },
-    }
-}
-
-// How a word fares whose row arrives at the end of an edge.
-fn arrival(table: &[u8; TABLE_BYTES], result: Entry, to: Destination, row: Row) -> u8 {
-    match to {
-        Destination::To(d) => {
-            let i = d.0 as usize;
-            if MOST_WORDS <= i {
-                return FITS;
-            }
-            let at = ROW_BYTES * i;
-            if !is_there(table, at) {
-                return FITS;
-            }
-            if flawless(misfit(row, table, at)) {
-                return FITS;
-            }
-            MISFITS
-        }
-        Destination::Caller => {
-            if fits(entry_at(row, RESULT), result) {
-                return FITS;
-            }
-            REFUSED
-        }
-    }
-}
-
-// How a word fares along an edge, over its slot, read as x.
-fn along(
-    policy: Policy,
-    table: &[u8; TABLE_BYTES],
-    result: Entry,
-    x: Reading,
-    e: Edge,
-    row: Row,
-) -> u8 {
-    if !e.exists {
-        return FITS;
-    }
-    let c = narrowed(row, e);
-    if !c.arrives {
-        return FITS;
-    }
-    let to = e.to;
-    if !e.slot {
-        return arrival(table, result, to, c.row);
-    }
-    let after = made_by(policy, c.row, x);
-    if !after.made {
-        return REFUSED;
-    }
-    arrival(table, result, to, after.row)
-}
-
-// How word u, read as x and its slot as `slot`, fares with a row.
-fn fares(
-    policy: Policy,
-    table: &[u8; TABLE_BYTES],
-    result: Entry,
-    u: usize,
-    x: Reading,
-    slot: Reading,
-    row: Row,
-) -> u8
-    requires { ⌜ u < mostWords ⌝ }
-{
-    match x {
-        Reading::Read(instruction) => {
-            let at = WordIndex(u as u32);
-            let after = made_by(policy, row, x);
-            if !after.made {
-                return REFUSED;
-            }
-            let first = along(
-                policy,
-                table,
-                result,
-                slot,
-                edge_of(at, instruction, true),
-                after.row,
-            );
-            if first != FITS {
-                return first;
-            }
-            along(
-                policy,
-                table,
-                result,
-                slot,
-                edge_of(at, instruction, false),
-                after.row,
-            )
-        }
-        Reading::Unread(_) => REFUSED,
-    }
-}
 
 // Tries a row for word u: if it fares better than the best so far, that is now the best.
 fn try_row(
