@@ -4,10 +4,10 @@ ghost use mathlib.Core.Bool.{true, false};
 ghost use Prim.Native.Nat.{_*_, _≤_};
 ghost use lib.ListN.{length};
 ghost use Rattle.rows.specs.Geometry.{rowBytes};
-ghost use Rattle.bundle.specs.Layout.{narrow, mostGiven};
+ghost use Rattle.bundle.specs.Layout.{narrow, narrowRowBytes, mostGiven};
 ghost use Rattle.bundle.specs.Bundle.{bundleAnswer};
 ghost use Rattle.bundle.specs.Open.{Holds, Inside};
-ghost use Rattle.completion.specs.Kept.{SameBefore, Kept};
+ghost use Rattle.completion.specs.Kept.{RowsKept, Kept};
 use crate::copying::copy_part;
 use crate::copying::narrow_rows;
 use crate::copying::wide_rows;
@@ -43,7 +43,7 @@ fn find_in(edition: Edition, opened: Opened, room: &mut [u8], entry: &[u8], resu
 // Finds the rows of a bundle of version 2.
 fn complete_wide(edition: Edition, bytes: &mut [u8], opened: Opened)
     requires { ⌜ Holds (now bytes) opened × Inside opened (length (now bytes)) × (narrow (now bytes) ≡ false) ⌝ }
-    ensures { λ _. ⌜ SameBefore (opened .rows) (now (bytes .entry)) (now (bytes .exit)) ⌝ }
+    ensures { λ _. ⌜ RowsKept rowBytes (opened .count) (opened .rows) (now (bytes .entry)) (now (bytes .exit)) ⌝ }
 {
     let count = opened.count;
     let entry = opened.entry;
@@ -65,7 +65,7 @@ fn complete_wide(edition: Edition, bytes: &mut [u8], opened: Opened)
 // Finds the rows of a bundle of version 1: widened, and put back without scratch words.
 fn complete_narrow(edition: Edition, bytes: &mut [u8], opened: Opened)
     requires { ⌜ Holds (now bytes) opened × Inside opened (length (now bytes)) × (narrow (now bytes) ≡ true) ⌝ }
-    ensures { λ _. ⌜ SameBefore (opened .rows) (now (bytes .entry)) (now (bytes .exit)) ⌝ }
+    ensures { λ _. ⌜ RowsKept narrowRowBytes (opened .count) (opened .rows) (now (bytes .entry)) (now (bytes .exit)) ⌝ }
 {
     let count = opened.count;
     let result = opened.result;

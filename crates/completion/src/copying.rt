@@ -1,9 +1,9 @@
-// Bytes copied, and rows put back into the form of version 1 (specs/Kept.antt).
+// Bytes copied, and rows put where they are missing, in the form of either version (specs/Kept.antt).
 ghost use Prim.Native.Nat.{_+_, _*_, _≤_};
 ghost use lib.ListN.{length};
 ghost use Rattle.rows.specs.Geometry.{rowBytes};
 ghost use Rattle.bundle.specs.Layout.{narrowRowBytes, mostGiven};
-ghost use Rattle.completion.specs.Kept.{SameBefore};
+ghost use Rattle.completion.specs.Kept.{RowsKept, SameOutside, PutAt};
 use bundle::ROWS_ROOM;
 use bundle::layout::NARROW_ROW_BYTES;
 use rows::geometry::NOTE_OFFSET;
@@ -17,7 +17,7 @@ const NOTE_BYTES: usize = 8;
 // Copies n bytes, from a place of one part on, to a place of another.
 pub fn copy_part(from: &[u8], start: usize, n: usize, to: &mut [u8], place: usize)
     requires { ⌜ (start + n ≤ length (now from)) × (place + n ≤ length (now to)) ⌝ }
-    ensures { λ _. ⌜ SameBefore place (now (to .entry)) (now (to .exit)) ⌝ }
+    ensures { λ _. ⌜ SameOutside place n (now (to .entry)) (now (to .exit)) ⌝ }
 {
     let mut i: usize = 0;
     while i < n {
@@ -26,18 +26,10 @@ pub fn copy_part(from: &[u8], start: usize, n: usize, to: &mut [u8], place: usiz
     }
 }
 
-// Writes n rows from a place on.
-pub fn wide_rows(rows: &[u8; ROWS_ROOM], n: usize, bytes: &mut [u8], at: usize)
-    requires { ⌜ (n ≤ mostGiven) × (at + rowBytes * n ≤ length (now bytes)) ⌝ }
-    ensures { λ _. ⌜ SameBefore at (now (bytes .entry)) (now (bytes .exit)) ⌝ }
-{
-    copy_part(rows, 0, ROW_BYTES * n, bytes, at);
-}
-
-// Writes the row that stands at a place, without its scratch words, to a place.
-fn narrow_row(rows: &[u8], start: usize, bytes: &mut [u8], at: usize)
+// Copies a row without its scratch words.
+fn copy_narrow(rows: &[u8], start: usize, bytes: &mut [u8], at: usize)
     requires { ⌜ (start + rowBytes ≤ length (now rows)) × (at + narrowRowBytes ≤ length (now bytes)) ⌝ }
-    ensures { λ _. ⌜ SameBefore at (now (bytes .entry)) (now (bytes .exit)) ⌝ }
+    ensures { λ _. ⌜ SameOutside at narrowRowBytes (now (bytes .entry)) (now (bytes .exit)) ⌝ }
 {
     copy_part(rows, start, REGISTERS_BYTES, bytes, at);
     copy_part(
@@ -49,14 +41,48 @@ fn narrow_row(rows: &[u8], start: usize, bytes: &mut [u8], at: usize)
     );
 }
 
-// Writes n rows, without their scratch words, from a place on.
-pub fn narrow_rows(rows: &[u8; ROWS_ROOM], n: usize, bytes: &mut [u8], at: usize)
-    requires { ⌜ (n ≤ mostGiven) × (at + narrowRowBytes * n ≤ length (now bytes)) ⌝ }
-    ensures { λ _. ⌜ SameBefore at (now (bytes .entry)) (now (bytes .exit)) ⌝ }
+// Writes a row to a place, if the row there is missing.
+fn put_wide(rows: &[u8], start: usize, bytes: &mut [u8], at: usize)
+    requires { ⌜ (start + rowBytes ≤ length (now rows)) × (at + rowBytes ≤ length (now bytes)) ⌝ }
+    ensures { λ _. ⌜ PutAt at rowBytes (now (bytes .entry)) (now (bytes .exit)) ⌝ }
+{
+    if bytes[at] != 0 {
+        return;
+    }
+    copy_part(rows, start, ROW_BYTES, bytes, at);
+}
+
+// So a row without its scratch words.
+fn put_narrow(rows: &[u8], start: usize, bytes: &mut [u8], at: usize)
+    requires { ⌜ (start + rowBytes ≤ length (now rows)) × (at + narrowRowBytes ≤ length (now bytes)) ⌝ }
+    ensures { λ _. ⌜ PutAt at narrowRowBytes (now (bytes .entry)) (now (bytes .exit)) ⌝ }
+{
+    if bytes[at] != 0 {
+        return;
+    }
+    copy_narrow(rows, start, bytes, at);
+}
+
+// Writes those of n rows, from a place on, that are missing there.
+pub fn wide_rows(rows: &[u8; ROWS_ROOM], n: usize, bytes: &mut [u8], at: usize)
+    requires { ⌜ (n ≤ mostGiven) × (at + rowBytes * n ≤ length (now bytes)) ⌝ }
+    ensures { λ _. ⌜ RowsKept rowBytes n at (now (bytes .entry)) (now (bytes .exit)) ⌝ }
 {
     let mut i: usize = 0;
     while i < n {
-        narrow_row(rows, ROW_BYTES * i, bytes, at + NARROW_ROW_BYTES * i);
+        put_wide(rows, ROW_BYTES * i, bytes, at + ROW_BYTES * i);
+        i += 1;
+    }
+}
+
+// So without their scratch words.
+pub fn narrow_rows(rows: &[u8; ROWS_ROOM], n: usize, bytes: &mut [u8], at: usize)
+    requires { ⌜ (n ≤ mostGiven) × (at + narrowRowBytes * n ≤ length (now bytes)) ⌝ }
+    ensures { λ _. ⌜ RowsKept narrowRowBytes n at (now (bytes .entry)) (now (bytes .exit)) ⌝ }
+{
+    let mut i: usize = 0;
+    while i < n {
+        put_narrow(rows, ROW_BYTES * i, bytes, at + NARROW_ROW_BYTES * i);
         i += 1;
     }
 }

@@ -1,6 +1,7 @@
--- `complete` meets its contract: whatever was found, the bundle is answered last; and nothing before the rows is written.
+-- `complete` meets its contract: whatever was found, the bundle is answered last; and no row that was there is written, nor what
+-- stands before the rows.
 use mathlib.Core.Path.{sym, _∙_}
-use Rattle.completion.proofs.Same.{rows-kept}
+use Rattle.completion.proofs.Keeping.{all-kept, wide-kept, narrow-kept}
 use borrow.Author.Needs.{needs}
 use Rattle.completion.proofs.completing.complete.Statement.{statement}
 use Rattle.completion.proofs.completing.complete.Tie as tie
@@ -15,7 +16,7 @@ same-length : tie.Need-same-length
 same-length c = search needs
 
 returns : tie.Need-returns
-returns c = search needs
+returns c = (c .answer .ensures, all-kept _)
 
 is-narrow-requires : tie.Need-is-narrow-requires
 is-narrow-requires c κs = search needs
@@ -32,8 +33,12 @@ same-length-2 : tie.Need-same-length-2
 same-length-2 c = search needs
 
 returns-2 : tie.Need-returns-2
-returns-2 c = let held = c .before .before .before .before .before .before .before .before .before in
-    (c .answer2 .ensures, rows-kept _ _ _ (held .before .before .«open» .ensures .0, held .if1 .left) (c .before .before .before .before .complete-narrow .ensures))
+returns-2 c = let asked = c .before .before .before .before .before .before in
+    let held = asked .before .before .before in (
+      c .answer2 .ensures,
+      narrow-kept _ _ _ (held .before .before .«open» .ensures .0, held .if1 .left) (sym (asked .before .is-narrow .ensures) ∙ asked .if2 .taken)
+          (c .before .before .before .before .complete-narrow .ensures),
+    )
 
 complete-wide-requires : tie.Need-complete-wide-requires
 complete-wide-requires c κs = let held = c .before .before .before .before in
@@ -47,8 +52,12 @@ same-length-3 : tie.Need-same-length-3
 same-length-3 c = search needs
 
 returns-3 : tie.Need-returns-3
-returns-3 c = let held = c .before .before .before .before .before .before .before .before .before in
-    (c .answer3 .ensures, rows-kept _ _ _ (held .before .before .«open» .ensures .0, held .if1 .left) (c .before .before .before .before .complete-wide .ensures))
+returns-3 c = let asked = c .before .before .before .before .before .before in
+    let held = asked .before .before .before in (
+      c .answer3 .ensures,
+      wide-kept _ _ _ (held .before .before .«open» .ensures .0, held .if1 .left) (sym (asked .before .is-narrow .ensures) ∙ asked .if2 .left)
+          (c .before .before .before .before .complete-wide .ensures),
+    )
 
 pub complete-spec : {M : Type 1} → statement M
 complete-spec =

@@ -1,4 +1,4 @@
--- `complete_narrow` meets its contract: the rows are widened, found, and written where they stood without their scratch words.
+-- `complete_narrow` meets its contract: the rows are widened, found, and put where they are missing without their scratch words.
 use native.Mathlib.Omega.{arith}
 use Rattle.bundle.proofs.Lent.{narrow-laid}
 use borrow.Author.Needs.{needs}

@@ -1,6 +1,6 @@
--- `complete_wide` meets its contract: the rows are copied, found, and written where they stood.
+-- `complete_wide` meets its contract: the rows are copied, found, and put where they are missing.
 use native.Mathlib.Omega.{arith}
-use Rattle.completion.proofs.Same.{wide-laid}
+use Rattle.completion.proofs.Keeping.{wide-laid}
 use borrow.Author.Needs.{needs}
 use Rattle.completion.proofs.completing.complete_wide.Statement.{statement}
 use Rattle.completion.proofs.completing.complete_wide.Tie as tie

@@ -1,22 +1,27 @@
--- `copy_part` meets its contract. Invariant: what stands before the place is as it was. Measure: the bytes left.
+-- `copy_part` meets its contract. Invariant: outside the part all is as it was. Measure: the bytes left.
 use Prim.Native.Nat.{_≤_, _-_}
 use mathlib.Core.Path.{_≡_, refl}
-use native.Mathlib.Omega.{arith}
 use lib.ListN.{length}
+use Rattle.completion.specs.Kept.{SameOutside}
+use Rattle.completion.proofs.Keeping.{outside-self, outside-set}
+use Rattle.completion.specs.Kept.{SameOutside}
+use Rattle.completion.proofs.Keeping.{outside-self, outside-set}
+use Rattle.completion.specs.Kept.{SameOutside}
+use Rattle.completion.proofs.Keeping.{outside-self, outside-set}
+use Rattle.completion.specs.Kept.{SameOutside}
+use Rattle.completion.proofs.Keeping.{outside-self, outside-set}
 use borrow.Author.Needs.{needs}
-use Rattle.completion.specs.Kept.{SameBefore}
-use Rattle.completion.proofs.Same.{same-self, same-set}
 use Rattle.completion.proofs.copying.copy_part.Statement.{statement}
 use Rattle.completion.proofs.copying.copy_part.Tie as tie
 
 abbrev Inv-loop : tie.InvT-loop
-Inv-loop from start n to₀ place i₀ to i = (i ≤ n) × (length to ≡ length to₀) × SameBefore place to₀ to
+Inv-loop from start n to₀ place i₀ to i = (i ≤ n) × (length to ≡ length to₀) × SameOutside place n to₀ to
 
 abbrev μ-loop : tie.MeasureT-loop
 μ-loop from start n to₀ place i₀ to i = n - i
 
 loop-holds : tie.Need-loop-holds Inv-loop μ-loop
-loop-holds c = (search needs, refl, same-self _ _)
+loop-holds c = (search needs, refl, outside-self _ _ _)
 
 add-to : tie.Need-add-to Inv-loop μ-loop
 add-to c = search needs
@@ -39,7 +44,7 @@ loop-less c = search needs
 loop-again : tie.Need-loop-again Inv-loop μ-loop
 loop-again c =
     let at-loop = c .before .before .loop in
-    (search needs, search needs, same-set _ (at-loop .to) _ _ _ (omega arith) (at-loop .inv .2))
+    (search needs, search needs, outside-set _ (at-loop .to) _ _ (at-loop .i) _ (c .before .loop-test .taken) (at-loop .inv .2))
 
 same-length : tie.Need-same-length Inv-loop μ-loop
 same-length c = search needs
