@@ -5,12 +5,6 @@ use denote.Ref.{now}
 use native.Mathlib.Omega.{arith}
 use lib.Seq.{length-take-le}
 use Rattle.rows.specs.Geometry.{rowBytes}
-use denote.Ref.{now}
-use lib.Seq.{length-take-le}
-use Rattle.rows.specs.Geometry.{rowBytes}
-use denote.Ref.{now}
-use lib.Seq.{length-take-le}
-use Rattle.rows.specs.Geometry.{rowBytes}
 use borrow.Author.Needs.{needs}
 use Rattle.completion.proofs.completing.find_in.Statement.{statement}
 use Rattle.completion.proofs.completing.find_in.Tie as tie

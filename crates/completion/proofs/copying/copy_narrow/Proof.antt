@@ -1,8 +1,6 @@
 -- `copy_narrow` meets its contract: the note is written after the registers' entries.
 use mathlib.Core.Path.{refl}
 use Rattle.completion.proofs.Keeping.{outside-on}
-use Rattle.completion.proofs.Keeping.{outside-on}
-use Rattle.completion.proofs.Keeping.{outside-on}
 use borrow.Author.Needs.{needs}
 use Rattle.completion.proofs.copying.copy_narrow.Statement.{statement}
 use Rattle.completion.proofs.copying.copy_narrow.Tie as tie

@@ -4,12 +4,6 @@ use mathlib.Core.Path.{_≡_, refl}
 use lib.ListN.{length}
 use Rattle.completion.specs.Kept.{SameOutside}
 use Rattle.completion.proofs.Keeping.{outside-self, outside-set}
-use Rattle.completion.specs.Kept.{SameOutside}
-use Rattle.completion.proofs.Keeping.{outside-self, outside-set}
-use Rattle.completion.specs.Kept.{SameOutside}
-use Rattle.completion.proofs.Keeping.{outside-self, outside-set}
-use Rattle.completion.specs.Kept.{SameOutside}
-use Rattle.completion.proofs.Keeping.{outside-self, outside-set}
 use borrow.Author.Needs.{needs}
 use Rattle.completion.proofs.copying.copy_part.Statement.{statement}
 use Rattle.completion.proofs.copying.copy_part.Tie as tie

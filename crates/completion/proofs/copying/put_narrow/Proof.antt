@@ -1,6 +1,5 @@
 -- `put_narrow` meets its contract: a row that is there is not written.
 use Rattle.completion.proofs.Keeping.{put-there, put-missing}
-use Rattle.completion.proofs.Keeping.{put-there, put-missing}
 use borrow.Author.Needs.{needs}
 use Rattle.completion.proofs.copying.put_narrow.Statement.{statement}
 use Rattle.completion.proofs.copying.put_narrow.Tie as tie

@@ -1,6 +1,5 @@
 -- `put_wide` meets its contract: a row that is there is not written.
 use Rattle.completion.proofs.Keeping.{put-there, put-missing}
-use Rattle.completion.proofs.Keeping.{put-there, put-missing}
 use borrow.Author.Needs.{needs}
 use Rattle.completion.proofs.copying.put_wide.Statement.{statement}
 use Rattle.completion.proofs.copying.put_wide.Tie as tie

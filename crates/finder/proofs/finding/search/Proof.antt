@@ -1,4 +1,4 @@
-use lib.ListN.{length-set}
+-- `search` is safe.
 use native.Mathlib.Omega.{arith}
 use borrow.Author.Needs.{needs}
 use Rattle.finder.proofs.finding.search.Statement.{statement}

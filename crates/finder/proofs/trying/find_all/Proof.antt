@@ -1,4 +1,4 @@
-use lib.ListN.{length-set}
+-- `find_all` is safe.
 use native.Mathlib.Omega.{arith}
 use borrow.Author.Needs.{needs}
 use Rattle.finder.proofs.trying.find_all.Statement.{statement}

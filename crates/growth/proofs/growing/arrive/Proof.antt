@@ -1,3 +1,4 @@
+-- `arrive` is safe.
 use borrow.Author.Needs.{needs}
 use Rattle.growth.proofs.growing.arrive.Statement.{statement}
 use Rattle.growth.proofs.growing.arrive.Tie as tie

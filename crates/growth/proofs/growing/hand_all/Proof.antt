@@ -1,4 +1,4 @@
-use lib.ListN.{length-set}
+-- `hand_all` is safe.
 use native.Mathlib.Omega.{arith}
 use borrow.Author.Needs.{needs}
 use Rattle.growth.proofs.growing.hand_all.Statement.{statement}

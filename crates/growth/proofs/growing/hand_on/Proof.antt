@@ -1,3 +1,4 @@
+-- `hand_on` is safe.
 use borrow.Author.Needs.{needs}
 use Rattle.growth.proofs.growing.hand_on.Statement.{statement}
 use Rattle.growth.proofs.growing.hand_on.Tie as tie
