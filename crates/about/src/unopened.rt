@@ -1,16 +1,16 @@
 // Bytes that are no bundle: the first test that they fail, and where.
 use crate::items::bare;
 use crate::items::single;
-use bundle::layout::HEAD_BYTES;
-use bundle::layout::REGION_BYTES;
-use bundle::layout::field_place;
-use bundle::layout::field_total;
-use bundle::layout::field_zero;
-use bundle::layout::head_ok;
-use bundle::layout::length_given;
-use bundle::layout::most_bytes;
-use bundle::layout::region_count;
-use bundle::layout::region_zero;
+use bundle_layout::HEAD_BYTES;
+use bundle_layout::REGION_BYTES;
+use bundle_layout::field_place;
+use bundle_layout::field_total;
+use bundle_layout::field_zero;
+use bundle_layout::head_ok;
+use bundle_layout::length_given;
+use bundle_layout::most_bytes;
+use bundle_layout::region_count;
+use bundle_layout::region_zero;
 
 // The first region whose zero is not zero.
 fn show_region_zero(bytes: &[u8]) -> bool {

@@ -11,10 +11,10 @@ use Rattle.v8.proofs.Choice.{cond-went, and-went}
 use Rattle.v8.proofs.Search.{first-passes}
 use Rattle.v8.specs.declared.Access.{Access}
 use Rattle.policy.specs.declared.Policy.{Policy}
-use Rattle.policy.specs.declared.Found.{Found}
-use Rattle.policy.specs.declared.Found.the-variants as Found·
+use Rattle.policy_search.specs.declared.Found.{Found}
+use Rattle.policy_search.specs.declared.Found.the-variants as Found·
 use Rattle.policy.specs.declared.Fields.{Fields}
-use Rattle.policy.specs.Find.{findField}
+use Rattle.policy_search.specs.Find.{findField}
 use Rattle.memory.specs.Frame.{scratchCount, scratchOffset, isScratch, scratchAt}
 use Rattle.memory.proofs.Scratch.{scratch-offsets, scratch-words}
 use Rattle.access.specs.declared.Located.{Located}

@@ -16,12 +16,12 @@ use Rattle.v8.specs.declared.StoreOp.the-variants.{St, Stb, Sth}
 use Rattle.v8.specs.declared.Access.{Access}
 use Rattle.v8.specs.declared.Access.the-variants.{Loads, Stores}
 use Rattle.policy.specs.declared.Policy.{Policy}
-use Rattle.policy.specs.declared.Found.{Found}
-use Rattle.policy.specs.declared.Found.the-variants as Found·
+use Rattle.policy_search.specs.declared.Found.{Found}
+use Rattle.policy_search.specs.declared.Found.the-variants as Found·
 use Rattle.policy.specs.Policy.{placeOf, fieldAt}
-use Rattle.policy.specs.Find.{findField}
+use Rattle.policy_search.specs.Find.{findField}
 use Rattle.policy.specs.Laws.{WellFormed}
-use Rattle.policy.proofs.FoundField.{found-holds, finds}
+use Rattle.policy_search.proofs.FoundField.{found-holds, finds}
 use Rattle.access.specs.declared.Located.{Located}
 use Rattle.access.specs.declared.Located.the-variants.{At, Scratch, Nowhere}
 use Rattle.access.specs.Serve.{accessWidth, serves, allows}

@@ -7,10 +7,10 @@ use lib.Dec.{leb, ltb}
 use borrow.Author.Tests.{leb-true, ltb-true}
 use native.Mathlib.Omega.{arith}
 use Rattle.policy.specs.declared.Policy.{Policy}
-use Rattle.policy.specs.declared.Found.the-variants.{At}
+use Rattle.policy_search.specs.declared.Found.the-variants.{At}
 use Rattle.policy.specs.Policy.{fieldsFrom, valuesFrom}
-use Rattle.policy.specs.Find.{findIn}
-use Rattle.policy.proofs.FoundField.{found-holds}
+use Rattle.policy_search.specs.Find.{findIn}
+use Rattle.policy_search.proofs.FoundField.{found-holds}
 use Rattle.access.specs.Locate.{Near}
 
 pub place-small : (fields elements offsets counts : List ℕ) (r low end place : ℕ) → findIn fields elements offsets counts r low end ≡ At place → place < 128

@@ -6,10 +6,10 @@ use mathlib.Core.List.{List}
 use lib.Dec.{leb, ltb}
 use lib.ListN.{getD}
 use Rattle.v8.specs.Search.{first}
-use Rattle.policy.specs.declared.Found.{Found}
-use Rattle.policy.specs.declared.Found.the-variants as Found·
+use Rattle.policy_search.specs.declared.Found.{Found}
+use Rattle.policy_search.specs.declared.Found.the-variants as Found·
 use Rattle.policy.specs.declared.Fields.{Fields}
-use Rattle.policy.specs.Find.{findIn}
+use Rattle.policy_search.specs.Find.{findIn}
 use Rattle.memory.specs.Frame.{isScratch, scratchAt}
 use Rattle.v8.specs.declared.Access.{Access}
 use Rattle.access.specs.declared.Located.{Located}

@@ -14,8 +14,8 @@ use crate::serve::serves_element;
 use memory::extent;
 use memory::frame::is_scratch;
 use memory::frame::scratch_at;
-use policy::Found;
-use policy::find_in;
+use policy_search::Found;
+use policy_search::find_in;
 use v8::Access;
 use v8::ByteOffset;
 

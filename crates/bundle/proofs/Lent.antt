@@ -1,53 +1,29 @@
--- What an opened bundle says: its places lie in its bytes, and the check of what it lends is the bundle's answer.
-use Prim.Native.Nat.{ℕ, _+_, _*_, _-_}
-use mathlib.Core.Bool.{true, false, true≢false, cond}
+-- The check of what an opened bundle lends is the bundle's answer.
+use Prim.Native.Nat.{ℕ, _+_, _-_}
+use mathlib.Core.Bool.{true, false, cond}
 use mathlib.Core.List.{List}
-use mathlib.Core.Path.{_≡_, refl, sym, _∙_}
+use mathlib.Core.Path.{_≡_, sym, _∙_}
 use native.Mathlib.Omega.{arith}
 use lib.Dec.{eqb}
-use lib.ListN.{length, take}
-use borrow.Author.Tests.{eq-eqb}
+use lib.ListN.{take}
 use Rattle.v8.proofs.Choice.{cond-both}
-use Rattle.v8.specs.Numbers.{badBundle}
 use Rattle.v8.specs.declared.Edition.{Edition}
 use Rattle.policy.specs.declared.Policy.{Policy}
 use Rattle.passes.specs.declared.Answer.{Answer}
 use Rattle.passes.specs.Answer.{refuse}
 use Rattle.checker.specs.Passes.{checkOf}
-use Rattle.bundle.specs.declared.Opened.{Opened}
-use Rattle.bundle.specs.Layout.{narrowRowBytes, narrow, rowsBytes, wordCount, wordsPlace, bundleOk}
-use Rattle.bundle.specs.Wide.{part, wideRows, rowsRead, entryRead}
-use Rattle.bundle.specs.Bundle.{builtOf, checkedWith, bundleAnswer}
-use Rattle.bundle.specs.Open.{Holds, Inside, closed, openedWith, openedOf}
-use Rattle.bundle.proofs.Sizes.{most-bytes, given-bytes, words-given}
-use Rattle.bundle.proofs.Words.{words-held, held-length}
+use Rattle.bundle_open.specs.declared.Opened.{Opened}
+use Rattle.bundle_layout.specs.Layout.{narrow, wordCount, wordsPlace, bundleOk}
+use Rattle.bundle_rows.specs.Wide.{part, wideRows, rowsRead, entryRead}
+use Rattle.bundle_open.specs.Build.{builtOf}
+use Rattle.bundle.specs.Bundle.{checkedWith, bundleAnswer}
+use Rattle.bundle_open.specs.Open.{Holds, openedWith, openedOf}
+use Rattle.bundle_open.proofs.Words.{words-held}
+use Rattle.bundle_open.proofs.Laid.{laid}
 
 -- how many bytes stand between two places
 between : (a n : ℕ) → a + n - a ≡ n
 between a n = omega arith
-
-module _ (b : List ℕ) where
-  -- the places stand apart as the rows of its version do
-  abbrev Laid : Opened → Type 0
-  Laid o = (o .number ≡ 0) → (o .result ≡ o .entry + rowsBytes b 1) × (o .end ≡ o .rows + rowsBytes b (o .count))
-
-  closed-laid : (number : ℕ) → eqb number 0 ≡ false → Laid (closed number)
-  closed-laid number z q = absurd (true≢false (sym (eq-eqb _ _ q) ∙ z))
-
-  opened-laid : Laid (openedOf b)
-  unfolding openedOf
-  opened-laid =
-      cond-both Laid (bundleOk b)
-      (λ ok. cond-both Laid (eqb (builtOf b .number) 0) (λ z. λ q. (refl, refl)) (λ z. closed-laid (builtOf b .number) z))
-      (λ bad. closed-laid badBundle refl)
-
-  pub laid : (o : Opened) → Holds b o → (o .result ≡ o .entry + rowsBytes b 1) × (o .end ≡ o .rows + rowsBytes b (o .count))
-  laid o h = let l : Laid o = rw (h .0) opened-laid in l (h .1)
-
-  -- .. in version 1
-  pub narrow-laid :
-      (o : Opened) → Holds b o → narrow b ≡ true → (o .result ≡ o .entry + narrowRowBytes * 1) × (o .end ≡ o .rows + narrowRowBytes * o .count)
-  narrow-laid o h t = let l = laid o h in (l .0 ∙ simp t, l .1 ∙ simp t)
 
 module _ (e : Edition) (b : List ℕ) where
   -- the check of what an opened bundle holds, with these rows and this entry row
@@ -90,25 +66,3 @@ module _ (e : Edition) (b : List ℕ) where
 
   pub refused-is : (o : Opened) → o ≡ openedOf b → eqb (o .number) 0 ≡ false → refuse (o .number) 0 0 ≡ bundleAnswer e b
   refused-is o q z = let g : Answered o = rw q answered in sym (simp z) ∙ g
-
-module _ (b : List ℕ) where
-  -- the places lie in the bytes
-  abbrev pub InBytes : Opened → Type 0
-  InBytes o = Inside o (length b)
-
-  closed-inside : (number : ℕ) → InBytes (closed number)
-  closed-inside number = (refl, omega arith, omega arith, omega arith, omega arith, omega arith, omega arith)
-
-  inside : InBytes (openedOf b)
-  unfolding openedOf
-  inside =
-      cond-both InBytes (bundleOk b)
-      (λ ok. let g = given-bytes b ok in let m = most-bytes b ok in
-      let l = words-given b g m in
-      cond-both InBytes (eqb (builtOf b .number) 0)
-      (λ z. (held-length b (wordCount b) (wordsPlace b) l, l, omega arith, omega arith, omega arith, omega arith, omega (arith, g)))
-      (λ z. closed-inside (builtOf b .number)))
-      (λ bad. closed-inside badBundle)
-
-  pub opened-is : (o : Opened) → o ≡ openedOf b → (o ≡ openedOf b) × InBytes o
-  opened-is o e = (e, rw e inside)

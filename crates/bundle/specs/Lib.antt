@@ -1,4 +1,1 @@
-pub mod Layout
-pub mod Wide
 pub mod Bundle
-pub mod Open

@@ -1,39 +1,91 @@
-// The bundle: a policy, an entry row, a result entry, words and rows in one run of bytes, opened, and
-// the answer to one. (Document 01, "Bundle".)
-use policy::Policy;
+// The answer to a bundle: its refusal, that of an add, or the check's answer (specs/Bundle.antt).
+ghost use mathlib.Core.Path.{_≡_};
+ghost use mathlib.Core.Bool.{true, false};
+ghost use lib.ListN.{length};
+ghost use Rattle.passes.specs.Answer.{refuse};
+ghost use Rattle.bundle_layout.specs.Layout.{narrow};
+ghost use Rattle.bundle.specs.Bundle.{bundleAnswer};
+ghost use Rattle.bundle_open.specs.Open.{Holds, Inside};
+use bundle_layout::is_narrow;
+use bundle_open::Opened;
+use bundle_open::open;
+use bundle_rows::ROWS_ROOM;
+use bundle_rows::widen;
+use checker::check;
+use passes::Answer;
+use rows::geometry::ROW_BYTES;
+use v8::Edition;
+use v8::WordIndex;
+use v8::numbers::ACCEPTED;
 
-// Where the parts stand, and whether the bytes are a bundle.
-pub mod layout;
-// The bundle's policy.
-pub mod building;
-// The rows of version 1, in the form of version 2.
-mod widening;
-// The bundle, opened.
-mod opening;
-// The answer to a bundle.
-mod answering;
+// A refusal that names no word and no register.
+fn refused(number: u8) -> Answer
+    ensures { λ r. ⌜ r ≡ refuse number 0 0 ⌝ }
+{
+    let word = WordIndex(0);
+    Answer {
+        number,
+        word,
+        register: 0,
+    }
+}
 
-pub use answering::answer;
-pub use opening::open;
-pub use widening::widen;
+// The check of what stands in a bundle of version 2, as it stands.
+fn check_wide(edition: Edition, bytes: &[u8], opened: Opened) -> Answer
+    requires { ⌜ Holds (now bytes) opened × Inside opened (length (now bytes)) × (narrow (now bytes) ≡ false) ⌝ }
+    ensures { λ r. ⌜ r ≡ bundleAnswer edition (now (bytes .entry)) ⌝ }
+{
+    let words = opened.words;
+    let count = opened.count;
+    let entry = opened.entry;
+    let result = opened.result;
+    let code = opened.code;
+    let rows = opened.rows;
+    let end = opened.end;
+    check(
+        edition,
+        opened.policy,
+        &words[..count],
+        &bytes[rows..end],
+        &bytes[entry..result],
+        &bytes[result..code],
+    )
+}
 
-// No bundle gives more words.
-pub const MOST_GIVEN: usize = 133;
+// The check of what stands in a bundle of version 1, with its rows widened.
+fn check_narrow(edition: Edition, bytes: &[u8], opened: Opened) -> Answer
+    requires { ⌜ Holds (now bytes) opened × Inside opened (length (now bytes)) × (narrow (now bytes) ≡ true) ⌝ }
+    ensures { λ r. ⌜ r ≡ bundleAnswer edition (now (bytes .entry)) ⌝ }
+{
+    let words = opened.words;
+    let count = opened.count;
+    let result = opened.result;
+    let code = opened.code;
+    let mut entry = [0u8; ROW_BYTES];
+    let mut rows = [0u8; ROWS_ROOM];
+    widen(bytes, opened.entry, 1, &mut entry);
+    widen(bytes, opened.rows, count, &mut rows);
+    let end = ROW_BYTES * count;
+    check(
+        edition,
+        opened.policy,
+        &words[..count],
+        &rows[..end],
+        &entry,
+        &bytes[result..code],
+    )
+}
 
-// Room for as many rows, of 464 bytes each.
-pub const ROWS_ROOM: usize = 61712;
-
-// A bundle, opened: 0 and its policy, how many words it has and the words, with zeros after them, and
-// the places in its bytes where the entry row, the result entry, the words and the rows begin and the
-// rows end; or the number of the refusal, and all else is empty.
-pub struct Opened {
-    pub number: u8,
-    pub policy: Policy,
-    pub count: usize,
-    pub words: [u32; MOST_GIVEN],
-    pub entry: usize,
-    pub result: usize,
-    pub code: usize,
-    pub rows: usize,
-    pub end: usize,
+// The answer to a bundle, for a terminal of the edition. Any bytes have one.
+pub fn answer(edition: Edition, bytes: &[u8]) -> Answer
+    ensures { λ r. ⌜ r ≡ bundleAnswer edition (now (bytes .entry)) ⌝ }
+{
+    let opened = open(bytes);
+    if opened.number != ACCEPTED {
+        return refused(opened.number);
+    }
+    if is_narrow(bytes) {
+        return check_narrow(edition, bytes, opened);
+    }
+    check_wide(edition, bytes, opened)
 }

@@ -5,15 +5,16 @@ use Rattle.v8.specs.Search.{all, any, lowest, first}
 use Rattle.v8.specs.Signed.{signExtend}
 use Rattle.v8.specs.Read.{readingOf, format00, format10, format11, operandOf, countOf}
 use Rattle.alu.specs.Condition.{conditionOf}
-use Rattle.flow.specs.Transfer.{slotRuns, targetOf}
-use Rattle.flow.specs.Readings.{isSlot, isTarget}
+use Rattle.flow_edges.specs.Transfer.{slotRuns, targetOf}
+use Rattle.flow_code.specs.Readings.{isSlot, isTarget}
 use Rattle.policy.specs.Element.{widthOf, leastOf, mostOf}
 use Rattle.policy.specs.Policy.{fieldAt, valuesOk, fieldOk, endBefore, fieldFits, fieldAtOk, regionOk, policyOk}
 use Rattle.memory.specs.Place.{partStart}
 use Rattle.step.specs.Registers.{valueIn, setIn, valuesWith, marksWith}
 use Rattle.step.specs.Step.{stepOf}
-use Rattle.machine.specs.Placement.{disjointIn, placedIn}
-use Rattle.machine.specs.Run.{runFrom, refusalOf, runOf}
+use Rattle.machine_place.specs.Placement.{disjointIn, placedIn}
+use Rattle.machine_steps.specs.Steps.{runFrom}
+use Rattle.machine.specs.Run.{refusalOf, runOf}
 use Rattle.sets.specs.Sets.{setOk, fitsSet}
 use Rattle.rows.specs.Entry.{sizeIn, entryOk, fits, noteOk, fitsNote}
 use Rattle.rows.specs.Flaw.{flawFrom}

@@ -4,7 +4,7 @@ use mathlib.Core.Path.{_≡_}
 use mathlib.Core.List.{List, map}
 use lib.ListN.{length}
 use Rattle.v8.specs.declared.Edition.{Edition}
-use Rattle.flow.specs.Readings.{readingsOf}
+use Rattle.flow_code.specs.Readings.{readingsOf}
 use Rattle.passes.specs.declared.Answer.{Answer}
 use Rattle.passes.specs.Answer.{refuse, passOf}
 use Rattle.passes.specs.Passes.{flowPass}

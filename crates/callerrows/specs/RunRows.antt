@@ -1,7 +1,7 @@
 -- Whole runs (document 02, request 6): the machine does not know the rule of 25, and writes such a register if it is told to. The words are those that
 -- GNU as gives, and stand above each row.
 use mathlib.Core.List.{List, [], _∷_}
-use Rattle.machine.specs.declared.End.the-variants.{Returned}
+use Rattle.machine_steps.specs.declared.End.the-variants.{Returned}
 use Rattle.trials.specs.Case.{Row, _gives_}
 use Rattle.trials.specs.Runs.{code, counted}
 

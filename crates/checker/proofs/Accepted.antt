@@ -3,7 +3,7 @@ use Prim.Native.Nat.{ℕ, _+_}
 use mathlib.Core.Path.{_≡_, refl, ap}
 use mathlib.Core.Bool.{Bool, true}
 use Rattle.v8.specs.Numbers.{badPolicy, badShape}
-use Rattle.flow.specs.Readings.{readingAt, examined}
+use Rattle.flow_code.specs.Readings.{readingAt, examined}
 use Rattle.policy.specs.Policy.{policyOk}
 use Rattle.rows.specs.Row.{formFault}
 use Rattle.rows.proofs.LowestFlaw.{flawless-none}

@@ -7,10 +7,10 @@ use native.Mathlib.Omega.{arith}
 use lib.ListN.{length}
 use Rattle.v8.specs.declared.Reading.{Reading}
 use Rattle.v8.specs.declared.Reading.the-variants.{Read, Unread}
-use Rattle.flow.specs.declared.Destination.{Destination}
-use Rattle.flow.specs.declared.Destination.the-variants.{To, Caller}
-use Rattle.flow.specs.Edge.{edgeOf}
-use Rattle.flow.specs.Readings.{readingAt, examined}
+use Rattle.flow_edges.specs.declared.Destination.{Destination}
+use Rattle.flow_edges.specs.declared.Destination.the-variants.{To, Caller}
+use Rattle.flow_edges.specs.Edge.{edgeOf}
+use Rattle.flow_code.specs.Readings.{readingAt, examined}
 use Rattle.flow.specs.Flow.{flowOf}
 use Rattle.flow.specs.Laws.{InCode}
 use Rattle.flow.proofs.Onward.{instruction-flows}

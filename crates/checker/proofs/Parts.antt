@@ -5,7 +5,7 @@ use mathlib.Core.List.{List}
 use lib.ListN.{length}
 use Rattle.v8.specs.declared.Edition.{Edition}
 use Rattle.v8.specs.declared.Reading.{Reading}
-use Rattle.flow.proofs.Fetched.{read-count}
+use Rattle.flow_code.proofs.Fetched.{read-count}
 use Rattle.policy.specs.declared.Policy.{Policy}
 use Rattle.passes.specs.declared.Answer.{Answer}
 use Rattle.passes.specs.Answer.{passOf}

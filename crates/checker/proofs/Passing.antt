@@ -5,8 +5,8 @@ use mathlib.Core.Bool.{Bool, true, false, cond}
 use mathlib.Core.List.{List}
 use lib.ListN.{length, getD}
 use Rattle.v8.specs.declared.Reading.{Reading}
-use Rattle.flow.specs.Readings.{readingAt}
-use Rattle.flow.specs.Lent.{Examines}
+use Rattle.flow_code.specs.Readings.{readingAt}
+use Rattle.flow_code.specs.Lent.{Examines}
 use Rattle.policy.specs.declared.Policy.{Policy}
 use Rattle.rows.specs.Geometry.{rowBytes}
 use Rattle.passes.specs.declared.Answer.{Answer}

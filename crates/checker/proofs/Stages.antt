@@ -4,7 +4,7 @@ use mathlib.Core.Path.{_≡_, ap, _∙_}
 use mathlib.Core.Bool.{Bool, true, false, and-false}
 use lib.ListN.{length}
 use Rattle.v8.specs.Numbers.{badPolicy, badShape, mostWords}
-use Rattle.flow.proofs.Fetched.{read-count}
+use Rattle.flow_code.proofs.Fetched.{read-count}
 use Rattle.v8.proofs.Search.{needed-eq}
 use Rattle.policy.specs.Policy.{policyOk}
 use Rattle.rows.specs.Geometry.{rowBytes, entryBytes}

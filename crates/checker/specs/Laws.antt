@@ -10,11 +10,11 @@ use Rattle.v8.specs.declared.Instruction.{Instruction}
 use Rattle.v8.specs.declared.Reading.{Reading}
 use Rattle.v8.specs.declared.Reading.the-variants.{Read}
 use Rattle.v8.specs.Laws.{ReadingSound}
-use Rattle.flow.specs.declared.Destination.{Destination}
-use Rattle.flow.specs.declared.Destination.the-variants.{To, Caller}
-use Rattle.flow.specs.declared.Edge.{Edge}
-use Rattle.flow.specs.Edge.{edgeOf}
-use Rattle.flow.specs.Readings.{readingAt, examined}
+use Rattle.flow_edges.specs.declared.Destination.{Destination}
+use Rattle.flow_edges.specs.declared.Destination.the-variants.{To, Caller}
+use Rattle.flow_edges.specs.declared.Edge.{Edge}
+use Rattle.flow_edges.specs.Edge.{edgeOf}
+use Rattle.flow_code.specs.Readings.{readingAt, examined}
 use Rattle.flow.specs.Laws.{Flowing, Leaving}
 use Rattle.policy.specs.declared.Policy.{Policy}
 use Rattle.policy.specs.Policy.{policyOk}

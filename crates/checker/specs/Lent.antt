@@ -2,10 +2,10 @@
 use Prim.Native.Nat.{ℕ}
 use mathlib.Core.Path.{_≡_}
 use mathlib.Core.Bool.{Bool, true}
-use Rattle.flow.specs.declared.Destination.{Destination}
-use Rattle.flow.specs.declared.Destination.the-variants.{To, Caller}
-use Rattle.flow.specs.declared.Edge.{Edge}
-use Rattle.flow.specs.Edge.{edgeOf}
+use Rattle.flow_edges.specs.declared.Destination.{Destination}
+use Rattle.flow_edges.specs.declared.Destination.the-variants.{To, Caller}
+use Rattle.flow_edges.specs.declared.Edge.{Edge}
+use Rattle.flow_edges.specs.Edge.{edgeOf}
 use Rattle.v8.specs.declared.Instruction.{Instruction}
 use Rattle.v8.specs.declared.Reading.{Reading}
 use Rattle.v8.specs.declared.Reading.the-variants.{Read, Unread}

@@ -6,11 +6,11 @@ use Rattle.v8.specs.Numbers.{edgeMisfit, resultMisfit}
 use Rattle.v8.specs.declared.Edition.{Edition}
 use Rattle.v8.specs.declared.Reading.{Reading}
 use Rattle.v8.specs.declared.Reading.the-variants.{Read, Unread}
-use Rattle.flow.specs.declared.Destination.{Destination}
-use Rattle.flow.specs.declared.Destination.the-variants.{To, Caller}
-use Rattle.flow.specs.declared.Edge.{Edge}
-use Rattle.flow.specs.Edge.{edgeOf}
-use Rattle.flow.specs.Readings.{readingAt, examined}
+use Rattle.flow_edges.specs.declared.Destination.{Destination}
+use Rattle.flow_edges.specs.declared.Destination.the-variants.{To, Caller}
+use Rattle.flow_edges.specs.declared.Edge.{Edge}
+use Rattle.flow_edges.specs.Edge.{edgeOf}
+use Rattle.flow_code.specs.Readings.{readingAt, examined}
 use Rattle.policy.specs.declared.Policy.{Policy}
 use Rattle.rows.specs.declared.Row.{Row}
 use Rattle.rows.specs.Entry.{fits}

@@ -5,7 +5,7 @@ use lib.ListN.{length}
 use Rattle.v8.specs.declared.Edition.{Edition}
 use Rattle.v8.specs.declared.Reading.{Reading}
 use Rattle.policy.specs.declared.Policy.{Policy}
-use Rattle.flow.specs.Readings.{readingsOf}
+use Rattle.flow_code.specs.Readings.{readingsOf}
 use Rattle.rows.specs.declared.Entry.{Entry}
 use Rattle.rows.specs.Row.{entryOf}
 

@@ -6,7 +6,7 @@ ghost use Rattle.rows.specs.Geometry.{entryBytes, RowIn};
 ghost use Rattle.passes.specs.Passes.{rowAt};
 ghost use Rattle.checker.specs.Passes.{arrive};
 ghost use Rattle.checker.specs.Lent.{EndIn};
-use flow::Destination;
+use flow_edges::Destination;
 use passes::Answer;
 use passes::answers::accept;
 use passes::answers::refuse;

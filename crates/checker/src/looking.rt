@@ -5,7 +5,7 @@ ghost use Prim.Native.Nat.{_+_, _*_, _<_, _≤_};
 ghost use lib.ListN.{length};
 ghost use Rattle.v8.specs.Numbers.{mostWords};
 ghost use Rattle.v8.specs.declared.Reading.the-variants.{Read};
-ghost use Rattle.flow.specs.Lent.{codeOf, Formed, Examines};
+ghost use Rattle.flow_code.specs.Lent.{codeOf, Formed, Examines};
 ghost use Rattle.rows.specs.Geometry.{rowBytes, entryBytes, RowIn};
 ghost use Rattle.passes.specs.Answer.{accepted, passes, passOf};
 ghost use Rattle.passes.specs.Passes.{flowPass};

@@ -15,9 +15,9 @@ use Rattle.v8.specs.declared.Reading.the-variants.{Read, Unread}
 use Rattle.v8.proofs.Choice.{false-true}
 use Rattle.v8.proofs.Alike.{reads-alike}
 use Rattle.v8.proofs.Sound.{reads-sound}
-use Rattle.flow.specs.Readings.{readingsOf, readingAt}
-use Rattle.flow.proofs.Fetched.{read-count, fetched}
-use Rattle.passes.specs.Answer.{accepted, passes}
+use Rattle.flow_code.specs.Readings.{readingsOf, readingAt}
+use Rattle.flow_code.proofs.Fetched.{read-count, fetched}
+use Rattle.passes.specs.Answer.{passes}
 use Rattle.passes.specs.Passes.{ifRead, readPass}
 use Rattle.checker.specs.Passes.{answerOf, checkOf}
 use Rattle.checker.proofs.Accepted.{accepts}

@@ -17,8 +17,8 @@ use Rattle.alu.specs.Result.{sethiOf}
 use Rattle.alu.specs.Condition.{conditionOf}
 use Rattle.policy.specs.declared.Policy.{Policy}
 use Rattle.memory.specs.Memory.{byteAt}
-use Rattle.flow.specs.Transfer.{slotRuns, targetOf}
-use Rattle.flow.specs.Readings.{transfers, isSlot, isTarget}
+use Rattle.flow_edges.specs.Transfer.{slotRuns, targetOf}
+use Rattle.flow_code.specs.Readings.{transfers, isSlot, isTarget}
 use Rattle.flow.specs.Flow.{flowOf}
 use Rattle.rows.specs.Entry.{isReturn, constant, fits}
 use Rattle.rows.specs.declared.Flaw.the-variants.{None}

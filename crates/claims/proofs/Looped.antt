@@ -13,13 +13,14 @@ use Rattle.policy.specs.declared.Policy.{Policy}
 use Rattle.step.specs.declared.Registers.{Registers}
 use Rattle.step.specs.Registers.{valuesWith, marksWith}
 use Rattle.step.specs.Setting.{Setting}
-use Rattle.flow.specs.Transfer.{slotRuns, targetOf}
-use Rattle.flow.specs.Edge.{toWord}
+use Rattle.flow_edges.specs.Transfer.{slotRuns, targetOf}
+use Rattle.flow_edges.specs.Edge.{toWord}
 use Rattle.step.specs.Control.{goTo, atSlot}
 use Rattle.step.specs.Effect.{Core}
 use Rattle.step.specs.Step.{State, next, stepOf}
-use Rattle.machine.specs.declared.End.the-variants.{Spent}
-use Rattle.machine.specs.Run.{Run, ended, afterStep, runFrom, startState, settingOf, refusalOf, runOf}
+use Rattle.machine_steps.specs.declared.End.the-variants.{Spent}
+use Rattle.machine_steps.specs.Steps.{Run, ended, afterStep, runFrom, settingOf}
+use Rattle.machine.specs.Run.{startState, refusalOf, runOf}
 use Rattle.guarantee.specs.Guarantee.{Start}
 use Rattle.claims.specs.Claims.{nop, alwaysHere, WellFormedEntry, LoopNeverReturns}
 

@@ -9,19 +9,20 @@ use Rattle.v8.specs.Read.{readingOf, format00, format10, format11, operandOf, c
 use Rattle.v8.proofs.Choice.{false-true}
 use Rattle.alu.specs.Codes.{codesOf}
 use Rattle.alu.specs.Condition.{condHolds, conditionOf}
-use Rattle.flow.specs.Transfer.{slotRuns, targetOf}
-use Rattle.flow.specs.Readings.{isSlot, isTarget}
+use Rattle.flow_edges.specs.Transfer.{slotRuns, targetOf}
+use Rattle.flow_code.specs.Readings.{isSlot, isTarget}
 use Rattle.policy.specs.Element.{widthOf, leastOf, mostOf}
 use Rattle.policy.specs.Policy.{fieldAt, valuesOk, fieldOk, endBefore, fieldFits, fieldAtOk, regionOk, policyOk}
-use Rattle.policy.specs.Find.{holdsIn, stopOf, findIn}
+use Rattle.policy_search.specs.Find.{holdsIn, stopOf, findIn}
 use Rattle.memory.specs.Frame.{isScratch}
 use Rattle.memory.specs.Place.{partStart}
 use Rattle.step.specs.Registers.{valueIn, setIn, valuesWith, marksWith}
 use Rattle.access.specs.Locate.{insideRegion, regionIn, scratchIn, locate}
 use Rattle.step.specs.Effect.{aimIn}
 use Rattle.step.specs.Step.{stepOf}
-use Rattle.machine.specs.Placement.{disjointIn, placedIn}
-use Rattle.machine.specs.Run.{startState, runFrom, refusalOf, runOf}
+use Rattle.machine_place.specs.Placement.{disjointIn, placedIn}
+use Rattle.machine.specs.Run.{startState, refusalOf, runOf}
+use Rattle.machine_steps.specs.Steps.{runFrom}
 use Rattle.sets.specs.Sets.{ended, setOk, fitsSet}
 use Rattle.sets.specs.Rules.{within, addSets}
 use Rattle.sets.specs.Narrow.{isMember, only, without}

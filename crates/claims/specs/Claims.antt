@@ -14,8 +14,9 @@ use Rattle.policy.specs.Policy.{policyOk}
 use Rattle.memory.specs.Memory.{byteAt}
 use Rattle.step.specs.declared.Registers.{Registers}
 use Rattle.step.specs.Registers.{valueOf}
-use Rattle.machine.specs.declared.End.the-variants.{Returned, Spent}
-use Rattle.machine.specs.Run.{Run, runOf}
+use Rattle.machine_steps.specs.declared.End.the-variants.{Returned, Spent}
+use Rattle.machine_steps.specs.Steps.{Run}
+use Rattle.machine.specs.Run.{runOf}
 use Rattle.rows.specs.Entry.{isReturn, fits}
 use Rattle.rows.specs.declared.Flaw.the-variants.{None}
 use Rattle.rows.specs.Geometry.{rowBytes, entryBytes}

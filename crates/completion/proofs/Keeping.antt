@@ -2,7 +2,7 @@
 -- bundle stand.
 use Prim.Native.Nat.{ℕ, _+_, _*_, _<_, _≤_}
 use mathlib.Core.Path.{_≡_, refl, sym, ap, _∙_, subst}
-use mathlib.Core.Bool.{true, false, not, true≢false, cond}
+use mathlib.Core.Bool.{true, false, not, true≢false}
 use mathlib.Core.List.{List}
 use native.Mathlib.Nat.{mul-le-mul-left, mul-add, mul-one, not-suc-le-zero}
 use native.Mathlib.Omega.{arith}
@@ -15,11 +15,11 @@ use Rattle.v8.proofs.Choice.{cond-both}
 use Rattle.memory.specs.Memory.{byteAt}
 use Rattle.policy.proofs.RegionKept.{last-or-before}
 use Rattle.rows.specs.Geometry.{rowBytes}
-use Rattle.bundle.specs.Layout.{narrow, narrowRowBytes, rowsBytes, wordCount, rowsPlace, bundleOk}
-use Rattle.bundle.specs.Bundle.{builtOf}
-use Rattle.bundle.specs.Open.{Holds, closed, openedOf}
-use Rattle.bundle.specs.declared.Opened.{Opened}
-use Rattle.bundle.proofs.Lent.{laid}
+use Rattle.bundle_layout.specs.Layout.{narrow, narrowRowBytes, rowsBytes, wordCount, rowsPlace, bundleOk}
+use Rattle.bundle_open.specs.Build.{builtOf}
+use Rattle.bundle_open.specs.Open.{Holds, closed, openedOf}
+use Rattle.bundle_open.specs.declared.Opened.{Opened}
+use Rattle.bundle_open.proofs.Laid.{laid}
 use Rattle.completion.specs.Kept.{SameAt, isThere, RowsKept, Kept, SameOutside, PutAt}
 
 -- nothing is written yet

@@ -5,7 +5,7 @@ use mathlib.Core.Bool.{Bool, true, not}
 use mathlib.Core.List.{List}
 use lib.Dec.{eqb}
 use Rattle.memory.specs.Memory.{byteAt}
-use Rattle.bundle.specs.Layout.{rowsBytes, wordCount, rowsPlace}
+use Rattle.bundle_layout.specs.Layout.{rowsBytes, wordCount, rowsPlace}
 
 -- a byte is as it was
 abbrev pub SameAt : List ℕ → List ℕ → ℕ → Type 0

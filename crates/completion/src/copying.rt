@@ -2,10 +2,10 @@
 ghost use Prim.Native.Nat.{_+_, _*_, _≤_};
 ghost use lib.ListN.{length};
 ghost use Rattle.rows.specs.Geometry.{rowBytes};
-ghost use Rattle.bundle.specs.Layout.{narrowRowBytes, mostGiven};
+ghost use Rattle.bundle_layout.specs.Layout.{narrowRowBytes, mostGiven};
 ghost use Rattle.completion.specs.Kept.{RowsKept, SameOutside, PutAt};
-use bundle::ROWS_ROOM;
-use bundle::layout::NARROW_ROW_BYTES;
+use bundle_layout::NARROW_ROW_BYTES;
+use bundle_rows::ROWS_ROOM;
 use rows::geometry::NOTE_OFFSET;
 use rows::geometry::ROW_BYTES;
 

@@ -1,6 +1,6 @@
 // A bundle completed: the rows that are missing in it are found, in place, and it is answered then. A row
 // whose first byte is 0 is missing; the others stay.
-use bundle::open;
+use bundle_open::open;
 use libc::STDIN_FILENO;
 use output::print;
 use output::print_line;

@@ -9,14 +9,15 @@ use Rattle.v8.specs.Search.{all, any, lowest, first}
 use Rattle.v8.specs.Read.{readingOf, format00, format10, operandOf}
 use Rattle.v8.proofs.Choice.{false-true}
 use Rattle.alu.specs.Condition.{condHolds, conditionOf}
-use Rattle.flow.specs.Transfer.{slotRuns, targetOf}
-use Rattle.flow.specs.Readings.{isSlot, isTarget}
+use Rattle.flow_edges.specs.Transfer.{slotRuns, targetOf}
+use Rattle.flow_code.specs.Readings.{isSlot, isTarget}
 use Rattle.policy.specs.Policy.{policyOk}
 use Rattle.memory.specs.Place.{partStart}
 use Rattle.step.specs.Registers.{valueIn, setIn, valuesWith, marksWith}
 use Rattle.step.specs.Step.{stepOf}
-use Rattle.machine.specs.Placement.{disjointIn, placedIn}
-use Rattle.machine.specs.Run.{startState, runFrom, refusalOf, runOf}
+use Rattle.machine_place.specs.Placement.{disjointIn, placedIn}
+use Rattle.machine.specs.Run.{startState, refusalOf, runOf}
+use Rattle.machine_steps.specs.Steps.{runFrom}
 use Rattle.sets.specs.Sets.{setOk, fitsSet}
 use Rattle.sets.specs.Narrow.{isMember}
 use Rattle.rows.specs.Entry.{sizeIn, entryOk, fits, noteOk, fitsNote}

@@ -3,7 +3,7 @@ use Prim.Native.Nat.{ℕ}
 use mathlib.Core.Path.{refl}
 use mathlib.Core.Bool.{Bool}
 use Rattle.v8.specs.declared.BranchForm.{BranchForm}
-use Rattle.flow.specs.Transfer.{slotRuns, targetOf}
+use Rattle.flow_edges.specs.Transfer.{slotRuns, targetOf}
 use Rattle.editionrows.specs.Form.{FormNoEffect}
 
 pub form-no-effect : (annul : Bool) (cnd distance : ℕ) (f g : BranchForm) → FormNoEffect annul cnd distance f g

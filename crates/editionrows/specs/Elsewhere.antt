@@ -13,8 +13,9 @@ use Rattle.policy.specs.Build.{emptyPolicy}
 use Rattle.memory.specs.Frame.{frameBytes}
 use Rattle.step.specs.declared.Registers.{Registers}
 use Rattle.step.specs.Registers.{markCount}
-use Rattle.machine.specs.declared.End.the-variants.{Returned, Fault}
-use Rattle.machine.specs.Run.{Run, settingOf, startState, runOf, traceFrom}
+use Rattle.machine_steps.specs.declared.End.the-variants.{Returned, Fault}
+use Rattle.machine_steps.specs.Steps.{Run, settingOf, traceFrom}
+use Rattle.machine.specs.Run.{startState, runOf}
 use Rattle.rows.specs.Row.{entryOf}
 use Rattle.passes.specs.Answer.{accepted}
 use Rattle.checker.specs.Passes.{checkOf}

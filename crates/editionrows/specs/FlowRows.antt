@@ -10,7 +10,7 @@ use Rattle.v8.specs.declared.Edition.the-variants.{V8, V9}
 use Rattle.v8.specs.declared.Reading.the-variants.{Unread}
 use Rattle.alu.specs.declared.condition.Narrowing.{Narrowing}
 use Rattle.alu.specs.declared.condition.Narrowing.the-variants.{Unrelated, EqualTo, NotEqualTo, LessThan, AtLeast}
-use Rattle.flow.specs.declared.Destination.the-variants.{To}
+use Rattle.flow_edges.specs.declared.Destination.the-variants.{To}
 use Rattle.trials.specs.Case.{Row, Given, Outcome, edge, writing, examining, goes, reads, yields, marks, outcome}
 use Rattle.editionrows.specs.Hints.{eitherHint, allGive}
 

@@ -9,7 +9,7 @@ use Rattle.v8.specs.declared.Instruction.{Instruction}
 use Rattle.v8.specs.declared.Instruction.the-variants.{Branch}
 use Rattle.v8.specs.declared.Reading.{Reading}
 use Rattle.v8.specs.declared.Reading.the-variants.{Read}
-use Rattle.flow.specs.Edge.{edgeOf}
+use Rattle.flow_edges.specs.Edge.{edgeOf}
 use Rattle.flow.specs.Flow.{flowOf}
 use Rattle.policy.specs.declared.Policy.{Policy}
 use Rattle.access.specs.Layout.{Layout}

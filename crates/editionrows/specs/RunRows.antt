@@ -2,7 +2,7 @@
 -- branch is told with the word that it lands on. The words behind it count in r5, r6 and r7 how often each is run.
 use Prim.Native.Nat.{ℕ}
 use mathlib.Core.List.{List, [], _∷_, _++_}
-use Rattle.machine.specs.declared.End.the-variants.{Returned, Spent, Fault}
+use Rattle.machine_steps.specs.declared.End.the-variants.{Returned, Spent, Fault}
 use Rattle.trials.specs.Case.{Row, Given}
 use Rattle.trials.specs.Runs.{sixteenBytes, start, equal, from, code, branching, left, counted, kept, faults}
 use Rattle.editionrows.specs.Hints.{eitherHint, allGive}

@@ -5,10 +5,10 @@ use lib.Dec.{ltb}
 use lib.ListN.{length}
 use borrow.Author.Tests.{ltb-true, ltb-false, not-true}
 use Rattle.v8.specs.declared.Reading.{Reading}
-use Rattle.flow.specs.Readings.{readingAt}
-use Rattle.flow.specs.Written.{writtenBy, isCallers}
+use Rattle.flow_code.specs.Readings.{readingAt}
+use Rattle.flow_writes.specs.Written.{writtenBy, isCallers}
 use Rattle.flow.specs.Laws.{LeavesEverywhere}
-use Rattle.flow.proofs.Fetched.{outside}
+use Rattle.flow_code.proofs.Fetched.{outside}
 
 pub leaves-everywhere : LeavesEverywhere
 leaves-everywhere readings all w = at (ltb w (length readings)) refl

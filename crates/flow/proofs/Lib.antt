@@ -1,5 +1,2 @@
-pub mod Fetched
-pub mod Filled
-pub mod Examined
 pub mod Onward
 pub mod Leaving

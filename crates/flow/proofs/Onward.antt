@@ -14,14 +14,14 @@ use Rattle.v8.specs.declared.Reading.{Reading}
 use Rattle.v8.specs.declared.Reading.the-variants.{Read, Unread}
 use Rattle.v8.proofs.Choice.{false-true, and-went}
 use Rattle.v8.proofs.Search.{and-both}
-use Rattle.flow.specs.declared.Destination.{Destination}
-use Rattle.flow.specs.declared.Destination.the-variants.{To, Caller}
-use Rattle.flow.specs.Transfer.{isTransfer}
-use Rattle.flow.specs.Edge.{edgeOf}
-use Rattle.flow.specs.Readings.{readingAt, transfers, endsAt, landsOn, isSlot, examined}
+use Rattle.flow_edges.specs.declared.Destination.{Destination}
+use Rattle.flow_edges.specs.declared.Destination.the-variants.{To, Caller}
+use Rattle.flow_edges.specs.Transfer.{isTransfer}
+use Rattle.flow_edges.specs.Edge.{edgeOf}
+use Rattle.flow_code.specs.Readings.{readingAt, transfers, endsAt, landsOn, isSlot, examined}
 use Rattle.flow.specs.Flow.{inCode, edgeFlow, edgesFlow, transferFlow, flowOf}
 use Rattle.flow.specs.Laws.{InCode, Flows, InstructionFlows, Flowing, Lands, EdgesLand, SlotNoTransfer}
-use Rattle.flow.proofs.Examined.{free-examined, target-examined, slot-next}
+use Rattle.flow_code.proofs.Examined.{free-examined, target-examined, slot-next}
 
 -- a test that is asked only where another passes
 asked : (a b : Bool) → not a || b ≡ true → a ≡ true → b ≡ true

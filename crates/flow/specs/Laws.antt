@@ -8,12 +8,12 @@ use lib.ListN.{length}
 use Rattle.v8.specs.declared.Instruction.{Instruction}
 use Rattle.v8.specs.declared.Reading.{Reading}
 use Rattle.v8.specs.declared.Reading.the-variants.{Read}
-use Rattle.flow.specs.declared.Destination.{Destination}
-use Rattle.flow.specs.declared.Destination.the-variants.{To, Caller}
-use Rattle.flow.specs.Transfer.{isTransfer}
-use Rattle.flow.specs.Written.{writtenBy, isCallers, leavesCallers}
-use Rattle.flow.specs.Edge.{edgeOf}
-use Rattle.flow.specs.Readings.{readingAt, transfers, isSlot, examined}
+use Rattle.flow_edges.specs.declared.Destination.{Destination}
+use Rattle.flow_edges.specs.declared.Destination.the-variants.{To, Caller}
+use Rattle.flow_edges.specs.Transfer.{isTransfer}
+use Rattle.flow_writes.specs.Written.{writtenBy, isCallers, leavesCallers}
+use Rattle.flow_edges.specs.Edge.{edgeOf}
+use Rattle.flow_code.specs.Readings.{readingAt, transfers, isSlot, examined}
 use Rattle.flow.specs.Flow.{flowOf}
 
 -- an edge ends at a word of the code, or at the caller

@@ -1,20 +1,16 @@
 // Rows grown from the entry row on: a word whose row has changed hands on, along its edges, what it makes
 // of it, until no row changes or all sweeps are spent.
-ghost use mathlib.Core.Path.{_≡_};
 ghost use Prim.Native.Nat.{_<_, _≤_};
 ghost use Rattle.v8.specs.Numbers.{mostWords};
-ghost use Rattle.flow.specs.Lent.{Formed};
 use crate::merging::merge;
-use crate::widening::NO_BOUND;
 use drafts::TABLE_BYTES;
 use drafts::TABLE_ENTRIES;
 use drafts::carry;
 use drafts::row_after;
 use drafts::slot_of;
-use drafts::writing::is_there;
-use flow::Destination;
-use flow::Edge;
-use flow::edges::edge_of;
+use flow_edges::Destination;
+use flow_edges::Edge;
+use flow_edges::edges::edge_of;
 use policy::Policy;
 use rows::Row;
 use rows::geometry::ROW_BYTES;

@@ -19,10 +19,10 @@ use Rattle.v8.specs.declared.Displacement.{Displacement}
 use Rattle.v8.specs.declared.Operation.the-variants.{Memory}
 use Rattle.v8.specs.Laws.{OperandSmall}
 use Rattle.alu.specs.Result.{add32}
-use Rattle.flow.specs.Written.{accessWrites}
+use Rattle.flow_writes.specs.Written.{accessWrites}
 use Rattle.policy.specs.declared.Policy.{Policy}
 use Rattle.policy.specs.declared.Field.{Field}
-use Rattle.policy.specs.declared.Found.the-variants as Found·
+use Rattle.policy_search.specs.declared.Found.the-variants as Found·
 use Rattle.policy.specs.Policy.{sizeOf, fieldAt, fieldEnd}
 use Rattle.policy.specs.Laws.{WellFormed}
 use Rattle.memory.specs.Frame.{scratchCount, scratchOffset}

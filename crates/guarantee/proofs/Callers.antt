@@ -5,14 +5,14 @@ use mathlib.Core.Path.{_≡_, refl, sym, ap, _∙_}
 use mathlib.Core.Bool.{true, false}
 use mathlib.Core.List.{List, [], _∷_}
 use Rattle.v8.proofs.Choice.{false-true}
-use Rattle.flow.specs.Readings.{readingAt}
-use Rattle.flow.specs.Written.{writtenBy, isCallers}
+use Rattle.flow_code.specs.Readings.{readingAt}
+use Rattle.flow_writes.specs.Written.{writtenBy, isCallers}
 use Rattle.step.specs.declared.Registers.{Registers}
 use Rattle.step.specs.Setting.{Setting}
 use Rattle.step.specs.Step.{State, Step, stopped, next, returned, stepOf}
 use Rattle.step.specs.Laws.{Leaves}
 use Rattle.step.proofs.NoOther.{writes-no-other}
-use Rattle.machine.specs.Run.{Run, afterStep, tracedStep, runFrom, traceFrom}
+use Rattle.machine_steps.specs.Steps.{Run, afterStep, tracedStep, runFrom, traceFrom}
 use Rattle.guarantee.specs.Guarantee.{Each, CallersUnchanged}
 
 unchanged-self : (g : Registers) → CallersUnchanged g g

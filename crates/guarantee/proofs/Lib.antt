@@ -11,4 +11,3 @@ pub mod Stepping
 pub mod Callers
 pub mod Running
 pub mod Whole
-pub mod Accepted

@@ -8,7 +8,7 @@ use Rattle.v8.specs.declared.Displacement.{Displacement}
 use Rattle.v8.specs.declared.Displacement.the-variants.{Index, Bytes}
 use Rattle.v8.specs.Laws.{OperandSmall, DisplacementSmall, ReadingSound}
 use Rattle.v8.proofs.Sound.{reads-sound}
-use Rattle.flow.specs.Readings.{readingsOf, readingAt}
+use Rattle.flow_code.specs.Readings.{readingsOf, readingAt}
 use Rattle.access.specs.Serve.{addend}
 
 pub addend-small : (d : Displacement) → DisplacementSmall d → OperandSmall (addend d)

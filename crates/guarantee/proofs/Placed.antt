@@ -12,7 +12,7 @@ use Rattle.v8.specs.Search.{all}
 use Rattle.v8.proofs.Search.{all-at, needed, needed-eq}
 use Rattle.memory.specs.Frame.{frameBytes}
 use Rattle.memory.specs.Place.{lengthOf}
-use Rattle.machine.specs.Placement.{basePlaced, basePlacedAt, apartFromRegion, apartFromAll, disjointIn, framePlaced, placedIn}
+use Rattle.machine_place.specs.Placement.{basePlaced, basePlacedAt, apartFromRegion, apartFromAll, disjointIn, framePlaced, placedIn}
 use Rattle.rules.specs.Laws.{Laid}
 use Rattle.guarantee.specs.Guarantee.{hostOf}
 

@@ -9,12 +9,12 @@ use Rattle.v8.specs.Laws.{ReadingSound}
 use Rattle.policy.specs.declared.Policy.{Policy}
 use Rattle.policy.specs.Laws.{WellFormed}
 use Rattle.access.specs.Layout.{layoutOf}
-use Rattle.flow.specs.Readings.{readingAt}
+use Rattle.flow_code.specs.Readings.{readingAt}
 use Rattle.flow.proofs.Leaving.{leaves-everywhere}
 use Rattle.step.specs.Setting.{Setting}
 use Rattle.step.specs.Step.{State, Step, stopped, next, returned, stepOf}
-use Rattle.machine.specs.Run.{Run, afterStep, tracedStep, runFrom, traceFrom}
-use Rattle.machine.proofs.RunLaws.{counts-trace, spends-exactly}
+use Rattle.machine_steps.specs.Steps.{Run, afterStep, tracedStep, runFrom, traceFrom}
+use Rattle.machine_steps.proofs.RunLaws.{counts-trace, spends-exactly}
 use Rattle.rows.specs.Matches.{Host}
 use Rattle.rows.specs.Laws.{EntryRules}
 use Rattle.rules.specs.Laws.{Laid}

@@ -21,12 +21,12 @@ use Rattle.alu.specs.declared.codes.Codes.{Codes}
 use Rattle.alu.specs.declared.condition.Narrowing.the-variants.{Unrelated}
 use Rattle.alu.specs.Condition.{condHolds, oppositeOf}
 use Rattle.alu.proofs.Conditions.{opposite-holds}
-use Rattle.flow.specs.declared.Destination.{Destination}
-use Rattle.flow.specs.declared.Destination.the-variants.{To, Caller}
-use Rattle.flow.specs.declared.Edge.{Edge}
-use Rattle.flow.specs.Transfer.{isTransfer, readsCodes, hasEdge, link}
-use Rattle.flow.specs.Edge.{toWord, edgeOf}
-use Rattle.flow.specs.Readings.{readingAt, transfers}
+use Rattle.flow_edges.specs.declared.Destination.{Destination}
+use Rattle.flow_edges.specs.declared.Destination.the-variants.{To, Caller}
+use Rattle.flow_edges.specs.declared.Edge.{Edge}
+use Rattle.flow_edges.specs.Transfer.{isTransfer, readsCodes, hasEdge, link}
+use Rattle.flow_edges.specs.Edge.{toWord, edgeOf}
+use Rattle.flow_code.specs.Readings.{readingAt, transfers}
 use Rattle.flow.specs.Laws.{Lands}
 use Rattle.flow.proofs.Onward.{flows, edges-land, slot-no-transfer}
 use Rattle.policy.specs.declared.Policy.{Policy}

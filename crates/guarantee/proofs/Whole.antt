@@ -18,9 +18,10 @@ use Rattle.policy.proofs.WellFormed.{obeys}
 use Rattle.step.specs.declared.Registers.{Registers}
 use Rattle.step.specs.Registers.{withZero, unsetScratch}
 use Rattle.step.proofs.ScratchMarks.{scratch-is-unset}
-use Rattle.flow.proofs.Fetched.{read-count}
-use Rattle.flow.proofs.Examined.{first-examined}
-use Rattle.machine.specs.Run.{Run, settingOf, startState, refusalOf, runOf, runFrom, traceFrom}
+use Rattle.flow_code.proofs.Fetched.{read-count}
+use Rattle.flow_code.proofs.Examined.{first-examined}
+use Rattle.machine_steps.specs.Steps.{Run, settingOf, runFrom, traceFrom}
+use Rattle.machine.specs.Run.{startState, refusalOf, runOf}
 use Rattle.rows.specs.Geometry.{rowBytes}
 use Rattle.rows.specs.Entry.{entryOk}
 use Rattle.rows.specs.Row.{entryOf, entryFormedAs}

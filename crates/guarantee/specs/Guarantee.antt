@@ -12,16 +12,17 @@ use Rattle.policy.specs.declared.Policy.{Policy}
 use Rattle.memory.specs.Memory.{Bytes, wordAt}
 use Rattle.step.specs.declared.Registers.{Registers}
 use Rattle.step.specs.Registers.{markCount, valueOf, isSet, scratchSet}
-use Rattle.flow.specs.Readings.{readingAt}
-use Rattle.flow.specs.Written.{isCallers}
+use Rattle.flow_code.specs.Readings.{readingAt}
+use Rattle.flow_writes.specs.Written.{isCallers}
 use Rattle.step.specs.Setting.{Setting}
 use Rattle.step.specs.Effect.{Core}
 use Rattle.step.specs.Step.{State, next, returned, stepOf}
 use Rattle.step.specs.Laws.{Unchanged}
-use Rattle.machine.specs.declared.End.{End}
-use Rattle.machine.specs.declared.End.the-variants.{Returned, Spent, Fault, Refused}
-use Rattle.machine.specs.Placement.{placedIn}
-use Rattle.machine.specs.Run.{Run, settingOf, startState, runOf, traceFrom}
+use Rattle.machine_steps.specs.declared.End.{End}
+use Rattle.machine_steps.specs.declared.End.the-variants.{Returned, Spent, Fault, Refused}
+use Rattle.machine_place.specs.Placement.{placedIn}
+use Rattle.machine_steps.specs.Steps.{Run, settingOf, traceFrom}
+use Rattle.machine.specs.Run.{startState, runOf}
 use Rattle.rows.specs.declared.Entry.{Entry}
 use Rattle.rows.specs.Geometry.{registerCount}
 use Rattle.rows.specs.Row.{entryOf, rowOf}

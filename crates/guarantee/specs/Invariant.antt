@@ -8,9 +8,9 @@ use Rattle.v8.specs.declared.Operation.{Operation}
 use Rattle.v8.specs.declared.Instruction.the-variants.{Plain}
 use Rattle.v8.specs.declared.Reading.{Reading}
 use Rattle.v8.specs.declared.Reading.the-variants.{Read}
-use Rattle.flow.specs.declared.Destination.{Destination}
-use Rattle.flow.specs.declared.Destination.the-variants.{To, Caller}
-use Rattle.flow.specs.Readings.{readingAt, examined}
+use Rattle.flow_edges.specs.declared.Destination.{Destination}
+use Rattle.flow_edges.specs.declared.Destination.the-variants.{To, Caller}
+use Rattle.flow_code.specs.Readings.{readingAt, examined}
 use Rattle.policy.specs.declared.Policy.{Policy}
 use Rattle.memory.specs.Memory.{Bytes}
 use Rattle.memory.specs.Place.{lengthOf}

@@ -3,4 +3,3 @@ pub mod Safe
 pub mod Guarantee
 pub mod Laws
 pub mod Invariant
-pub mod Checked

@@ -15,7 +15,7 @@ use Rattle.v8.specs.declared.Instruction.the-variants.{Plain, Branch, Return}
 use Rattle.v8.specs.declared.Reading.{Reading}
 use Rattle.v8.specs.declared.Reading.the-variants.{Read, Unread}
 use Rattle.alu.specs.Result.{add32}
-use Rattle.flow.specs.Transfer.{readsCodes, link}
+use Rattle.flow_edges.specs.Transfer.{readsCodes, link}
 use Rattle.policy.specs.declared.Policy.{Policy}
 use Rattle.policy.specs.Policy.{sizeOf, countOf, fieldEnd}
 use Rattle.memory.specs.Frame.{scratchCount, scratchOffset}

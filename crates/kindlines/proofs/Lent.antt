@@ -10,13 +10,13 @@ use Rattle.v8.specs.declared.Edition.{Edition}
 use Rattle.v8.proofs.Choice.{cond-both}
 use Rattle.policy.specs.declared.Policy.{Policy}
 use Rattle.lister.specs.Listing.{Listed, listed}
-use Rattle.bundle.specs.declared.Opened.{Opened}
-use Rattle.bundle.specs.Layout.{narrow, wordCount, wordsPlace, bundleOk}
-use Rattle.bundle.specs.Wide.{part, wideRows, entryRead}
-use Rattle.bundle.specs.Bundle.{builtOf}
-use Rattle.bundle.specs.Open.{Holds, openedWith, openedOf}
-use Rattle.bundle.proofs.Words.{words-held}
-use Rattle.bundle.proofs.Lent.{laid}
+use Rattle.bundle_open.specs.declared.Opened.{Opened}
+use Rattle.bundle_layout.specs.Layout.{narrow, wordCount, wordsPlace, bundleOk}
+use Rattle.bundle_rows.specs.Wide.{part, wideRows, entryRead}
+use Rattle.bundle_open.specs.Build.{builtOf}
+use Rattle.bundle_open.specs.Open.{Holds, openedWith, openedOf}
+use Rattle.bundle_open.proofs.Words.{words-held}
+use Rattle.bundle_open.proofs.Laid.{laid}
 use Rattle.kindlines.specs.Bundled.{unlisted, listedBy, bundleListed}
 
 -- how many bytes stand between two places

@@ -11,9 +11,9 @@ use Rattle.policy.specs.declared.Policy.{Policy}
 use Rattle.policy.specs.declared.Built.{Built}
 use Rattle.passes.specs.Answer.{refuse}
 use Rattle.lister.specs.Listing.{Listed, listed}
-use Rattle.bundle.specs.Layout.{wordCount, entryPlace, wordsPlace, bundleOk}
-use Rattle.bundle.specs.Wide.{entryRead}
-use Rattle.bundle.specs.Bundle.{wordsFrom, builtOf}
+use Rattle.bundle_layout.specs.Layout.{wordCount, entryPlace, wordsPlace, bundleOk}
+use Rattle.bundle_rows.specs.Wide.{entryRead}
+use Rattle.bundle_open.specs.Build.{wordsFrom, builtOf}
 
 -- a refusal that names no word and no register
 abbrev pub unlisted : List ℕ → ℕ → Listed

@@ -2,7 +2,7 @@
 ghost use Prim.Native.Nat.{_<_};
 ghost use Rattle.v8.specs.Numbers.{mostWords};
 use crate::text::marks_text;
-use bundle::open;
+use bundle_open::open;
 use libc::STDOUT_FILENO;
 use lister::TABLE_MARKS;
 use output::print;

@@ -4,8 +4,8 @@ use Rattle.v8.specs.declared.Edition.{Edition}
 use Rattle.v8.specs.Search.{all, any, lowest, first}
 use Rattle.v8.specs.Signed.{signExtend}
 use Rattle.v8.specs.Read.{operandOf, countOf, format00, format10, format11, readingOf}
-use Rattle.flow.specs.Transfer.{slotRuns, targetOf}
-use Rattle.flow.specs.Readings.{isSlot, isTarget}
+use Rattle.flow_edges.specs.Transfer.{slotRuns, targetOf}
+use Rattle.flow_code.specs.Readings.{isSlot, isTarget}
 use Rattle.policy.specs.Element.{widthOf, leastOf, mostOf}
 use Rattle.policy.specs.Policy.{fieldAt, valuesOk, fieldOk, endBefore, fieldFits, fieldAtOk, regionOk, policyOk}
 use Rattle.sets.specs.Sets.{setOk}

@@ -10,8 +10,8 @@ use Rattle.v8.specs.Numbers.{badPolicy, badShape}
 use Rattle.v8.specs.Search.{first}
 use Rattle.v8.proofs.Search.{first-passes}
 use Rattle.v8.proofs.Choice.{and-went, false-true}
-use Rattle.flow.specs.Readings.{readingsOf}
-use Rattle.flow.proofs.Fetched.{read-count}
+use Rattle.flow_code.specs.Readings.{readingsOf}
+use Rattle.flow_code.proofs.Fetched.{read-count}
 use Rattle.v8.specs.declared.Edition.{Edition}
 use Rattle.policy.specs.declared.Policy.{Policy}
 use Rattle.policy.specs.Policy.{policyOk}

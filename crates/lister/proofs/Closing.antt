@@ -13,7 +13,7 @@ use borrow.Author.Tests.{ltb-true, ltb-false, lt-ltb, eqb-true, eqb-false}
 use Rattle.v8.specs.Numbers.{mostWords}
 use Rattle.v8.specs.declared.Reading.{Reading}
 use Rattle.v8.proofs.Choice.{false-true}
-use Rattle.flow.specs.Readings.{readingAt, examined}
+use Rattle.flow_code.specs.Readings.{readingAt, examined}
 use Rattle.marks.specs.Marks.{notReached}
 use Rattle.lister.specs.Table.{tableMarks, markAt, marksAt, raisedAt, TableAtMost, height}
 use Rattle.lister.specs.Rules.{entryMarks, entrySent, sendsReached, sentBy, takenIn, allTakenIn, closedAt, closed}

@@ -8,7 +8,7 @@ use lib.ListN.{length, replicate}
 use Rattle.v8.specs.Numbers.{badShape}
 use Rattle.v8.specs.declared.Edition.{Edition}
 use Rattle.v8.specs.declared.Reading.{Reading}
-use Rattle.flow.specs.Readings.{readingsOf}
+use Rattle.flow_code.specs.Readings.{readingsOf}
 use Rattle.policy.specs.declared.Policy.{Policy}
 use Rattle.passes.specs.declared.Answer.{Answer}
 use Rattle.passes.specs.Answer.{passes, andThen, need, passOf}

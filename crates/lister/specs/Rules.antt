@@ -9,12 +9,12 @@ use Rattle.v8.specs.Search.{all}
 use Rattle.v8.specs.declared.Instruction.{Instruction}
 use Rattle.v8.specs.declared.Reading.{Reading}
 use Rattle.v8.specs.declared.Reading.the-variants.{Read, Unread}
-use Rattle.flow.specs.declared.Destination.{Destination}
-use Rattle.flow.specs.declared.Destination.the-variants.{To, Caller}
-use Rattle.flow.specs.declared.Edge.{Edge}
-use Rattle.flow.specs.Transfer.{isTransfer}
-use Rattle.flow.specs.Edge.{edgeOf}
-use Rattle.flow.specs.Readings.{readingAt, examined}
+use Rattle.flow_edges.specs.declared.Destination.{Destination}
+use Rattle.flow_edges.specs.declared.Destination.the-variants.{To, Caller}
+use Rattle.flow_edges.specs.declared.Edge.{Edge}
+use Rattle.flow_edges.specs.Transfer.{isTransfer}
+use Rattle.flow_edges.specs.Edge.{edgeOf}
+use Rattle.flow_code.specs.Readings.{readingAt, examined}
 use Rattle.rows.specs.Geometry.{entryStart}
 use Rattle.rows.specs.Row.{entryOf}
 use Rattle.marks.specs.Marks.{markOfKind, atMost, registerCount, marksBy, markOf}

@@ -3,7 +3,7 @@
 ghost use mathlib.Core.Path.{_≡_};
 ghost use Prim.Native.Nat.{_≤_};
 ghost use lib.ListN.{length, replicate};
-ghost use Rattle.flow.specs.Lent.{codeOf, Formed, Examines};
+ghost use Rattle.flow_code.specs.Lent.{codeOf, Formed, Examines};
 ghost use Rattle.rows.specs.Geometry.{RowIn};
 ghost use Rattle.marks.specs.Marks.{notReached};
 ghost use Rattle.lister.specs.Table.{tableMarks};

@@ -13,8 +13,9 @@ use Rattle.policy.specs.declared.Policy.{Policy}
 use Rattle.policy.specs.Policy.{policyOk}
 use Rattle.step.specs.declared.Registers.{Registers}
 use Rattle.step.specs.Registers.{unsetScratch}
-use Rattle.machine.specs.Placement.{placedIn}
-use Rattle.machine.specs.Run.{Run, refusalOf, refused, runIf}
+use Rattle.machine_place.specs.Placement.{placedIn}
+use Rattle.machine_steps.specs.Steps.{Run}
+use Rattle.machine.specs.Run.{refusalOf, refused, runIf}
 
 -- what a run that is not refused has passed
 pub record Begun (p : Policy) (words bases : List ℕ) (returns frame : ℕ) (memory : List ℕ) : Type 0 where

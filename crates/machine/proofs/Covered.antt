@@ -2,7 +2,7 @@
 -- of the memory, or in the frame's: the field found ends inside its region, and the region's part ends inside the memory; a scratch word ends inside the
 -- frame, whose part ends the memory.
 use Prim.Native.Nat.{ℕ, _+_, _-_, _≤_, _<_}
-use mathlib.Core.Path.{_≡_, refl, subst}
+use mathlib.Core.Path.{_≡_, refl}
 use mathlib.Core.Bool.{true, _&&_, and-false}
 use mathlib.Core.List.{List}
 use native.Mathlib.Nat.{le-refl, le-trans}
@@ -13,28 +13,23 @@ use borrow.Author.Tests.{eqb-true, ltb-true}
 use Rattle.v8.proofs.Choice.{cond-both, and-went}
 use Rattle.v8.proofs.Search.{needed-eq}
 use Rattle.policy.specs.declared.Policy.{Policy}
-use Rattle.policy.specs.declared.Found.{Found}
-use Rattle.policy.specs.declared.Found.the-variants as Found·
+use Rattle.policy_search.specs.declared.Found.{Found}
+use Rattle.policy_search.specs.declared.Found.the-variants as Found·
 use Rattle.policy.specs.Policy.{policyOk}
-use Rattle.policy.specs.Find.{findField}
+use Rattle.policy_search.specs.Find.{findField}
 use Rattle.policy.specs.Laws.{WellFormed}
 use Rattle.policy.proofs.WellFormed.{obeys}
-use Rattle.policy.proofs.FoundField.{found-holds}
+use Rattle.policy_search.proofs.FoundField.{found-holds}
 use Rattle.memory.specs.Frame.{frameBytes, scratchCount, scratchOffset, isScratch, scratchAt}
 use Rattle.memory.specs.Place.{lengthOf}
 use Rattle.memory.proofs.Scratch.{scratch-offsets}
 use Rattle.memory.proofs.Starts.{part-ends}
 use Rattle.v8.specs.declared.Access.{Access}
-use Rattle.access.specs.declared.Located.{Located}
-use Rattle.access.specs.Layout.{Layout, layoutOf}
+use Rattle.access.specs.Layout.{layoutOf}
 use Rattle.access.specs.Serve.{accessWidth, isWord}
 use Rattle.access.specs.Locate.{touches, located, regionOf, scratchIn, locate}
-use Rattle.machine.specs.Fits.{Covered, Framed, Lies, Covers}
-use Rattle.machine.specs.Placement.{placedIn}
-
--- an access lies so where it is located
-pub lies-at : (l : Layout) (n : ℕ) (a : Access) (address : ℕ) (at : Located) → Covers l n → locate l a address ≡ at → Lies (l .regions) n (accessWidth a) at
-lies-at l n a address at h e = subst (Lies (l .regions) n (accessWidth a)) e (h a address)
+use Rattle.machine_access.specs.Covered.{Covered, Framed, Lies, Covers}
+use Rattle.machine_place.specs.Placement.{placedIn}
 
 module _ (p : Policy) (bases : List ℕ) (returns frame : ℕ) (memory : List ℕ) (placed : placedIn (p .regions .count) (p .regions .sizes) bases returns frame memory ≡ true) where
   -- memory is as long as all sizes together and the frame

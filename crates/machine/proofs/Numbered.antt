@@ -20,12 +20,12 @@ use Rattle.v8.specs.declared.Reading.the-variants.{Read, Unread}
 use Rattle.alu.specs.Condition.{condHolds}
 use Rattle.policy.specs.declared.Policy.{Policy}
 use Rattle.policy.specs.Policy.{policyOk}
-use Rattle.flow.specs.declared.Destination.{Destination}
-use Rattle.flow.specs.declared.Destination.the-variants.{To, Caller}
-use Rattle.flow.specs.declared.Edge.{Edge}
-use Rattle.flow.specs.Edge.{edgeOf}
-use Rattle.flow.specs.Transfer.{isTransfer, readsCodes, link}
-use Rattle.flow.specs.Readings.{readingAt}
+use Rattle.flow_edges.specs.declared.Destination.{Destination}
+use Rattle.flow_edges.specs.declared.Destination.the-variants.{To, Caller}
+use Rattle.flow_edges.specs.declared.Edge.{Edge}
+use Rattle.flow_edges.specs.Edge.{edgeOf}
+use Rattle.flow_edges.specs.Transfer.{isTransfer, readsCodes, link}
+use Rattle.flow_code.specs.Readings.{readingAt}
 use Rattle.access.specs.declared.Located.{Located}
 use Rattle.access.specs.declared.Located.the-variants.{At, Scratch, Nowhere}
 use Rattle.access.specs.Layout.{Layout}
@@ -40,8 +40,9 @@ use Rattle.step.specs.Control.{inSlot, dueAt}
 use Rattle.step.specs.Registers.{valueOf, isSet, scratchSet, operandSet}
 use Rattle.step.specs.Effect.{Core, Effect, fault, done, addressIn, aimIn, aimOf, movedSet, accessAt, accessAimed, effectOf}
 use Rattle.step.specs.Step.{State, Step, stopped, next, returned, advance, follow, plainStep, execute, stepWith, stepOf}
-use Rattle.machine.specs.Placement.{placedIn}
-use Rattle.machine.specs.Run.{Run, afterStep, runFrom, refusalOf, runIf, settingOf, startState, runOf}
+use Rattle.machine_place.specs.Placement.{placedIn}
+use Rattle.machine_steps.specs.Steps.{Run, afterStep, runFrom, settingOf}
+use Rattle.machine.specs.Run.{refusalOf, runIf, startState, runOf}
 use Rattle.machine.specs.Laws.{Numbered, EndsNumbered}
 
 -- a fault's number, an effect's, an aim's and a step's, if it stops

@@ -1,6 +1,2 @@
-pub mod Placement
-pub mod Fits
-pub mod Moved
 pub mod Run
-pub mod Ended
 pub mod Laws

@@ -1,8 +1,7 @@
--- The whole run (document 01, "Machine run"): refused with 20, 21 or 22, or step after step until it has returned, has spent the
--- allowance, or stops at a fault. The steps are counted as they are run, and the trace has the states whose steps were run.
-use Prim.Native.Nat.{ℕ, zero, suc, _+_}
+-- The whole run (document 01, "Machine run"): refused with 20, 21 or 22, or step after step from word 0.
+use Prim.Native.Nat.{ℕ, zero, suc}
 use mathlib.Core.Bool.{cond}
-use mathlib.Core.List.{List, [], _∷_}
+use mathlib.Core.List.{List}
 use lib.Dec.{ltb}
 use lib.ListN.{length}
 use Rattle.v8.specs.Numbers.{acceptance, badPolicy, badShape, badPlacement, mostWords}
@@ -10,22 +9,13 @@ use Rattle.v8.specs.declared.Edition.{Edition}
 use Rattle.policy.specs.declared.Policy.{Policy}
 use Rattle.policy.specs.Policy.{policyOk}
 use Rattle.step.specs.declared.Registers.{Registers}
-use Rattle.machine.specs.declared.End.{End}
-use Rattle.machine.specs.declared.End.the-variants.{Returned, Spent, Fault, Refused}
-use Rattle.machine.specs.declared.Outcome.{Outcome}
+use Rattle.machine_steps.specs.declared.End.{End}
+use Rattle.machine_steps.specs.declared.End.the-variants.{Returned, Spent, Fault, Refused}
 use Rattle.step.specs.Registers.{withZero, unsetScratch}
-use Rattle.access.specs.Layout.{layoutOf}
-use Rattle.flow.specs.Readings.{readingsOf}
-use Rattle.step.specs.Setting.{Setting}
-use Rattle.machine.specs.Placement.{placedIn}
+use Rattle.machine_place.specs.Placement.{placedIn}
 use Rattle.step.specs.Control.{goTo}
-use Rattle.step.specs.Effect.{Core}
-use Rattle.step.specs.Step.{State, Step, stopped, next, returned, stepOf}
-
--- what a run leaves: its outcome, and the lent memory
-pub record Run : Type 0 where
-  pub outcome : Outcome
-  pub memory : List ℕ
+use Rattle.step.specs.Step.{State}
+use Rattle.machine_steps.specs.Steps.{Run, runFrom, settingOf}
 
 -- the number of an end: at a fault 101 to 105, refused "20, 21 (word count), 22"; document 01 gives a run that returned or is spent none, and
 -- 0 stands for that
@@ -34,54 +24,6 @@ endNumber Returned = acceptance
 endNumber Spent = acceptance
 endNumber (Fault n) = n
 endNumber (Refused n) = n
-
--- a run that ended, after k steps
-abbrev pub ended : End → ℕ → Core → Run
-ended e k c = record { outcome = record { end = e; steps = k; registers = c .registers }; memory = c .memory }
-
--- a run after one step of it, k steps having been run before: "A faulting step changes nothing and isn't counted."
-abbrev pub afterStep : ℕ → State → (State → Run) → Step → Run
-afterStep k st rest (stopped f) = ended (Fault f) k (st .core)
-afterStep k st rest (next t) = rest t
-afterStep k st rest (returned c) = ended Returned (k + 1) c
-
--- the trace after one step
-abbrev pub tracedStep : State → (State → List State) → Step → List State
-tracedStep st rest (stopped f) = []
-tracedStep st rest (next t) = st ∷ rest t
-tracedStep st rest (returned c) = st ∷ []
-
--- the first steps of a run: it is still going, after k steps, or it is over
-pub data Walk : Type 0 where
-  going : ℕ → State → Walk
-  over : Run → Walk
-
-abbrev pub walkedStep : ℕ → State → (State → Walk) → Step → Walk
-walkedStep k st rest (stopped f) = over (ended (Fault f) k (st .core))
-walkedStep k st rest (next t) = rest t
-walkedStep k st rest (returned c) = over (ended Returned (k + 1) c)
-
-module _ (s : Setting) where
-  -- a run from a state with an allowance, k steps having been run before: "It ends returned (after the return's slot, also where that
-  -- was the last step allowed), spent (exactly the allowance run), or at a fault"
-  unfoldable pub runFrom : ℕ → ℕ → State → Run
-  runFrom zero k st = ended Spent k (st .core)
-  runFrom (suc n) k st = afterStep k st (runFrom n (k + 1)) (stepOf s st)
-
-  -- the states whose steps were run, in order
-  unfoldable pub traceFrom : ℕ → State → List State
-  traceFrom zero st = []
-  traceFrom (suc n) st = tracedStep st (traceFrom n) (stepOf s st)
-
-  -- the first n steps from a state
-  unfoldable pub walkFrom : ℕ → ℕ → State → Walk
-  walkFrom zero k st = going k st
-  walkFrom (suc n) k st = walkedStep k st (walkFrom n (k + 1)) (stepOf s st)
-
-  -- a run that goes on with an allowance of m
-  abbrev pub goOn : ℕ → Walk → Run
-  goOn m (going k st) = runFrom m k st
-  goOn m (over r) = r
 
 -- "It starts at word 0"; "r0 counts as a set zero"; "In the machine the six start unset" (document 02, request 7)
 abbrev pub startState : Registers → List ℕ → State
@@ -99,10 +41,6 @@ refusalOf p words bases returns frame memory =
 -- "Refused, it changes nothing: 0 steps, registers and codes as handed in."
 abbrev pub refused : ℕ → Registers → List ℕ → Run
 refused n g memory = record { outcome = record { end = Refused n; steps = 0; registers = g }; memory = memory }
-
--- what is handed in, as a setting: the words as the terminal that is told reads them
-abbrev pub settingOf : Edition → Policy → List ℕ → List ℕ → ℕ → ℕ → Setting
-settingOf e p words bases returns frame = record { layout = layoutOf p bases frame; readings = readingsOf e words; returns = returns }
 
 -- the run, if it is not refused; the six scratch words are not handed in: a refused run gives them unset
 abbrev pub runIf : ℕ → Run → Registers → List ℕ → Run

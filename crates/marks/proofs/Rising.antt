@@ -23,7 +23,7 @@ use Rattle.v8.specs.declared.Operation.the-variants.{Sethi, Alu, Shift, Memory}
 use Rattle.v8.specs.declared.Instruction.{Instruction}
 use Rattle.v8.specs.declared.Instruction.the-variants.{Plain, Branch, Return}
 use Rattle.v8.specs.declared.Reading.the-variants.{Read, Unread}
-use Rattle.flow.specs.Written.{registerWritten}
+use Rattle.flow_writes.specs.Written.{registerWritten}
 use Rattle.marks.specs.Marks.{notReached, number, address, unset, AtMost, registerCount, markOf, marksWith, MarksAtMost}
 use Rattle.marks.specs.Effect.{operandMark, isR0, both, ofNumbers, sumMark, differenceMark, orMark, aluMark, loadMark, accessMark, operationMark, instructionMark}
 use Rattle.marks.specs.Laws.{AllMarked, AfterRises, AfterMarked}

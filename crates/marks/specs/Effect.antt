@@ -17,7 +17,7 @@ use Rattle.v8.specs.declared.Instruction.{Instruction}
 use Rattle.v8.specs.declared.Instruction.the-variants.{Plain, Branch, Return}
 use Rattle.v8.specs.declared.Reading.{Reading}
 use Rattle.v8.specs.declared.Reading.the-variants.{Read, Unread}
-use Rattle.flow.specs.Written.{registerWritten}
+use Rattle.flow_writes.specs.Written.{registerWritten}
 use Rattle.marks.specs.Marks.{number, address, unset, markOf, marksWith}
 
 -- the mark of a second operand: a register's, or a number's

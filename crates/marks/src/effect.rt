@@ -7,7 +7,7 @@ use crate::kinds::NUMBER;
 use crate::kinds::UNSET;
 use crate::kinds::mark_of;
 use crate::kinds::marks_with;
-use flow::written::register_written;
+use flow_writes::register_written;
 use v8::Access;
 use v8::AluOp;
 use v8::Instruction;

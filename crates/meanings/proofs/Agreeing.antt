@@ -38,7 +38,7 @@ use Rattle.step.specs.Registers.{markCount, valueIn, setIn, valuesWith, valueOf
 use Rattle.step.specs.Effect.{Core, Effect, fault, done, aluRegisters, aimOf, movedSet, touching, scratchAccess, accessAt, accessAimed, effectOf}
 use Rattle.step.proofs.Writing.{write-length}
 use Rattle.step.proofs.ScratchMarks.{marking-keeps}
-use Rattle.flow.specs.Written.{accessWrites}
+use Rattle.flow_writes.specs.Written.{accessWrites}
 use Rattle.rows.specs.Matches.{Host}
 use Rattle.marks.specs.Marks.{notReached, registerCount, markOf, marksWith}
 use Rattle.marks.specs.Effect.{operandMark, isR0, ofNumbers, orMark, aluMark, accessMark, marksAfter}

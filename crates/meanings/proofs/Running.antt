@@ -10,9 +10,9 @@ use lib.ListN.{length}
 use borrow.Author.Tests.{ltb-true, ltb-false, eqb-false, eq-eqb}
 use Rattle.v8.specs.declared.Reading.{Reading}
 use Rattle.v8.proofs.Choice.{cond-both}
-use Rattle.flow.specs.Readings.{readingsOf}
-use Rattle.flow.proofs.Fetched.{read-count}
-use Rattle.flow.proofs.Examined.{first-examined}
+use Rattle.flow_code.specs.Readings.{readingsOf}
+use Rattle.flow_code.proofs.Fetched.{read-count}
+use Rattle.flow_code.proofs.Examined.{first-examined}
 use Rattle.flow.specs.Laws.{Flowing}
 use Rattle.v8.specs.declared.Edition.{Edition}
 use Rattle.policy.specs.declared.Policy.{Policy}
@@ -22,7 +22,8 @@ use Rattle.step.specs.Registers.{valueOf, isSet, withZero, unsetScratch}
 use Rattle.step.specs.Effect.{Core}
 use Rattle.step.specs.Setting.{Setting}
 use Rattle.step.specs.Step.{State, Step, stopped, next, returned, stepOf}
-use Rattle.machine.specs.Run.{Walk, going, over, settingOf, startState, tracedStep, traceFrom, walkedStep, walkFrom}
+use Rattle.machine_steps.specs.Steps.{Walk, going, over, settingOf, tracedStep, traceFrom, walkedStep, walkFrom}
+use Rattle.machine.specs.Run.{startState}
 use Rattle.rows.specs.declared.Entry.{Entry}
 use Rattle.rows.specs.Geometry.{entryStart}
 use Rattle.rows.specs.Row.{entryOf, rowOf}

@@ -6,13 +6,14 @@ use mathlib.Core.Logic.{_⊎_}
 use mathlib.Core.Bool.{Bool, true}
 use mathlib.Core.List.{List}
 use lib.ListN.{length}
-use Rattle.flow.specs.Readings.{readingsOf}
+use Rattle.flow_code.specs.Readings.{readingsOf}
 use Rattle.v8.specs.declared.Edition.{Edition}
 use Rattle.policy.specs.declared.Policy.{Policy}
 use Rattle.step.specs.declared.Registers.{Registers}
 use Rattle.step.specs.Registers.{valueOf, isSet}
 use Rattle.step.specs.Step.{State}
-use Rattle.machine.specs.Run.{settingOf, startState, traceFrom, going, walkFrom}
+use Rattle.machine_steps.specs.Steps.{settingOf, traceFrom, going, walkFrom}
+use Rattle.machine.specs.Run.{startState}
 use Rattle.rows.specs.Geometry.{entryStart}
 use Rattle.rows.specs.Row.{entryOf, rowOf}
 use Rattle.rows.specs.Matches.{Host, baseOf, RowMatches}

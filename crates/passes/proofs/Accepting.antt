@@ -11,8 +11,8 @@ use Rattle.v8.specs.Search.{first}
 use Rattle.v8.specs.declared.Reading.{Reading}
 use Rattle.v8.proofs.Search.{first-passes, first-least, needed}
 use Rattle.v8.proofs.Choice.{false-true}
-use Rattle.flow.specs.Written.{writtenBy, leavesCallers}
-use Rattle.flow.specs.Readings.{readingAt}
+use Rattle.flow_writes.specs.Written.{writtenBy, leavesCallers}
+use Rattle.flow_code.specs.Readings.{readingAt}
 use Rattle.flow.specs.Flow.{flowOf}
 use Rattle.policy.specs.declared.Policy.{Policy}
 use Rattle.rows.specs.declared.Flaw.{Flaw}

@@ -8,9 +8,9 @@ use lib.ListN.{length}
 use borrow.Author.Tests.{lt-ltb, le-ltb, eq-eqb, ne-eqb}
 use Rattle.v8.specs.Numbers.{badRow}
 use Rattle.v8.specs.declared.Reading.{Reading}
-use Rattle.flow.specs.Readings.{readingAt, transfers, isSlot, examined}
+use Rattle.flow_code.specs.Readings.{readingAt, transfers, isSlot, examined}
 use Rattle.flow.specs.Flow.{flowWith, flowOf}
-use Rattle.flow.proofs.Examined.{slot-next}
+use Rattle.flow_code.proofs.Examined.{slot-next}
 use Rattle.v8.specs.Search.{first}
 use Rattle.v8.proofs.Search.{first-here, first-next, first-end}
 use Rattle.policy.specs.declared.Policy.{Policy}

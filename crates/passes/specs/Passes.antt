@@ -7,8 +7,8 @@ use lib.ListN.{length}
 use Rattle.v8.specs.Numbers.{badPolicy, badShape, badRow, badFlow, callersRegister, entryMisfit, mostWords}
 use Rattle.v8.specs.declared.Reading.{Reading}
 use Rattle.v8.specs.declared.Reading.the-variants.{Read, Unread}
-use Rattle.flow.specs.Written.{writtenBy, leavesCallers}
-use Rattle.flow.specs.Readings.{readingAt}
+use Rattle.flow_writes.specs.Written.{writtenBy, leavesCallers}
+use Rattle.flow_code.specs.Readings.{readingAt}
 use Rattle.flow.specs.Flow.{flowOf}
 use Rattle.policy.specs.declared.Policy.{Policy}
 use Rattle.policy.specs.Policy.{policyOk}

@@ -1,5 +1,4 @@
 pub mod Element
 pub mod Policy
 pub mod Build
-pub mod Find
 pub mod Laws

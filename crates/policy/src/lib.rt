@@ -1,5 +1,5 @@
-// The policy: regions of memory and their fields, the rules they obey, the three operations that
-// build one, and the search for the field that holds some bytes. (Document 01, "Policy".)
+// The policy: regions of memory and their fields, the rules they obey, and the three operations that
+// build one. (Document 01, "Policy".)
 use v8::ByteOffset;
 
 // The elements' widths and ranges.
@@ -8,10 +8,8 @@ pub mod element;
 mod form;
 // The operations that build a policy.
 pub mod build;
-// The search for a field.
-mod find;
 
-pub use find::find_in;
+pub use form::elements_end;
 pub use form::field_in;
 
 // A field of a region: `count` elements that begin `offset` bytes after the region's start.
@@ -60,24 +58,4 @@ pub struct Policy {
 pub struct Built {
     pub policy: Policy,
     pub number: u8,
-}
-
-// What is found: the place of the field, or that no field holds the bytes.
-pub enum Found {
-    At(usize),
-    Nothing,
-}
-
-// What a search gives: what is found, and how many fields were looked at.
-pub struct Search {
-    pub found: Found,
-    pub looked: usize,
-}
-
-// What a search in a policy handed in gives: 0 and what the search gives; or the number of the refusal,
-// with nothing found and no field looked at.
-pub struct FieldSearch {
-    pub number: u8,
-    pub found: Found,
-    pub looked: usize,
 }

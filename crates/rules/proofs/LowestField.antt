@@ -1,8 +1,8 @@
 -- The search ends early and loses nothing (`policy`): an access reaches by the lowest field that holds its bytes.
 use mathlib.Core.Path.{ap}
 use borrow.Author.Tests.{le-ltb}
-use Rattle.policy.specs.declared.Found.{Found}
-use Rattle.policy.proofs.FoundField.{ends-early}
+use Rattle.policy_search.specs.declared.Found.{Found}
+use Rattle.policy_search.proofs.FoundField.{ends-early}
 use Rattle.rules.specs.Reach.{inFound, inRegion}
 use Rattle.rules.specs.Laws.{ReachesHolder}
 

@@ -15,13 +15,13 @@ use Rattle.v8.specs.declared.Operation.{Operation}
 use Rattle.v8.specs.declared.Operation.the-variants.{Sethi, Alu, Shift, Memory}
 use Rattle.v8.specs.declared.Instruction.{Instruction}
 use Rattle.v8.specs.declared.Instruction.the-variants.{Plain, Branch, Return}
-use Rattle.flow.specs.Transfer.{readsCodes, link}
-use Rattle.flow.specs.Written.{accessWrites}
+use Rattle.flow_edges.specs.Transfer.{readsCodes, link}
+use Rattle.flow_writes.specs.Written.{accessWrites}
 use Rattle.policy.specs.declared.Policy.{Policy}
-use Rattle.policy.specs.declared.Found.{Found}
-use Rattle.policy.specs.declared.Found.the-variants as Found·
+use Rattle.policy_search.specs.declared.Found.{Found}
+use Rattle.policy_search.specs.declared.Found.the-variants as Found·
 use Rattle.policy.specs.Policy.{fieldAt}
-use Rattle.policy.specs.Find.{findField}
+use Rattle.policy_search.specs.Find.{findField}
 use Rattle.memory.specs.Frame.{isScratch}
 use Rattle.access.specs.Serve.{accessWidth, isWord, serves, allows, addend}
 use Rattle.sets.specs.declared.NumberSet.{NumberSet}

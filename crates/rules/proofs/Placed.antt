@@ -10,9 +10,9 @@ use Rattle.v8.specs.Signed.{bias}
 use Rattle.v8.proofs.Choice.{cond-both}
 use Rattle.v8.specs.declared.Access.{Access}
 use Rattle.policy.specs.declared.Fields.{Fields}
-use Rattle.policy.specs.declared.Found.{Found}
-use Rattle.policy.specs.declared.Found.the-variants as Found·
-use Rattle.policy.specs.Find.{findIn}
+use Rattle.policy_search.specs.declared.Found.{Found}
+use Rattle.policy_search.specs.declared.Found.the-variants as Found·
+use Rattle.policy_search.specs.Find.{findIn}
 use Rattle.memory.specs.Frame.{scratchCount, isScratch}
 use Rattle.memory.proofs.Scratch.{scratch-offsets}
 use Rattle.access.specs.Serve.{accessWidth, isWord, serves, allows}

@@ -19,12 +19,13 @@ use Rattle.v8.specs.declared.Access.the-variants.{Loads, Stores}
 use Rattle.alu.specs.Result.{add32}
 use Rattle.policy.specs.declared.Policy.{Policy}
 use Rattle.policy.specs.declared.Field.{Field}
-use Rattle.policy.specs.declared.Found.{Found}
-use Rattle.policy.specs.declared.Found.the-variants as Found·
+use Rattle.policy_search.specs.declared.Found.{Found}
+use Rattle.policy_search.specs.declared.Found.the-variants as Found·
 use Rattle.policy.specs.Policy.{sizeOf, placeOf, fieldAt, fieldEnd}
-use Rattle.policy.specs.Find.{findField}
-use Rattle.policy.specs.Laws.{WellFormed, FoundHere}
-use Rattle.policy.proofs.FoundField.{found-holds}
+use Rattle.policy_search.specs.Find.{findField}
+use Rattle.policy.specs.Laws.{WellFormed}
+use Rattle.policy_search.specs.Laws.{FoundHere}
+use Rattle.policy_search.proofs.FoundField.{found-holds}
 use Rattle.memory.specs.Frame.{isScratch}
 use Rattle.memory.proofs.Scratch.{scratch-offsets}
 use Rattle.access.specs.Serve.{accessWidth, isWord, serves, allows}

@@ -16,8 +16,8 @@ use Rattle.v8.specs.declared.Operation.the-variants.{Sethi, Alu, Shift, Memory}
 use Rattle.v8.specs.declared.Instruction.{Instruction}
 use Rattle.v8.specs.declared.Instruction.the-variants.{Plain, Branch, Return}
 use Rattle.alu.specs.Result.{sethiOf}
-use Rattle.flow.specs.Transfer.{readsCodes, link}
-use Rattle.flow.specs.Written.{operationWrites}
+use Rattle.flow_edges.specs.Transfer.{readsCodes, link}
+use Rattle.flow_writes.specs.Written.{operationWrites}
 use Rattle.policy.specs.declared.Policy.{Policy}
 use Rattle.policy.specs.Policy.{fieldAt}
 use Rattle.access.specs.Serve.{addend}

@@ -15,7 +15,7 @@ use Rattle.alu.specs.Codes.{codesOf}
 use Rattle.alu.specs.Condition.{condHolds, conditionOf}
 use Rattle.policy.specs.declared.Policy.{Policy}
 use Rattle.policy.specs.Policy.{sizeOf, countOf, placeOf, fieldAt, fieldEnd}
-use Rattle.policy.specs.Find.{fieldHolding}
+use Rattle.policy_search.specs.Find.{fieldHolding}
 use Rattle.policy.specs.Laws.{WellFormed}
 use Rattle.memory.specs.Frame.{frameBytes, scratchCount, scratchOffset}
 use Rattle.access.specs.Serve.{accessWidth, isWord, serves, allows}

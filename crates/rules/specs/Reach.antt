@@ -11,9 +11,9 @@ use Rattle.v8.specs.Signed.{bias}
 use Rattle.v8.specs.Numbers.{maybeNull, noRule, outsideFields, wrongElement, offGrid, notAllowed, tooHigh}
 use Rattle.v8.specs.declared.Access.{Access}
 use Rattle.policy.specs.declared.Fields.{Fields}
-use Rattle.policy.specs.declared.Found.{Found}
-use Rattle.policy.specs.declared.Found.the-variants as Found·
-use Rattle.policy.specs.Find.{findIn}
+use Rattle.policy_search.specs.declared.Found.{Found}
+use Rattle.policy_search.specs.declared.Found.the-variants as Found·
+use Rattle.policy_search.specs.Find.{findIn}
 use Rattle.memory.specs.Frame.{isScratch, scratchAt}
 use Rattle.access.specs.Serve.{accessWidth, isWord, serves, allows}
 use Rattle.sets.specs.declared.NumberSet.{NumberSet}

@@ -17,7 +17,7 @@ use crate::record::words_end;
 use crate::start::after;
 use crate::start::before;
 use crate::start::policy_of;
-use machine::Outcome;
+use machine_steps::Outcome;
 use policy::Policy;
 use records::MOST_NUMBERS;
 use records::edition::Told;

@@ -8,7 +8,8 @@ use lib.ListN.{drop}
 use Rattle.v8.specs.declared.Edition.{Edition}
 use Rattle.policy.specs.declared.Policy.{Policy}
 use Rattle.step.specs.declared.Registers.{Registers}
-use Rattle.machine.specs.Run.{Run, runOf}
+use Rattle.machine_steps.specs.Steps.{Run}
+use Rattle.machine.specs.Run.{runOf}
 use Rattle.rows.specs.Geometry.{registerCount}
 use Rattle.passes.specs.Passes.{startOk}
 use Rattle.trials.specs.Case.{Outcome, endsOf}

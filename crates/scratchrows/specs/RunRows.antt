@@ -9,8 +9,8 @@ use Rattle.v8.specs.Signed.{bias}
 use Rattle.policy.specs.declared.Policy.{Policy}
 use Rattle.policy.specs.Build.{emptyPolicy, withRegion, withField}
 use Rattle.step.specs.declared.Registers.{Registers}
-use Rattle.machine.specs.declared.End.{End}
-use Rattle.machine.specs.declared.End.the-variants.{Returned, Spent, Fault, Refused}
+use Rattle.machine_steps.specs.declared.End.{End}
+use Rattle.machine_steps.specs.declared.End.the-variants.{Returned, Spent, Fault, Refused}
 use Rattle.trials.specs.Case.{ends, codesAt}
 use Rattle.trials.specs.Policies.{fieldOf, uniform}
 use Rattle.scratchrows.specs.Case.{Given, RunRow}

@@ -5,9 +5,10 @@ use crate::record::fits;
 use crate::record::policy_of;
 use crate::record::region_of;
 use crate::record::search_count;
-use policy::FieldSearch;
-use policy::Found;
 use policy::Policy;
+use policy_search::FieldSearch;
+use policy_search::Found;
+use policy_search::find_field;
 use records::MOST_NUMBERS;
 use v8::ByteOffset;
 ghost use Prim.Native.Nat.{_+_, _≤_};
@@ -64,7 +65,7 @@ fn search_at(numbers: &[u32; MOST_NUMBERS], policy: Policy, at: usize) -> FieldS
 {
     let low = ByteOffset(numbers[at]);
     let end = ByteOffset(numbers[at + 1]);
-    policy.find_field(region_of(numbers), low, end)
+    find_field(policy, region_of(numbers), low, end)
 }
 
 // What the first search shows that gives something else, if one does.

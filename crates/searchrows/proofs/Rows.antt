@@ -3,7 +3,7 @@ use mathlib.Core.Path.{refl}
 use Rattle.v8.specs.Search.{all, lowest, first}
 use Rattle.policy.specs.Element.{widthOf, leastOf, mostOf}
 use Rattle.policy.specs.Policy.{fieldAt, valuesOk, fieldOk, endBefore, fieldFits, fieldAtOk, regionOk, policyOk}
-use Rattle.policy.specs.Find.{holdsIn, stopOf, holderIn, findIn, lookedAt, searchOf}
+use Rattle.policy_search.specs.Find.{holdsIn, stopOf, holderIn, findIn, lookedAt, searchOf}
 use Rattle.searchrows.specs.Rows.{searchRows, refusedRows, listRows}
 use Rattle.searchrows.specs.Table.{Holds, TableHolds}
 

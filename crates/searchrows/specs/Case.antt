@@ -4,11 +4,11 @@ use mathlib.Core.Bool.{cond}
 use lib.Dec.{eqb}
 use Rattle.v8.specs.Numbers.{acceptance}
 use Rattle.policy.specs.declared.Policy.{Policy}
-use Rattle.policy.specs.declared.FieldSearch.{FieldSearch}
-use Rattle.policy.specs.declared.Found.{Found}
-use Rattle.policy.specs.declared.Found.the-variants.{At, Nothing}
+use Rattle.policy_search.specs.declared.FieldSearch.{FieldSearch}
+use Rattle.policy_search.specs.declared.Found.{Found}
+use Rattle.policy_search.specs.declared.Found.the-variants.{At, Nothing}
 use Rattle.policy.specs.Policy.{placeOf}
-use Rattle.policy.specs.Find.{searchIn, searchOf}
+use Rattle.policy_search.specs.Find.{searchIn, searchOf}
 
 -- what is given: a policy, a region, and the bytes wanted, from an offset up to another, which is not among them
 pub data Given : Type 0 where

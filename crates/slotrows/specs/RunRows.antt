@@ -2,7 +2,7 @@
 -- The words are those that GNU as gives, and stand above each row; a branch is told with the word that it lands on. `inc` is add of 1 to a
 -- register, so that r5, r6 and r7 count.
 use mathlib.Core.List.{List, [], _∷_}
-use Rattle.machine.specs.declared.End.the-variants.{Returned, Spent, Fault}
+use Rattle.machine_steps.specs.declared.End.the-variants.{Returned, Spent, Fault}
 use Rattle.trials.specs.Case.{Row, _gives_}
 use Rattle.trials.specs.Runs.{sixteenBytes, start, equal, from, code, left, counted, kept}
 

@@ -5,7 +5,7 @@
 use alu::Codes;
 use libc::STDIN_FILENO;
 use libc::STDOUT_FILENO;
-use machine::Outcome;
+use machine_steps::Outcome;
 use policy::Field;
 use policy::Policy;
 use states::end_number;

@@ -1,7 +1,7 @@
 -- The number by which data made outside tells how a run ended.
 use Prim.Native.Nat.{ℕ}
-use Rattle.machine.specs.declared.End.{End}
-use Rattle.machine.specs.declared.End.the-variants.{Returned, Spent, Fault, Refused}
+use Rattle.machine_steps.specs.declared.End.{End}
+use Rattle.machine_steps.specs.declared.End.the-variants.{Returned, Spent, Fault, Refused}
 use Rattle.machine.specs.Run.{endNumber}
 
 -- document 01's number of the end; 1 tells that the allowance is spent, which has none

@@ -2,7 +2,7 @@
 ghost use mathlib.Core.Path.{_≡_};
 ghost use Rattle.states.specs.Told.{toldNumber};
 use alu::Codes;
-use machine::End;
+use machine_steps::End;
 use step::MARKS;
 use step::MarkedCodes;
 use step::Registers;

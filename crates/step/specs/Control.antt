@@ -1,8 +1,8 @@
 -- Where control stands, and where it goes from there (V8, delayed control transfer): the next word, and what follows it if that word is a slot.
 use Prim.Native.Nat.{ℕ, _+_}
 use mathlib.Core.Bool.{Bool, true, false}
-use Rattle.flow.specs.declared.Destination.{Destination}
-use Rattle.flow.specs.Edge.{toWord}
+use Rattle.flow_edges.specs.declared.Destination.{Destination}
+use Rattle.flow_edges.specs.Edge.{toWord}
 use Rattle.step.specs.declared.Pending.{Pending}
 use Rattle.step.specs.declared.Pending.the-variants.{Nothing, Due}
 use Rattle.step.specs.declared.Control.{Control}

@@ -4,8 +4,8 @@ use mathlib.Core.Path.{_≡_}
 use mathlib.Core.Bool.{true, false}
 use lib.ListN.{length}
 use Rattle.memory.specs.Frame.{scratchCount}
-use Rattle.flow.specs.Readings.{readingAt}
-use Rattle.flow.specs.Written.{writtenBy}
+use Rattle.flow_code.specs.Readings.{readingAt}
+use Rattle.flow_writes.specs.Written.{writtenBy}
 use Rattle.step.specs.declared.Registers.{Registers}
 use Rattle.step.specs.Registers.{markCount, valueOf, isSet, written, scratchSet, withScratch, unsetScratch}
 use Rattle.step.specs.Setting.{Setting}

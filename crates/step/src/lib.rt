@@ -15,7 +15,7 @@ pub mod dispatch;
 pub mod moving;
 
 use alu::Codes;
-use flow::Destination;
+use flow_edges::Destination;
 use v8::Access;
 use v8::WordIndex;
 

@@ -10,11 +10,11 @@ use Rattle.v8.specs.Read.{readingOf, format00, format10, format11, operandOf, c
 use Rattle.writer.specs.Write.{writingOf, packed, packOf, sethiWord, signedBits, fiveBits}
 use Rattle.alu.specs.Codes.{codesOf}
 use Rattle.alu.specs.Condition.{condHolds, conditionOf}
-use Rattle.flow.specs.Transfer.{slotRuns, targetOf}
-use Rattle.flow.specs.Readings.{isSlot, isTarget}
+use Rattle.flow_edges.specs.Transfer.{slotRuns, targetOf}
+use Rattle.flow_code.specs.Readings.{isSlot, isTarget}
 use Rattle.policy.specs.Element.{widthOf, leastOf, mostOf}
 use Rattle.policy.specs.Policy.{fieldAt, valuesOk, fieldOk, endBefore, fieldFits, fieldAtOk, regionOk, policyOk}
-use Rattle.policy.specs.Find.{holdsIn, stopOf, findIn}
+use Rattle.policy_search.specs.Find.{holdsIn, stopOf, findIn}
 use Rattle.policy.specs.Build.{regionNumber, fieldNumber, built}
 use Rattle.memory.specs.Frame.{isScratch}
 use Rattle.memory.specs.Place.{partStart}
@@ -22,8 +22,9 @@ use Rattle.step.specs.Registers.{valueIn, setIn, valuesWith, marksWith}
 use Rattle.access.specs.Locate.{insideRegion, regionIn, scratchIn, locate}
 use Rattle.step.specs.Effect.{aimIn}
 use Rattle.step.specs.Step.{stepOf}
-use Rattle.machine.specs.Placement.{disjointIn, placedIn}
-use Rattle.machine.specs.Run.{runFrom, refusalOf, runOf}
+use Rattle.machine_place.specs.Placement.{disjointIn, placedIn}
+use Rattle.machine_steps.specs.Steps.{runFrom}
+use Rattle.machine.specs.Run.{refusalOf, runOf}
 use Rattle.sets.specs.Sets.{ended, setOk, fitsSet}
 use Rattle.sets.specs.Rules.{within, addSets, subSets, andSets, sllSet, sraSet, srlSet}
 use Rattle.sets.specs.Narrow.{atMost, atLeast, lessThan, isMember, only, without}
@@ -37,8 +38,9 @@ use Rattle.rules.specs.Narrow.{narrowEntry, narrowRow}
 use Rattle.passes.specs.Answer.{passOf}
 use Rattle.passes.specs.Passes.{shapeOk, rowPass, readPass, flowPass, entryPass}
 use Rattle.checker.specs.Passes.{cross, narrowedEdge, wordPass, answerOf, checkOf}
-use Rattle.bundle.specs.Layout.{fieldsBefore, fieldRead, bundleOk}
-use Rattle.bundle.specs.Bundle.{regionTo, fieldTo, withRegions, withFieldsOf, withFields, bundleAnswer}
+use Rattle.bundle_layout.specs.Layout.{fieldsBefore, fieldRead, bundleOk}
+use Rattle.bundle_open.specs.Build.{regionTo, fieldTo, withRegions, withFieldsOf, withFields}
+use Rattle.bundle.specs.Bundle.{bundleAnswer}
 use Rattle.trials.specs.Case.{Row, Outcome, expected, found, Holds}
 use Rattle.trials.specs.CheckRows.{shapeRows, formPassRows, flowRows, edgeRows, slipRows}
 use Rattle.claims.proofs.Answered.{return-then-nop, one-nop, loop-accepted}

@@ -21,10 +21,10 @@ use Rattle.alu.specs.declared.codes.Codes.{Codes}
 use Rattle.alu.specs.Result.{aluOf, shiftOf}
 use Rattle.alu.specs.Codes.{codesOf}
 use Rattle.alu.specs.Condition.{condHolds, conditionOf}
-use Rattle.flow.specs.declared.Edge.{Edge}
-use Rattle.flow.specs.Written.{registerWritten}
-use Rattle.flow.specs.Edge.{edgeOf}
-use Rattle.flow.specs.Readings.{readingsOf, examined}
+use Rattle.flow_edges.specs.declared.Edge.{Edge}
+use Rattle.flow_writes.specs.Written.{registerWritten}
+use Rattle.flow_edges.specs.Edge.{edgeOf}
+use Rattle.flow_code.specs.Readings.{readingsOf, examined}
 use Rattle.policy.specs.declared.Field.{Field}
 use Rattle.policy.specs.declared.Policy.{Policy}
 use Rattle.policy.specs.declared.Built.{Built}
@@ -32,8 +32,9 @@ use Rattle.policy.specs.Build.{addRegionOf, addFieldOf}
 use Rattle.memory.specs.Memory.{loadOf, storeOf}
 use Rattle.memory.specs.Place.{partStart}
 use Rattle.step.specs.declared.Registers.{Registers}
-use Rattle.machine.specs.declared.End.{End}
-use Rattle.machine.specs.Run.{Run, runOf}
+use Rattle.machine_steps.specs.declared.End.{End}
+use Rattle.machine_steps.specs.Steps.{Run}
+use Rattle.machine.specs.Run.{runOf}
 use Rattle.rows.specs.declared.Entry.{Entry}
 use Rattle.rows.specs.declared.Flaw.{Flaw}
 use Rattle.rows.specs.declared.Note.{Note}

@@ -7,7 +7,7 @@ use Rattle.v8.specs.Numbers.{notRead}
 use Rattle.v8.specs.declared.Reading.the-variants.{Unread}
 use Rattle.alu.specs.declared.condition.Narrowing.{Narrowing}
 use Rattle.alu.specs.declared.condition.Narrowing.the-variants.{Unrelated, EqualTo, NotEqualTo, LessThan, AtLeast, AtMost, GreaterThan}
-use Rattle.flow.specs.declared.Destination.the-variants.{To, Caller}
+use Rattle.flow_edges.specs.declared.Destination.the-variants.{To, Caller}
 use Rattle.trials.specs.Case.{Row, Outcome, _gives_, edge, writing, examining, goes, reads, yields, marks}
 
 -- there is an edge to a word, over the slot or not, and one to the caller

@@ -8,8 +8,8 @@ use Rattle.policy.specs.declared.Policy.{Policy}
 use Rattle.policy.specs.Build.{emptyPolicy, withRegion, withField}
 use Rattle.memory.specs.Frame.{frameBytes, scratchCount}
 use Rattle.step.specs.declared.Registers.{Registers}
-use Rattle.machine.specs.declared.End.{End}
-use Rattle.machine.specs.declared.End.the-variants.{Returned, Spent, Fault, Refused}
+use Rattle.machine_steps.specs.declared.End.{End}
+use Rattle.machine_steps.specs.declared.End.the-variants.{Returned, Spent, Fault, Refused}
 use Rattle.trials.specs.Case.{Row, _gives_, Given, Outcome, runs, ends, codesAt}
 use Rattle.trials.specs.Policies.{fieldOf, uniform}
 use Rattle.v8.specs.Signed.{bias}

@@ -4,7 +4,7 @@ use mathlib.Core.Path.{sym}
 use native.Mathlib.Omega.{arith}
 use lib.Seq.{length-take-le}
 use Rattle.rows.specs.Geometry.{rowBytes}
-use Rattle.bundle.proofs.Lent.{narrow-laid}
+use Rattle.bundle_open.proofs.Laid.{narrow-laid}
 use borrow.Author.Needs.{needs}
 use Rattle.about.proofs.refusals.show_narrow.Statement.{statement}
 use Rattle.about.proofs.refusals.show_narrow.Tie as tie

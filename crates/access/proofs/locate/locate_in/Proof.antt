@@ -1,6 +1,6 @@
 -- An access lies where the field found serves and allows it; a place that is found is one of the 128.
 use Rattle.access.proofs.Places.{place-small}
-use Rattle.policy.proofs.FoundField.{is-found}
+use Rattle.policy_search.proofs.FoundField.{is-found}
 use native.Mathlib.Omega.{arith}
 use mathlib.Core.Path.{sym, _∙_}
 use borrow.Author.Needs.{needs}

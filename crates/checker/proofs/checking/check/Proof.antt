@@ -9,7 +9,7 @@ use borrow.Author.Needs.{needs}
 use borrow.Author.Tests.{not-true, not-false, eq-eqb}
 use Rattle.v8.specs.declared.Reading.{Reading}
 use Rattle.policy.specs.Policy.{policyOk}
-use Rattle.flow.specs.Lent.{codeOf}
+use Rattle.flow_code.specs.Lent.{codeOf}
 use Rattle.passes.specs.Answer.{passes}
 use Rattle.passes.specs.Passes.{readPass, flowPass}
 use Rattle.checker.specs.Passes.{wordPass}

@@ -4,8 +4,8 @@ use mathlib.Core.Logic.{⊎-elim}
 use lib.ListN.{length}
 use denote.Ref.{now}
 use Rattle.v8.proofs.Choice.{and-went}
-use Rattle.flow.specs.declared.Edge.{Edge}
-use Rattle.flow.specs.Edge.{edgeOf}
+use Rattle.flow_edges.specs.declared.Edge.{Edge}
+use Rattle.flow_edges.specs.Edge.{edgeOf}
 use Rattle.passes.specs.declared.Answer.{Answer}
 use Rattle.passes.specs.Answer.{accepted, andThen}
 use Rattle.checker.specs.Passes.{narrowedEdge}
@@ -22,7 +22,7 @@ use Rattle.checker.proofs.edges.edges_of.Lts as lts
 use Rattle.passes.proofs.answers.accept.Reads as accept-reads
 use Rattle.checker.proofs.arrival.arrive.Reads as arrive-reads
 use Rattle.checker.proofs.edges.narrowed_edge.Reads as narrowed-edge-reads
-use Rattle.flow.proofs.edges.edge_of.Reads as edge-of-reads
+use Rattle.flow_edges.proofs.edges.edge_of.Reads as edge-of-reads
 use Rattle.rules.proofs.narrows.Reads as narrows-reads
 
 -- the answer along an edge

@@ -8,9 +8,9 @@ use Rattle.v8.specs.declared.Operation.the-variants.{Sethi}
 use Rattle.v8.specs.declared.Instruction.the-variants.{Plain}
 use Rattle.v8.specs.declared.Reading.the-variants.{Read}
 use denote.Ref.{now}
-use Rattle.flow.specs.Readings.{readingAt}
-use Rattle.flow.specs.Lent.{codeOf}
-use Rattle.flow.proofs.Fetched.{array-has, past-array, code-count}
+use Rattle.flow_code.specs.Readings.{readingAt}
+use Rattle.flow_code.specs.Lent.{codeOf}
+use Rattle.flow_code.proofs.Fetched.{array-has, past-array, code-count}
 use Rattle.rows.specs.Geometry.{rowBytes}
 use Rattle.passes.specs.Answer.{passes, passOf}
 use Rattle.passes.specs.Passes.{flowPass}

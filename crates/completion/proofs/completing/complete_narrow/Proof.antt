@@ -1,6 +1,6 @@
 -- `complete_narrow` meets its contract: the rows are widened, found, and put where they are missing without their scratch words.
 use native.Mathlib.Omega.{arith}
-use Rattle.bundle.proofs.Lent.{narrow-laid}
+use Rattle.bundle_open.proofs.Laid.{narrow-laid}
 use borrow.Author.Needs.{needs}
 use Rattle.completion.proofs.completing.complete_narrow.Statement.{statement}
 use Rattle.completion.proofs.completing.complete_narrow.Tie as tie

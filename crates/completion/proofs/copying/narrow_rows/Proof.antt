@@ -3,7 +3,7 @@ use Prim.Native.Nat.{_≤_, _-_}
 use mathlib.Core.Path.{_≡_, refl}
 use native.Mathlib.Nat.{le-antisymm}
 use lib.ListN.{length}
-use Rattle.bundle.specs.Layout.{narrowRowBytes}
+use Rattle.bundle_layout.specs.Layout.{narrowRowBytes}
 use Rattle.completion.proofs.Keeping.{Putting, none-put, more-put, all-put}
 use borrow.Author.Needs.{needs}
 use Rattle.completion.proofs.copying.narrow_rows.Statement.{statement}

@@ -1,6 +1,6 @@
 -- A place that is found is one of the 128.
 use mathlib.Core.Path.{sym, _∙_}
-use Rattle.policy.proofs.FoundField.{is-found}
+use Rattle.policy_search.proofs.FoundField.{is-found}
 use Rattle.access.proofs.Places.{place-small}
 use borrow.Author.Needs.{needs}
 use Rattle.drafts.proofs.hoping.load_at.Statement.{statement}

@@ -3,7 +3,7 @@ use mathlib.Core.Path.{sym, _∙_}
 use native.Mathlib.Omega.{arith}
 use lib.Seq.{length-take-le, take-all}
 use Rattle.rows.specs.Geometry.{rowBytes}
-use Rattle.bundle.proofs.Lent.{narrow-laid}
+use Rattle.bundle_open.proofs.Laid.{narrow-laid}
 use Rattle.kindlines.proofs.Lent.{narrow-is}
 use borrow.Author.Needs.{needs}
 use Rattle.kindlines.proofs.listing.list_narrow.Statement.{statement}

@@ -10,9 +10,9 @@ use borrow.Author.Needs.{needs}
 use borrow.Author.Tests.{not-true, not-false}
 use Rattle.policy.specs.Policy.{policyOk}
 use Rattle.v8.specs.declared.Reading.{Reading}
-use Rattle.flow.specs.Readings.{readingsOf}
-use Rattle.flow.specs.Lent.{codeOf}
-use Rattle.flow.proofs.Fetched.{read-count, code-count}
+use Rattle.flow_code.specs.Readings.{readingsOf}
+use Rattle.flow_code.specs.Lent.{codeOf}
+use Rattle.flow_code.proofs.Fetched.{read-count, code-count}
 use Rattle.passes.specs.declared.Answer.{Answer}
 use Rattle.passes.specs.Answer.{passOf}
 use Rattle.passes.specs.Passes.{readPass, flowPass}

@@ -13,9 +13,9 @@ use Rattle.v8.proofs.Choice.{and-went}
 use Rattle.v8.specs.declared.Operation.the-variants.{Sethi}
 use Rattle.v8.specs.declared.Instruction.the-variants.{Plain}
 use Rattle.v8.specs.declared.Reading.the-variants.{Read}
-use Rattle.flow.specs.Readings.{readingAt}
-use Rattle.flow.specs.Lent.{codeOf}
-use Rattle.flow.proofs.Fetched.{array-has, past-array, code-count}
+use Rattle.flow_code.specs.Readings.{readingAt}
+use Rattle.flow_code.specs.Lent.{codeOf}
+use Rattle.flow_code.proofs.Fetched.{array-has, past-array, code-count}
 use Rattle.marks.specs.Marks.{notReached}
 use Rattle.lister.specs.Table.{tableMarks, raisedAt}
 use Rattle.lister.specs.Work.{isPending}

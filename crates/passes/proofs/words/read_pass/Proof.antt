@@ -6,8 +6,8 @@ use native.Mathlib.Omega.{arith}
 use Rattle.v8.specs.declared.Operation.the-variants.{Sethi}
 use Rattle.v8.specs.declared.Instruction.the-variants.{Plain}
 use Rattle.v8.specs.declared.Reading.the-variants.{Read}
-use Rattle.flow.specs.Lent.{codeOf}
-use Rattle.flow.proofs.Fetched.{array-has}
+use Rattle.flow_code.specs.Lent.{codeOf}
+use Rattle.flow_code.proofs.Fetched.{array-has}
 use Rattle.passes.specs.Answer.{passOf}
 use Rattle.passes.specs.Passes.{readPass}
 use Rattle.passes.proofs.Passing.{passFrom, pass-start, pass-here, pass-next, pass-end, read-here}

@@ -1,6 +1,6 @@
 -- The lowest offset is not negative, and a field is searched; a place that is found is one of the 128.
 use mathlib.Core.Path.{sym, _∙_}
-use Rattle.policy.proofs.FoundField.{is-found}
+use Rattle.policy_search.proofs.FoundField.{is-found}
 use Rattle.access.proofs.Places.{place-small}
 use Rattle.rules.specs.Reach.{inRegion}
 use borrow.Author.Tests.{le-ltb, lt-ltb}

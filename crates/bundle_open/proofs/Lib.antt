@@ -1,0 +1,4 @@
+pub mod Next
+pub mod Obeying
+pub mod Words
+pub mod Laid

@@ -1,0 +1,4 @@
+pub mod Steps
+pub mod Ended
+pub mod Fits
+pub mod Laws
