@@ -23,12 +23,13 @@ use Rattle.rules.specs.Result.{aluResult}
 use Rattle.rules.specs.Change.{noteAfter, aluChange, returnChange}
 use Rattle.rules.specs.Narrow.{narrowRow}
 use Rattle.passes.specs.Answer.{passOf}
-use Rattle.passes.specs.Passes.{shapeOk, rowPass, readPass, flowPass, entryPass}
+use Rattle.passes_shape.specs.Shape.{shapeOk}
+use Rattle.passes.specs.Passes.{rowPass, readPass, flowPass, entryPass}
 use Rattle.checker.specs.Passes.{cross, narrowedEdge, wordPass, answerOf, checkOf}
 use Rattle.marks.specs.Marks as Marks·
 use Rattle.marks.specs.Effect.{ofNumbers, orMark}
-use Rattle.lister.specs.Table.{marksAt, reached, raisedAt}
-use Rattle.lister.specs.Rules.{entryMarks, sentBy, takenIn, closedAt, closed}
+use Rattle.lister_rules.specs.Table.{marksAt, reached, raisedAt}
+use Rattle.lister_rules.specs.Rules.{entryMarks, sentBy, takenIn, closedAt, closed}
 use Rattle.lister.specs.Listing.{raisedByWords, raisedOnce, raisedUntilClosed, listingOf, listingAnswer, listed}
 use Rattle.trials.specs.Case as Trials·
 use Rattle.kindrows.specs.Table as Kinds·

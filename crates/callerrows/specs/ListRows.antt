@@ -4,7 +4,7 @@ use Prim.Native.Nat.{ℕ}
 use mathlib.Core.Bool.{true}
 use mathlib.Core.List.{List, [], _∷_}
 use Rattle.trials.specs.Entries.{bytesOf}
-use Rattle.lister.specs.Table.{tableMarks}
+use Rattle.lister_rules.specs.Table.{tableMarks}
 use Rattle.kindrows.specs.Case.{Row, routine, refusal}
 use Rattle.kindrows.specs.ListRows.{policy, entry, entered}
 

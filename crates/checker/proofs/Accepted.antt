@@ -8,11 +8,12 @@ use Rattle.policy.specs.Policy.{policyOk}
 use Rattle.rows.specs.Row.{formFault}
 use Rattle.rows.proofs.LowestFlaw.{flawless-none}
 use Rattle.passes.specs.Answer.{passes, passOf}
-use Rattle.passes.specs.Passes.{policyPass, shapeOk, shapePass, rowPass, readPass, flowPass, entryPass}
+use Rattle.passes.specs.Passes.{policyPass, shapePass, rowPass, readPass, flowPass, entryPass}
+use Rattle.passes_shape.specs.Shape.{shapeOk}
 use Rattle.checker.specs.Routine.{Routine, routineOf, count}
 use Rattle.checker.specs.Passes.{look, wordPass, answerOf, checkOf}
 use Rattle.checker.specs.Laws.{Checked, Accepts}
-use Rattle.passes.proofs.Started.{shape-started}
+use Rattle.passes_shape.proofs.Started.{shape-started}
 use Rattle.passes.proofs.Accepting.{both-pass, need-holds, each-passes, flow-holds, callers-left, row-holds, entry-holds, result-holds}
 
 module _ (t : Routine) where

@@ -21,7 +21,8 @@ use Rattle.rules.specs.Narrow.{RowLeft, left, narrows, narrowRow}
 use Rattle.rules.proofs.Numbered.{Numbered, change-numbered}
 use Rattle.passes.specs.declared.Answer.{Answer}
 use Rattle.passes.specs.Answer.{accepted, passes}
-use Rattle.passes.specs.Passes.{resultRegister, rowAt}
+use Rattle.passes_shape.specs.Shape.{resultRegister}
+use Rattle.passes.specs.Passes.{rowAt}
 use Rattle.checker.specs.Routine.{resultEntry}
 use Rattle.checker.specs.Passes.{made, changeBy, arrive, cross, ifLeft, narrowedEdge, edgePass}
 use Rattle.checker.specs.Laws.{After, WordMakes, EdgesLooked, SlotApplied, SlotSkipped, Arrives}

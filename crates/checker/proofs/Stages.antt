@@ -11,9 +11,10 @@ use Rattle.rows.specs.Geometry.{rowBytes, entryBytes}
 use Rattle.passes.specs.declared.Answer.{Answer}
 use Rattle.passes.specs.Answer.{refuse, andThen, passOf}
 use Rattle.checker.specs.Routine.{count}
-use Rattle.passes.specs.Passes.{shapeOk, rowPass, readPass, flowPass, entryPass}
+use Rattle.passes_shape.specs.Shape.{shapeOk}
+use Rattle.passes.specs.Passes.{rowPass, readPass, flowPass, entryPass}
 use Rattle.checker.specs.Passes.{wordPass, answerOf, checkOf}
-use Rattle.passes.proofs.Started.{shape-started}
+use Rattle.passes_shape.proofs.Started.{shape-started}
 use Rattle.checker.proofs.Parts.{Given, whole}
 
 -- what a right shape tells of the lengths

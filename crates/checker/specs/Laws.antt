@@ -28,7 +28,8 @@ use Rattle.rules.specs.declared.Change.the-variants.{Writes, Keeps, Breaks}
 use Rattle.rules.specs.Narrow.{left, narrowRow}
 use Rattle.passes.specs.declared.Answer.{Answer}
 use Rattle.passes.specs.Answer.{accepted, passes}
-use Rattle.passes.specs.Passes.{resultRegister, rowAt, entryRow, readPass}
+use Rattle.passes_shape.specs.Shape.{resultRegister}
+use Rattle.passes.specs.Passes.{rowAt, entryRow, readPass}
 use Rattle.checker.specs.Routine.{Routine, routineOf, count, resultEntry}
 use Rattle.checker.specs.Passes.{arrive, changeBy, applied, cross, edges, look, checkOf}
 

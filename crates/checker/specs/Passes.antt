@@ -21,7 +21,8 @@ use Rattle.rules.specs.Change.{changeOf}
 use Rattle.rules.specs.Narrow.{RowLeft, left, nothing, narrowRow}
 use Rattle.passes.specs.declared.Answer.{Answer}
 use Rattle.passes.specs.Answer.{accepted, refuse, andThen, need, passOf}
-use Rattle.passes.specs.Passes.{resultRegister, rowAt, unlessFault, policyPass, shapePass, rowPass, readPass, flowPass, entryPass}
+use Rattle.passes_shape.specs.Shape.{resultRegister}
+use Rattle.passes.specs.Passes.{rowAt, unlessFault, policyPass, shapePass, rowPass, readPass, flowPass, entryPass}
 use Rattle.checker.specs.Routine.{Routine, routineOf, count, resultEntry}
 
 -- a word's own conditions, "each named with that word", then what follows on the row that it makes

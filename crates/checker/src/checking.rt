@@ -11,7 +11,7 @@ use passes::entry_pass;
 use passes::flow_pass;
 use passes::read_pass;
 use passes::row_pass;
-use passes::shape_ok;
+use passes_shape::shape_ok;
 use policy::Policy;
 use v8::Edition;
 use v8::WordIndex;

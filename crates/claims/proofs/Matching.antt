@@ -15,8 +15,8 @@ use Rattle.v8.specs.Signed.{excess, bias}
 use Rattle.policy.specs.declared.Policy.{Policy}
 use Rattle.policy.specs.Policy.{countOf}
 use Rattle.memory.specs.Memory.{loadOf}
-use Rattle.sets.specs.Narrow.{isMember}
-use Rattle.sets.proofs.Narrowing.{is-member}
+use Rattle.sets_narrow.specs.Narrow.{isMember}
+use Rattle.sets_narrow.proofs.Narrowing.{is-member}
 use Rattle.rows.specs.declared.Entry.{Entry}
 use Rattle.rows.specs.declared.Row.{Row}
 use Rattle.rows.specs.Kind.{Kind, unset, number, address, start, returnAddress, frameAddress, none, kindOf}

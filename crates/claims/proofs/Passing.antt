@@ -18,7 +18,8 @@ use Rattle.rows.proofs.LowestFlaw.{none-broken, no-flaw}
 use Rattle.passes.specs.declared.Answer.{Answer}
 use Rattle.passes.specs.Answer.{accepted, passes, refuses, passOf}
 use Rattle.checker.specs.Routine.{Routine, count}
-use Rattle.passes.specs.Passes.{unlessFault, shapeOk, rowPass, readPass, flowPass, entryPass}
+use Rattle.passes.specs.Passes.{unlessFault, rowPass, readPass, flowPass, entryPass}
+use Rattle.passes_shape.specs.Shape.{shapeOk}
 use Rattle.checker.specs.Passes.{wordPass, answerOf}
 use Rattle.claims.proofs.Agreeing.{Agree, same-form}
 

@@ -24,8 +24,8 @@ use Rattle.machine_place.specs.Placement.{disjointIn, placedIn}
 use Rattle.machine.specs.Run.{startState, refusalOf, runOf}
 use Rattle.machine_steps.specs.Steps.{runFrom}
 use Rattle.sets.specs.Sets.{ended, setOk, fitsSet}
-use Rattle.sets.specs.Rules.{within, addSets}
-use Rattle.sets.specs.Narrow.{isMember, only, without}
+use Rattle.sets_rules.specs.Rules.{within, addSets}
+use Rattle.sets_narrow.specs.Narrow.{isMember, only, without}
 use Rattle.rows.specs.Entry.{sizeIn, entryOk, fits, noteOk, fitsNote, fieldEntry}
 use Rattle.rows.specs.Flaw.{flawFrom}
 use Rattle.rows.specs.Row.{entryAt, entriesWith, entryOf, noteOf, rowOf, formedAt, formFault, scratchUnset, fitsAt, misfit}
@@ -35,7 +35,8 @@ use Rattle.rules.specs.Reach.{inField, inRegion, inFrame, frameReach, reachOf}
 use Rattle.rules.specs.Change.{noteAfter, codesNote, aluChange, accessChange, branchChange, returnChange}
 use Rattle.rules.specs.Narrow.{narrowEntry, narrowRow}
 use Rattle.passes.specs.Answer.{accepted, passOf}
-use Rattle.passes.specs.Passes.{shapeOk, rowPass, readPass, flowPass, entryPass}
+use Rattle.passes_shape.specs.Shape.{shapeOk}
+use Rattle.passes.specs.Passes.{rowPass, readPass, flowPass, entryPass}
 use Rattle.checker.specs.Routine.{Routine, routineOf}
 use Rattle.checker.specs.Passes.{cross, narrowedEdge, wordPass, checkOf}
 use Rattle.guarantee.specs.Fields.{Declared}

@@ -22,7 +22,7 @@ use Rattle.rows.specs.declared.Flaw.the-variants.{None}
 use Rattle.rows.specs.Geometry.{rowBytes, entryBytes}
 use Rattle.rows.specs.Row.{entryAt, entryOf, entryFormedAs, rowOf, formFault, scratchUnset}
 use Rattle.passes.specs.Answer.{accepted, refuse}
-use Rattle.passes.specs.Passes.{resultRegister}
+use Rattle.passes_shape.specs.Shape.{resultRegister}
 use Rattle.checker.specs.Passes.{checkOf}
 use Rattle.guarantee.specs.Guarantee.{Start}
 use Rattle.claims.specs.Unlink as Unlink

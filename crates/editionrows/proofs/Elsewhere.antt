@@ -19,7 +19,7 @@ use Rattle.machine_place.specs.Placement.{disjointIn, placedIn}
 use Rattle.machine.specs.Run.{startState, refusalOf, runOf}
 use Rattle.machine_steps.specs.Steps.{runFrom}
 use Rattle.sets.specs.Sets.{setOk, fitsSet}
-use Rattle.sets.specs.Narrow.{isMember}
+use Rattle.sets_narrow.specs.Narrow.{isMember}
 use Rattle.rows.specs.Entry.{sizeIn, entryOk, fits, noteOk, fitsNote}
 use Rattle.rows.specs.Flaw.{flawFrom}
 use Rattle.rows.specs.Row.{entryAt, entriesWith, entryOf, noteOf, rowOf, formedAt, formFault, scratchUnset, fitsAt, misfit}
@@ -27,7 +27,8 @@ use Rattle.rows.specs.Matches.{Host, RowMatches}
 use Rattle.rules.specs.Change.{noteAfter, branchChange, returnChange}
 use Rattle.rules.specs.Narrow.{narrowRow}
 use Rattle.passes.specs.Answer.{accepted, passOf}
-use Rattle.passes.specs.Passes.{shapeOk, rowPass, readPass, flowPass, entryPass}
+use Rattle.passes_shape.specs.Shape.{shapeOk}
+use Rattle.passes.specs.Passes.{rowPass, readPass, flowPass, entryPass}
 use Rattle.checker.specs.Passes.{cross, narrowedEdge, wordPass, answerOf, checkOf}
 use Rattle.guarantee.specs.Guarantee.{hostOf, valueAt, markAt, heldOf, Start}
 use Rattle.claims.proofs.Matching.{below, registers-match, fields-hold}

@@ -20,8 +20,8 @@ use Rattle.machine_place.specs.Placement.{disjointIn, placedIn}
 use Rattle.machine_steps.specs.Steps.{runFrom}
 use Rattle.machine.specs.Run.{refusalOf, runOf}
 use Rattle.sets.specs.Sets.{ended, setOk, fitsSet}
-use Rattle.sets.specs.Rules.{within, addSets}
-use Rattle.sets.specs.Narrow.{atMost, atLeast, lessThan, isMember, only, without}
+use Rattle.sets_rules.specs.Rules.{within, addSets}
+use Rattle.sets_narrow.specs.Narrow.{atMost, atLeast, lessThan, isMember, only, without}
 use Rattle.rows.specs.Entry.{sizeIn, entryOk, fits, noteOk, fitsNote, fieldEntry}
 use Rattle.rows.specs.Flaw.{flawFrom}
 use Rattle.rows.specs.Row.{entryAt, entriesWith, entryOf, noteOf, rowOf, formedAt, formFault, scratchUnset, fitsAt, misfit}
@@ -30,15 +30,16 @@ use Rattle.rules.specs.Reach.{inField, inRegion, frameReach, reachOf}
 use Rattle.rules.specs.Change.{noteAfter, codesNote, aluChange, accessChange, branchChange, returnChange}
 use Rattle.rules.specs.Narrow.{narrowEntry, narrowRow}
 use Rattle.passes.specs.Answer.{passOf}
-use Rattle.passes.specs.Passes.{shapeOk, rowPass, readPass, flowPass, entryPass}
+use Rattle.passes_shape.specs.Shape.{shapeOk}
+use Rattle.passes.specs.Passes.{rowPass, readPass, flowPass, entryPass}
 use Rattle.checker.specs.Passes.{cross, narrowedEdge, wordPass, answerOf, checkOf}
 use Rattle.bundle_layout.specs.Layout.{fieldsBefore, fieldRead, bundleOk}
 use Rattle.bundle_open.specs.Build.{regionTo, fieldTo, withRegions, withFieldsOf, withFields}
 use Rattle.bundle.specs.Bundle.{bundleAnswer}
 use Rattle.marks.specs.Marks as Marks·
 use Rattle.marks.specs.Effect.{ofNumbers, orMark}
-use Rattle.lister.specs.Table.{marksAt, reached, raisedAt}
-use Rattle.lister.specs.Rules.{entryMarks, sentBy, takenIn, closedAt, closed}
+use Rattle.lister_rules.specs.Table.{marksAt, reached, raisedAt}
+use Rattle.lister_rules.specs.Rules.{entryMarks, sentBy, takenIn, closedAt, closed}
 use Rattle.lister.specs.Listing.{raisedByWords, raisedOnce, raisedUntilClosed, listingOf, listingAnswer, listed}
 use Rattle.trials.specs.Case.{Holds}
 use Rattle.slotrows.specs.Table as Slots·

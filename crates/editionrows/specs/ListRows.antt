@@ -3,7 +3,7 @@
 use Prim.Native.Nat.{ℕ}
 use mathlib.Core.List.{List, [], _∷_}
 use Rattle.trials.specs.Entries.{bytesOf}
-use Rattle.lister.specs.Table.{tableMarks}
+use Rattle.lister_rules.specs.Table.{tableMarks}
 use Rattle.kindrows.specs.Case.{Row}
 use Rattle.kindrows.specs.ListRows.{policy, entry, entered, unreached, refused}
 use Rattle.editionrows.specs.Hints.{hinted}

@@ -19,7 +19,7 @@ use growth::NO_LIMIT;
 use passes::Answer;
 use passes::flow_pass;
 use passes::read_pass;
-use passes::shape_ok;
+use passes_shape::shape_ok;
 use policy::Policy;
 use rows::geometry::ROW_BYTES;
 use v8::Edition;

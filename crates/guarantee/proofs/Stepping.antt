@@ -56,7 +56,8 @@ use Rattle.rules.specs.Laws.{Laid, LeftMatches}
 use Rattle.rows.proofs.ByKind.{held-return}
 use Rattle.rules.proofs.Narrowed.{narrows-row}
 use Rattle.passes.specs.Answer.{passes}
-use Rattle.passes.specs.Passes.{resultRegister, rowAt, ifRead, readPass}
+use Rattle.passes_shape.specs.Shape.{resultRegister}
+use Rattle.passes.specs.Passes.{rowAt, ifRead, readPass}
 use Rattle.checker.specs.Routine.{Routine, count, resultEntry}
 use Rattle.checker.specs.Passes.{arrive, changeBy, applied, cross, edges}
 use Rattle.checker.specs.Laws.{Checked, After}

@@ -30,7 +30,8 @@ use Rattle.rows.proofs.RowFitting.{row-fits}
 use Rattle.rows.proofs.Obeying.{entry-obeys, row-obeys}
 use Rattle.rules.specs.Laws.{Laid}
 use Rattle.passes.specs.Answer.{accepted}
-use Rattle.passes.specs.Passes.{resultRegister, rowAt, entryRow}
+use Rattle.passes_shape.specs.Shape.{resultRegister}
+use Rattle.passes.specs.Passes.{rowAt, entryRow}
 use Rattle.checker.specs.Routine.{Routine, routineOf}
 use Rattle.checker.specs.Passes.{checkOf}
 use Rattle.checker.specs.Laws.{Checked}

@@ -28,7 +28,7 @@ use Rattle.rows.specs.Geometry.{registerCount}
 use Rattle.rows.specs.Row.{entryOf, rowOf}
 use Rattle.rows.specs.Matches.{Host, Matches, Held, RowMatches}
 use Rattle.passes.specs.Answer.{accepted}
-use Rattle.passes.specs.Passes.{resultRegister}
+use Rattle.passes_shape.specs.Shape.{resultRegister}
 use Rattle.checker.specs.Passes.{checkOf}
 use Rattle.guarantee.specs.Fields.{scratchOf, Declared, Framed}
 use Rattle.guarantee.specs.Safe.{ReadingSafe}

@@ -26,7 +26,8 @@ use Rattle.rows.specs.Laws.{RowRules}
 use Rattle.rules.specs.declared.Change.{Change}
 use Rattle.rules.specs.declared.Change.the-variants.{Writes, Keeps, Breaks}
 use Rattle.rules.specs.Change.{operationChange}
-use Rattle.passes.specs.Passes.{resultRegister, rowAt}
+use Rattle.passes_shape.specs.Shape.{resultRegister}
+use Rattle.passes.specs.Passes.{rowAt}
 use Rattle.checker.specs.Routine.{Routine, count, resultEntry}
 use Rattle.checker.specs.Laws.{After}
 use Rattle.guarantee.specs.Fields.{Declared, Framed}

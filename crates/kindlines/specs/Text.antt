@@ -6,7 +6,7 @@ use lib.Dec.{ltb, eqb}
 use lib.ListN.{getD}
 use Rattle.marks.specs.Marks.{valuesFrom}
 use Rattle.output.specs.Line.{space}
-use Rattle.lister.specs.Table.{placeOf, markAt}
+use Rattle.lister_rules.specs.Table.{placeOf, markAt}
 
 -- not reached, number, address, address or null, return, unset: `.`, `n`, `a`, `z`, `r`, `-`
 abbrev pub letters : List ℕ

@@ -16,7 +16,7 @@ mod lines;
 
 use libc::STDIN_FILENO;
 use lines::show_listing;
-use lister::TABLE_MARKS;
+use lister_rules::TABLE_MARKS;
 use listing::list_bundle;
 use marks::kinds::NOT_REACHED;
 use output::print_line;

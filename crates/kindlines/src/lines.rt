@@ -4,7 +4,7 @@ ghost use Rattle.v8.specs.Numbers.{mostWords};
 use crate::text::marks_text;
 use bundle_open::open;
 use libc::STDOUT_FILENO;
-use lister::TABLE_MARKS;
+use lister_rules::TABLE_MARKS;
 use output::print;
 use output::print_number;
 use v8::numbers::MOST_WORDS;

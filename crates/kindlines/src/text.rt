@@ -3,7 +3,7 @@ ghost use mathlib.Core.Path.{_≡_};
 ghost use Prim.Native.Nat.{_<_};
 ghost use Rattle.v8.specs.Numbers.{mostWords};
 ghost use Rattle.kindlines.specs.Text.{letterOf, textAt, textLength, marksText};
-use lister::TABLE_MARKS;
+use lister_rules::TABLE_MARKS;
 use marks::REGISTERS;
 
 // How long the text is: 32 letters in four groups.

@@ -16,8 +16,8 @@ use Rattle.passes.specs.Answer.{passOf}
 use Rattle.passes.specs.Passes.{readPass, flowPass}
 use Rattle.marks.specs.Marks.{meet, markOf, marksWith}
 use Rattle.marks.specs.Effect.{ofNumbers, sumMark, differenceMark, orMark}
-use Rattle.lister.specs.Table.{marksAt, reached, raisedAt}
-use Rattle.lister.specs.Rules.{entryMarks, sentBy, takenIn, closedAt, closed}
+use Rattle.lister_rules.specs.Table.{marksAt, reached, raisedAt}
+use Rattle.lister_rules.specs.Rules.{entryMarks, sentBy, takenIn, closedAt, closed}
 use Rattle.lister.specs.Listing.{raisedByWords, raisedOnce, raisedUntilClosed, listingOf, listingAnswer, listed}
 use Rattle.kindrows.specs.MarkRows.{meetRows, wordRows}
 use Rattle.kindrows.specs.ListRows.{listRows, refusedRows}

@@ -8,7 +8,7 @@ use Rattle.policy.specs.declared.Policy.{Policy}
 use Rattle.policy.specs.Build.{emptyPolicy, withRegion}
 use Rattle.rows.specs.declared.Row as Rows·
 use Rattle.trials.specs.Entries.{just, addr, startOrNull, returnAddress, entryWith, above, bare, put, bytesOf}
-use Rattle.lister.specs.Table.{tableMarks}
+use Rattle.lister_rules.specs.Table.{tableMarks}
 use Rattle.kindrows.specs.Case.{Row, routine, listing, refusal}
 
 -- one region of 8 bytes

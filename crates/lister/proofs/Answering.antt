@@ -17,9 +17,10 @@ use Rattle.policy.specs.declared.Policy.{Policy}
 use Rattle.policy.specs.Policy.{policyOk}
 use Rattle.passes.specs.declared.Answer.{Answer}
 use Rattle.passes.specs.Answer.{accepted, refuse, passes, refuses, andThen, passOf}
-use Rattle.passes.specs.Passes.{startOk, readPass, flowPass}
-use Rattle.passes.proofs.Started.{Started, started}
-use Rattle.lister.specs.Table.{tableMarks}
+use Rattle.passes_shape.specs.Shape.{startOk}
+use Rattle.passes.specs.Passes.{readPass, flowPass}
+use Rattle.passes_shape.proofs.Started.{Started, started}
+use Rattle.lister_rules.specs.Table.{tableMarks}
 use Rattle.lister.specs.Listing.{listingOf, wholeTable, listable, listingAnswer, listed}
 
 -- a pass over the words whose answer has the number 0 accepts

@@ -15,12 +15,12 @@ use Rattle.v8.specs.declared.Reading.{Reading}
 use Rattle.v8.proofs.Choice.{false-true}
 use Rattle.flow_code.specs.Readings.{readingAt, examined}
 use Rattle.marks.specs.Marks.{notReached}
-use Rattle.lister.specs.Table.{tableMarks, markAt, marksAt, raisedAt, TableAtMost, height}
-use Rattle.lister.specs.Rules.{entryMarks, entrySent, sendsReached, sentBy, takenIn, allTakenIn, closedAt, closed}
-use Rattle.lister.specs.Listing.{raisedBy, raisedByAll, listingOf, wholeTable}
-use Rattle.lister.specs.Work.{isPending, Held, Worked}
-use Rattle.lister.proofs.Tables.{inside, mark-behind, raised-length, taken-higher, height-most}
-use Rattle.lister.proofs.Raised.{by-taken, all-least, all-higher, all-taken, to-within, sent-within}
+use Rattle.lister_rules.specs.Table.{tableMarks, markAt, marksAt, raisedAt, TableAtMost, height}
+use Rattle.lister_rules.specs.Rules.{entryMarks, entrySent, sendsReached, sentBy, takenIn, allTakenIn, closedAt, closed, raisedBy, raisedByAll}
+use Rattle.lister.specs.Listing.{listingOf, wholeTable}
+use Rattle.lister_rules.specs.Work.{isPending, Held, Worked}
+use Rattle.lister_rules.proofs.Tables.{inside, mark-behind, raised-length, taken-higher, height-most}
+use Rattle.lister_rules.proofs.Raised.{by-taken, all-least, all-higher, all-taken, to-within, sent-within}
 use Rattle.lister.proofs.Smallest.{none-marked, none-below, closed-each, word-lowest, entry-lowest, listing-length, listing-unique}
 
 -- the whole table has the marks of the listing

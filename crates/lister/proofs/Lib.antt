@@ -1,9 +1,3 @@
-pub mod Places
-pub mod Tables
-pub mod Sent
-pub mod Raised
 pub mod Smallest
-pub mod Stored
-pub mod Working
 pub mod Closing
 pub mod Answering

@@ -16,13 +16,13 @@ use Rattle.v8.proofs.Choice.{cond-both, and-went, false-true}
 use Rattle.v8.proofs.Search.{all-at, all-each, and-both}
 use Rattle.marks.specs.Marks.{notReached, AtMost, registerCount}
 use Rattle.marks.proofs.Order.{none-at-most, at-most-both}
-use Rattle.lister.specs.Table.{markAt, TableAtMost, height}
-use Rattle.lister.specs.Rules.{entryMarks, entrySent, sentBy, takenIn, allTakenIn, closedAt, closed}
-use Rattle.lister.specs.Listing.{raisedBy, raisedByAll, raisedByWords, raisedOnce, raisedUntilClosed, noMarks, listingOf}
+use Rattle.lister_rules.specs.Table.{markAt, TableAtMost, height}
+use Rattle.lister_rules.specs.Rules.{entryMarks, entrySent, sentBy, takenIn, allTakenIn, closedAt, closed, raisedBy, raisedByAll}
+use Rattle.lister.specs.Listing.{raisedByWords, raisedOnce, raisedUntilClosed, noMarks, listingOf}
 use Rattle.lister.specs.Laws.{ListingClosed, ListingSmallest, ListingUnique, RaisingEnds}
-use Rattle.lister.proofs.Tables.{mark-behind, table-self, table-trans, taken-higher, height-most, height-rises, height-same}
-use Rattle.lister.proofs.Sent.{sent-taken}
-use Rattle.lister.proofs.Raised.{by-length, by-least, by-lowest, by-taken, all-length, all-least, all-lowest, all-higher, all-taken, to-within, sent-within}
+use Rattle.lister_rules.proofs.Tables.{mark-behind, table-self, table-trans, taken-higher, height-most, height-rises, height-same}
+use Rattle.lister_rules.proofs.Sent.{sent-taken}
+use Rattle.lister_rules.proofs.Raised.{by-length, by-least, by-lowest, by-taken, all-length, all-least, all-lowest, all-higher, all-taken, to-within, sent-within}
 
 -- a table without marks is at most every other
 pub none-marked : (n k : ℕ) → markAt (replicate n notReached) k ≡ notReached

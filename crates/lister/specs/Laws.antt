@@ -6,8 +6,8 @@ use mathlib.Core.List.{List}
 use lib.ListN.{length}
 use Rattle.v8.specs.declared.Reading.{Reading}
 use Rattle.marks.specs.Marks.{registerCount}
-use Rattle.lister.specs.Table.{markAt, TableAtMost, height}
-use Rattle.lister.specs.Rules.{closed}
+use Rattle.lister_rules.specs.Table.{markAt, TableAtMost, height}
+use Rattle.lister_rules.specs.Rules.{closed}
 use Rattle.lister.specs.Listing.{raisedOnce, listingOf}
 
 -- It is closed.

@@ -1,5 +1,2 @@
-pub mod Table
-pub mod Rules
 pub mod Listing
 pub mod Laws
-pub mod Work

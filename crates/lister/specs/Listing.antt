@@ -2,7 +2,7 @@
 -- is raised by all that its words send until it is closed; Laws says that it is the smallest, whatever the order of raising.
 use Prim.Native.Nat.{ℕ, zero, suc, _-_, _*_}
 use mathlib.Core.Bool.{Bool, cond, _&&_}
-use mathlib.Core.List.{List, [], _∷_, _++_}
+use mathlib.Core.List.{List, _++_}
 use lib.Dec.{eqb}
 use lib.ListN.{length, replicate}
 use Rattle.v8.specs.Numbers.{badShape}
@@ -12,19 +12,11 @@ use Rattle.flow_code.specs.Readings.{readingsOf}
 use Rattle.policy.specs.declared.Policy.{Policy}
 use Rattle.passes.specs.declared.Answer.{Answer}
 use Rattle.passes.specs.Answer.{passes, andThen, need, passOf}
-use Rattle.passes.specs.Passes.{policyPass, startOk, readPass, flowPass}
+use Rattle.passes.specs.Passes.{policyPass, readPass, flowPass}
+use Rattle.passes_shape.specs.Shape.{startOk}
 use Rattle.marks.specs.Marks.{notReached, registerCount}
-use Rattle.lister.specs.Table.{tableMarks, raisedAt}
-use Rattle.lister.specs.Rules.{Sent, nowhere, arriving, entrySent, sentBy, closed}
-
--- a table raised by what is sent
-abbrev pub raisedBy : List ℕ → Sent → List ℕ
-raisedBy table nowhere = table
-raisedBy table (arriving w marks) = raisedAt table w marks
-
-abbrev pub raisedByAll : List ℕ → List Sent → List ℕ
-raisedByAll table [] = table
-raisedByAll table (s ∷ ss) = raisedByAll (raisedBy table s) ss
+use Rattle.lister_rules.specs.Table.{tableMarks}
+use Rattle.lister_rules.specs.Rules.{entrySent, sentBy, closed, raisedBy, raisedByAll}
 
 module _ (readings : List Reading) where
   -- raised by all that the words below w send in another table

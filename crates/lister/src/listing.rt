@@ -1,18 +1,18 @@
 // The listing of kinds, as an open call (specs/Listing.antt).
 ghost use mathlib.Core.Path.{_≡_};
 ghost use lib.ListN.{length};
-ghost use Rattle.lister.specs.Table.{tableMarks};
+ghost use Rattle.lister_rules.specs.Table.{tableMarks};
 ghost use Rattle.lister.specs.Listing.{listable, listed};
-use crate::TABLE_MARKS;
 use crate::raising::raise_until_closed;
 use flow_code::examine_all;
 use flow_code::read_all;
+use lister_rules::TABLE_MARKS;
 use passes::Answer;
 use passes::answers::accept;
 use passes::answers::refuse;
 use passes::flow_pass;
 use passes::read_pass;
-use passes::start_ok;
+use passes_shape::start_ok;
 use policy::Policy;
 use v8::Edition;
 use v8::WordIndex;

@@ -38,9 +38,9 @@ use Rattle.guarantee.proofs.Held.{register-value, register-mark}
 use Rattle.guarantee.proofs.Whole.{start-words}
 use Rattle.marks.specs.Marks.{registerCount, markOfKind, markOf}
 use Rattle.marks.proofs.Values.{values-length}
-use Rattle.lister.specs.Rules.{entryMarks}
+use Rattle.lister_rules.specs.Rules.{entryMarks}
 use Rattle.lister.specs.Listing.{listingOf}
-use Rattle.lister.proofs.Places.{mark-out, mark-by, mark-there}
+use Rattle.lister_rules.proofs.Places.{mark-out, mark-by, mark-there}
 use Rattle.lister.proofs.Smallest.{closed-entry, listing-closed}
 use Rattle.meanings.specs.Meaning.{MarkHolds, AsListed, RunsAsListed, StandsAsListed}
 use Rattle.meanings.proofs.Holding.{unset-holds}

@@ -36,12 +36,12 @@ use Rattle.flow.proofs.Onward.{flows, edges-land}
 use Rattle.guarantee.proofs.Stepping.{decided}
 use Rattle.marks.specs.Marks.{unset, registerCount, markOf}
 use Rattle.marks.specs.Effect.{marksAfter, marksAfterWord}
-use Rattle.lister.specs.Table.{placeOf, markAt, marksAt, reached}
-use Rattle.lister.specs.Rules.{Sent, nowhere, toWord, toEnd, carried, sentAlong, shown, sends, sentBy, takenIn, allTakenIn, closedAt}
+use Rattle.lister_rules.specs.Table.{placeOf, markAt, marksAt, reached}
+use Rattle.lister_rules.specs.Rules.{Sent, nowhere, toWord, toEnd, carried, sentAlong, shown, sends, sentBy, takenIn, allTakenIn, closedAt}
 use Rattle.lister.specs.Listing.{listingOf}
-use Rattle.lister.proofs.Places.{mark-out, mark-there, marks-length}
-use Rattle.lister.proofs.Tables.{taken-at}
-use Rattle.lister.proofs.Sent.{marked-reached}
+use Rattle.lister_rules.proofs.Places.{mark-out, mark-there, marks-length}
+use Rattle.lister_rules.proofs.Tables.{taken-at}
+use Rattle.lister_rules.proofs.Sent.{marked-reached}
 use Rattle.lister.proofs.Smallest.{closed-word, listing-closed}
 use Rattle.meanings.specs.Meaning.{MarkHolds}
 use Rattle.meanings.proofs.Holding.{unset-holds, raised-holds}

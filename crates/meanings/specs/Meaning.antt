@@ -21,7 +21,7 @@ use Rattle.passes.specs.Answer.{passes, passOf}
 use Rattle.passes.specs.Passes.{flowPass}
 use Rattle.guarantee.specs.Guarantee.{hostOf, heldOf, Words, Each}
 use Rattle.marks.specs.Marks.{notReached, addressOrNull, returnAddress, unset, registerCount}
-use Rattle.lister.specs.Table.{placeOf, markAt}
+use Rattle.lister_rules.specs.Table.{placeOf, markAt}
 use Rattle.lister.specs.Listing.{listingOf}
 
 -- a value of an entry of the entry row that is "address of a region's start, or null" (kind 3): null, or where the region that it names starts

@@ -21,7 +21,8 @@ use Rattle.rows.specs.Geometry.{rowBytes}
 use Rattle.rows.specs.Row.{entryFormedAs, formFault, misfit}
 use Rattle.passes.specs.declared.Answer.{Answer}
 use Rattle.passes.specs.Answer.{accepted, passes, andThen, need, refuses, passOf}
-use Rattle.passes.specs.Passes.{resultRegister, rowAt, entryRow, unlessFault, shapeOk, rowPass, callersLeft, flowPass, entryPass}
+use Rattle.passes_shape.specs.Shape.{resultRegister, shapeOk}
+use Rattle.passes.specs.Passes.{rowAt, entryRow, unlessFault, rowPass, callersLeft, flowPass, entryPass}
 
 -- both of two passes accept
 pub both-pass : (a b : Answer) → passes (andThen a b) ≡ true → (passes a ≡ true) × (passes b ≡ true)

@@ -1,10 +1,8 @@
 -- The passes of the check before the one that looks at the edges of words (document 01, "Check. 20 .. 21 .. 1 .. 2 .. 3 .. 15"). Each takes what it reads.
 use Prim.Native.Nat.{ℕ, _*_}
-use mathlib.Core.Bool.{Bool, _&&_}
+use mathlib.Core.Bool.{Bool}
 use mathlib.Core.List.{List}
-use lib.Dec.{leb, eqb}
-use lib.ListN.{length}
-use Rattle.v8.specs.Numbers.{badPolicy, badShape, badRow, badFlow, callersRegister, entryMisfit, mostWords}
+use Rattle.v8.specs.Numbers.{badPolicy, badShape, badRow, badFlow, callersRegister, entryMisfit}
 use Rattle.v8.specs.declared.Reading.{Reading}
 use Rattle.v8.specs.declared.Reading.the-variants.{Read, Unread}
 use Rattle.flow_writes.specs.Written.{writtenBy, leavesCallers}
@@ -15,11 +13,11 @@ use Rattle.policy.specs.Policy.{policyOk}
 use Rattle.rows.specs.declared.Flaw.{Flaw}
 use Rattle.rows.specs.declared.Flaw.the-variants.{None, At}
 use Rattle.rows.specs.declared.Row.{Row}
-use Rattle.rows.specs.Geometry.{rowBytes, entryBytes}
-use Rattle.rows.specs.Flaw.{flawless}
-use Rattle.rows.specs.Row.{rowOf, entryFormedAs, formFault, scratchUnset, misfit}
+use Rattle.rows.specs.Geometry.{rowBytes}
+use Rattle.rows.specs.Row.{rowOf, formFault, misfit}
 use Rattle.passes.specs.declared.Answer.{Answer}
 use Rattle.passes.specs.Answer.{accepted, refuse, andThen, need}
+use Rattle.passes_shape.specs.Shape.{shapeOk}
 
 -- word w's row
 abbrev pub rowAt : List ℕ → ℕ → Row
@@ -37,22 +35,6 @@ unlessFault number w (At place) = refuse number w place
 -- "20 policy breaks a rule above"
 abbrev pub policyPass : Policy → Answer
 policyPass p = need (policyOk p) badPolicy 0 0
-
--- r8, which has the result
-abbrev pub resultRegister : ℕ
-resultRegister = 8
-
--- of "21 words not 1 to 128, rows not [464] bytes a word, or the entry row or result entry badly formed" what is asked of n words and the entry
--- row, by how many regions there are and their sizes; request 7: "in a well-formed entry row, the six are unset" ..
-abbrev pub startOk : ℕ → List ℕ → ℕ → List ℕ → Bool
-startOk regions sizes n entry =
-    leb 1 n && leb n mostWords && eqb (length entry) rowBytes && flawless (formFault regions sizes entry 0) && scratchUnset entry 0
-
--- .. and with them of the rows and the result entry, which is r8's
-unfoldable pub shapeOk : Policy → ℕ → List ℕ → List ℕ → List ℕ → Bool
-shapeOk p n rows entry result =
-    startOk (p .regions .count) (p .regions .sizes) n entry && eqb (length rows) (rowBytes * n) && eqb (length result) entryBytes
-    && entryFormedAs (p .regions .count) (p .regions .sizes) result 0 resultRegister
 
 abbrev pub shapePass : Policy → ℕ → List ℕ → List ℕ → List ℕ → Answer
 shapePass p n rows entry result = need (shapeOk p n rows entry result) badShape 0 0

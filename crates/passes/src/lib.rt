@@ -1,17 +1,13 @@
-// The passes of the check that go by the words, or by rows alone: the shape of what is handed in, the form
-// of rows, what words are read as, their flow, and the entry row. The listing of kinds shares them.
+// The passes of the check that go by the words, or by rows alone: the form of rows, what words are read
+// as, their flow, and the entry row. The listing of kinds shares them.
 // (Document 01, "Order of the check, and its numbers".)
 use v8::WordIndex;
 
 // Answers.
 pub mod answers;
-// The shape of what is handed in.
-mod shape;
 // The passes over the words, and the entry row.
 mod words;
 
-pub use shape::shape_ok;
-pub use shape::start_ok;
 pub use words::entry_pass;
 pub use words::flow_pass;
 pub use words::read_pass;

@@ -9,7 +9,7 @@ use lib.Dec.{eqb}
 use borrow.Author.Tests.{eqb-true}
 use Rattle.v8.specs.Signed.{excess}
 use Rattle.sets.specs.Sets.{Member, SetRules}
-use Rattle.sets.specs.Laws.{Offset}
+use Rattle.sets_rules.specs.Laws.{Offset}
 use Rattle.rows.specs.declared.Entry.{Entry}
 use Rattle.rows.specs.Kind.{Kind, unset, number, address, start, returnAddress, frameAddress, none, kindOf}
 use Rattle.rows.specs.Entry.{isUnset, isNumber, isAddress, isStartOrNull, isReturn, isFrame}

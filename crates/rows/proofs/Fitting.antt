@@ -11,7 +11,7 @@ use Rattle.v8.proofs.Choice.{or-went, and-went, false-true}
 use Rattle.v8.specs.Signed.{excess, bias}
 use Rattle.sets.specs.declared.NumberSet.{NumberSet}
 use Rattle.sets.specs.Sets.{fitsSet, Member}
-use Rattle.sets.specs.Laws.{Offset}
+use Rattle.sets_rules.specs.Laws.{Offset}
 use Rattle.sets.proofs.Fits.{fits-holds}
 use Rattle.rows.specs.declared.Entry.{Entry}
 use Rattle.rows.specs.Kind.{Kind, unset, number, address, start, returnAddress, frameAddress, none, kindOf}

@@ -13,7 +13,7 @@ use Rattle.v8.specs.declared.AluOp.the-variants.{Sub}
 use Rattle.alu.specs.declared.codes.Codes.{Codes}
 use Rattle.alu.specs.Codes.{codesOf}
 use Rattle.sets.specs.Sets.{Member}
-use Rattle.sets.specs.Laws.{Offset}
+use Rattle.sets_rules.specs.Laws.{Offset}
 use Rattle.rows.specs.declared.Entry.{Entry}
 use Rattle.rows.specs.declared.Note.{Note}
 use Rattle.rows.specs.declared.Row.{Row}

@@ -16,13 +16,14 @@ use Rattle.alu.specs.Condition.{condHolds, conditionOf, compares}
 use Rattle.alu.specs.declared.condition.Narrowing.{Narrowing}
 use Rattle.alu.specs.declared.condition.Narrowing.the-variants.{Unrelated, EqualTo, NotEqualTo, LessThan, AtLeast, AtMost, GreaterThan}
 use Rattle.alu.proofs.Conditions as Conditions·
-use Rattle.sets.specs.declared.SetLeft.{SetLeft}
-use Rattle.sets.specs.declared.SetLeft.the-variants as Set·
+use Rattle.sets_narrow.specs.declared.SetLeft.{SetLeft}
+use Rattle.sets_narrow.specs.declared.SetLeft.the-variants as Set·
 use Rattle.sets.specs.Sets.{single, Member}
-use Rattle.sets.specs.Narrow.{narrowSet}
-use Rattle.sets.specs.Laws.{Offset, Among, LeftFormed}
+use Rattle.sets_narrow.specs.Narrow.{narrowSet}
+use Rattle.sets_rules.specs.Laws.{Offset}
+use Rattle.sets_narrow.specs.Laws.{Among, LeftFormed}
 use Rattle.sets.proofs.Ends.{single-formed, single-holds}
-use Rattle.sets.proofs.Narrowing.{narrow-formed, narrow-keeps}
+use Rattle.sets_narrow.proofs.Narrowing.{narrow-formed, narrow-keeps}
 use Rattle.rows.specs.declared.Entry.{Entry}
 use Rattle.rows.specs.declared.Row.{Row}
 use Rattle.rows.specs.Entry.{isNumber, isStartOrNull, isComparison}

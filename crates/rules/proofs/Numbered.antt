@@ -25,7 +25,7 @@ use Rattle.policy_search.specs.Find.{findField}
 use Rattle.memory.specs.Frame.{isScratch}
 use Rattle.access.specs.Serve.{accessWidth, isWord, serves, allows, addend}
 use Rattle.sets.specs.declared.NumberSet.{NumberSet}
-use Rattle.sets.specs.Rules.{addSets, subSets}
+use Rattle.sets_rules.specs.Rules.{addSets, subSets}
 use Rattle.rows.specs.declared.Entry.{Entry}
 use Rattle.rows.specs.declared.Note.{Note}
 use Rattle.rows.specs.declared.Row.{Row}

@@ -18,7 +18,7 @@ use Rattle.memory.proofs.Scratch.{scratch-offsets}
 use Rattle.access.specs.Serve.{accessWidth, isWord, serves, allows}
 use Rattle.access.proofs.Places.{place-small}
 use Rattle.sets.specs.declared.NumberSet.{NumberSet}
-use Rattle.sets.specs.Rules.{addSets}
+use Rattle.sets_rules.specs.Rules.{addSets}
 use Rattle.rows.specs.declared.Entry.{Entry}
 use Rattle.rows.specs.Entry.{isNumber, isAddress, isStartOrNull, isFrame, isConstant, wordOf}
 use Rattle.rules.specs.declared.Reach.{Reach}

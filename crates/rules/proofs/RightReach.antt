@@ -31,11 +31,11 @@ use Rattle.memory.proofs.Scratch.{scratch-offsets}
 use Rattle.access.specs.Serve.{accessWidth, isWord, serves, allows}
 use Rattle.sets.specs.declared.NumberSet.{NumberSet}
 use Rattle.sets.specs.Sets.{Step, s1, s2, s4, SetRules, Member}
-use Rattle.sets.specs.Rules.{addSets}
-use Rattle.sets.specs.Laws.{Offset}
+use Rattle.sets_rules.specs.Rules.{addSets}
+use Rattle.sets_rules.specs.Laws.{Offset}
 use Rattle.sets.proofs.Steps.{by-step, sum-on, difference-on, finer-on, finer-of}
-use Rattle.sets.proofs.Arithmetic.{alu-formed}
-use Rattle.sets.proofs.Offsets.{adds-offset}
+use Rattle.sets_rules.proofs.Arithmetic.{alu-formed}
+use Rattle.sets_rules.proofs.Offsets.{adds-offset}
 use Rattle.rows.specs.declared.Entry.{Entry}
 use Rattle.rows.specs.Entry.{isNumber, isAddress, isStartOrNull, isFrame, isConstant, wordOf, sizeIn}
 use Rattle.rows.specs.Matches.{Host, baseOf, Holds}

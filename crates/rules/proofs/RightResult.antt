@@ -19,12 +19,12 @@ use Rattle.v8.specs.declared.ShiftOp.the-variants.{Sll, Srl, Sra}
 use Rattle.alu.specs.Result.{aluOf, shiftOf, add32, sub32, sll32, srl32, sra32}
 use Rattle.sets.specs.declared.NumberSet.{NumberSet}
 use Rattle.sets.specs.Sets.{full, SetRules, Member}
-use Rattle.sets.specs.Rules.{addSets, subSets, aluSets, shiftSet}
-use Rattle.sets.specs.Laws.{Offset}
+use Rattle.sets_rules.specs.Rules.{addSets, subSets, aluSets, shiftSet}
+use Rattle.sets_rules.specs.Laws.{Offset}
 use Rattle.sets.proofs.Ends.{single-formed, single-holds, full-formed, full-holds}
-use Rattle.sets.proofs.Arithmetic.{alu-formed, alu-holds}
-use Rattle.sets.proofs.Shifts.{shift-formed, shift-holds}
-use Rattle.sets.proofs.Offsets.{adds-offset, subs-offset}
+use Rattle.sets_rules.proofs.Arithmetic.{alu-formed, alu-holds}
+use Rattle.sets_rules.proofs.Shifts.{shift-formed, shift-holds}
+use Rattle.sets_rules.proofs.Offsets.{adds-offset, subs-offset}
 use Rattle.rows.specs.declared.Entry.{Entry}
 use Rattle.rows.specs.Entry.{isNumber, isAddress, isStartOrNull, isFrame, isZero, isConstant, wordOf, constant, numberIn, sizeIn}
 use Rattle.rows.specs.Matches.{Host, baseOf, Holds}

@@ -5,9 +5,9 @@ use mathlib.Core.Bool.{Bool, true, false, cond, _&&_}
 use lib.Dec.{eqb}
 use Rattle.alu.specs.declared.condition.Narrowing.{Narrowing}
 use Rattle.alu.specs.declared.condition.Narrowing.the-variants.{Unrelated, EqualTo, NotEqualTo, LessThan, AtLeast, AtMost, GreaterThan}
-use Rattle.sets.specs.declared.SetLeft.{SetLeft}
-use Rattle.sets.specs.declared.SetLeft.the-variants as Set·
-use Rattle.sets.specs.Narrow.{narrowSet}
+use Rattle.sets_narrow.specs.declared.SetLeft.{SetLeft}
+use Rattle.sets_narrow.specs.declared.SetLeft.the-variants as Set·
+use Rattle.sets_narrow.specs.Narrow.{narrowSet}
 use Rattle.rows.specs.declared.Entry.{Entry}
 use Rattle.rows.specs.declared.Row.{Row}
 use Rattle.rules.specs.declared.EntryLeft.{EntryLeft}

@@ -17,7 +17,7 @@ use Rattle.policy_search.specs.Find.{findIn}
 use Rattle.memory.specs.Frame.{isScratch, scratchAt}
 use Rattle.access.specs.Serve.{accessWidth, isWord, serves, allows}
 use Rattle.sets.specs.declared.NumberSet.{NumberSet}
-use Rattle.sets.specs.Rules.{addSets}
+use Rattle.sets_rules.specs.Rules.{addSets}
 use Rattle.rows.specs.declared.Entry.{Entry}
 use Rattle.rules.specs.declared.Reach.{Reach}
 use Rattle.rules.specs.declared.Reach.the-variants.{Inside, Scratch, Outside}

@@ -11,7 +11,7 @@ use Rattle.v8.specs.declared.ShiftOp.{ShiftOp}
 use Rattle.alu.specs.Result.{aluOf, shiftOf}
 use Rattle.sets.specs.declared.NumberSet.{NumberSet}
 use Rattle.sets.specs.Sets.{full}
-use Rattle.sets.specs.Rules.{addSets, subSets, aluSets, shiftSet}
+use Rattle.sets_rules.specs.Rules.{addSets, subSets, aluSets, shiftSet}
 use Rattle.rows.specs.declared.Entry.{Entry}
 use Rattle.rules.specs.declared.Result.{Result}
 use Rattle.rules.specs.declared.Result.the-variants.{Gives, Fails}

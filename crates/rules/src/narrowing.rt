@@ -9,8 +9,8 @@ use rows::entries::START_OR_NULL;
 use rows::entries::constant;
 use rows::entries::number_in;
 use rows::entries::region_start;
-use sets::SetLeft;
-use sets::narrow_set;
+use sets_narrow::SetLeft;
+use sets_narrow::narrow_set;
 use v8::signed::BIAS;
 
 // Whether a condition of this class says how the numbers compare.

@@ -24,7 +24,7 @@ use rows::entries::NUMBER;
 use rows::entries::START_OR_NULL;
 use rows::entries::is_constant;
 use sets::NumberSet;
-use sets::add_sets;
+use sets_rules::add_sets;
 use v8::Access;
 use v8::ByteOffset;
 use v8::numbers::MAYBE_NULL;

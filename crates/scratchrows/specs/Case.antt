@@ -11,7 +11,7 @@ use Rattle.step.specs.declared.Registers.{Registers}
 use Rattle.machine_steps.specs.Steps.{Run}
 use Rattle.machine.specs.Run.{runOf}
 use Rattle.rows.specs.Geometry.{registerCount}
-use Rattle.passes.specs.Passes.{startOk}
+use Rattle.passes_shape.specs.Shape.{startOk}
 use Rattle.trials.specs.Case.{Outcome, endsOf}
 
 -- an entry row's bytes, and whether they are a well-formed one

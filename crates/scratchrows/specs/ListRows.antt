@@ -4,7 +4,7 @@ use mathlib.Core.List.{List, [], _∷_}
 use Rattle.v8.specs.Signed.{bias}
 use Rattle.rows.specs.declared.Row as Rows·
 use Rattle.trials.specs.Entries.{just, frameAddress, put, bytesOf}
-use Rattle.lister.specs.Table.{tableMarks}
+use Rattle.lister_rules.specs.Table.{tableMarks}
 use Rattle.kindrows.specs.Case.{Row}
 use Rattle.kindrows.specs.ListRows.{policy, entry, leaf, listingFrom, refused}
 

@@ -1,12 +1,4 @@
 pub mod Steps
-pub mod Powers
-pub mod Differences
 pub mod Ends
 pub mod Formed
 pub mod Fits
-pub mod Arithmetic
-pub mod Shifts
-pub mod Offsets
-pub mod Narrowing
-pub mod Exact
-pub mod Rounding

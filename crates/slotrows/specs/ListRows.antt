@@ -3,7 +3,7 @@
 -- those that GNU as gives, and stand above each row; a branch is told with the word that it lands on.
 use mathlib.Core.List.{List, [], _∷_}
 use Rattle.trials.specs.Entries.{bytesOf}
-use Rattle.lister.specs.Table.{tableMarks}
+use Rattle.lister_rules.specs.Table.{tableMarks}
 use Rattle.kindrows.specs.Case.{Row}
 use Rattle.kindrows.specs.ListRows.{policy, entry, entered, numbered, unreached, refused}
 

@@ -26,8 +26,8 @@ use Rattle.machine_place.specs.Placement.{disjointIn, placedIn}
 use Rattle.machine_steps.specs.Steps.{runFrom}
 use Rattle.machine.specs.Run.{refusalOf, runOf}
 use Rattle.sets.specs.Sets.{ended, setOk, fitsSet}
-use Rattle.sets.specs.Rules.{within, addSets, subSets, andSets, sllSet, sraSet, srlSet}
-use Rattle.sets.specs.Narrow.{atMost, atLeast, lessThan, isMember, only, without}
+use Rattle.sets_rules.specs.Rules.{within, addSets, subSets, andSets, sllSet, sraSet, srlSet}
+use Rattle.sets_narrow.specs.Narrow.{atMost, atLeast, lessThan, isMember, only, without}
 use Rattle.rows.specs.Entry.{sizeIn, entryOk, fits, noteOk, fitsNote, fieldEntry}
 use Rattle.rows.specs.Flaw.{flawFrom}
 use Rattle.rows.specs.Row.{entryAt, entriesWith, entryOf, noteOf, rowOf, formedAt, formFault, scratchUnset, fitsAt, misfit}
@@ -36,7 +36,8 @@ use Rattle.rules.specs.Reach.{inField, inRegion, frameReach, reachOf}
 use Rattle.rules.specs.Change.{noteAfter, codesNote, aluChange, shiftChange, accessChange, branchChange, returnChange}
 use Rattle.rules.specs.Narrow.{narrowEntry, narrowRow}
 use Rattle.passes.specs.Answer.{passOf}
-use Rattle.passes.specs.Passes.{shapeOk, rowPass, readPass, flowPass, entryPass}
+use Rattle.passes_shape.specs.Shape.{shapeOk}
+use Rattle.passes.specs.Passes.{rowPass, readPass, flowPass, entryPass}
 use Rattle.checker.specs.Passes.{cross, narrowedEdge, wordPass, answerOf, checkOf}
 use Rattle.bundle_layout.specs.Layout.{fieldsBefore, fieldRead, bundleOk}
 use Rattle.bundle_open.specs.Build.{regionTo, fieldTo, withRegions, withFieldsOf, withFields}

@@ -3,13 +3,12 @@ use Prim.Native.Nat.{ℕ, _≤_, _-_}
 use mathlib.Core.Path.{_≡_, refl, sym, _∙_}
 use native.Mathlib.Nat.{not-suc-le-zero}
 use native.Mathlib.Omega.{arith}
-use lib.ListN.{getD}
+use lib.ListN.{getD, length, length-set}
 use lib.Seq.{ext-getD}
-use lib.ListN.{length, length-set}
 use denote.Ref.{now}
 use borrow.Author.Needs.{needs}
 use Rattle.marks.proofs.Values.{HasTo, has-more}
-use Rattle.lister.specs.Table.{tableMarks}
+use Rattle.lister_rules.specs.Table.{tableMarks}
 use Rattle.lister.proofs.listing.copy_out.Statement.{statement}
 use Rattle.lister.proofs.listing.copy_out.Tie as tie
 

@@ -17,8 +17,8 @@ use Rattle.flow_code.specs.Readings.{readingAt}
 use Rattle.flow_code.specs.Lent.{codeOf}
 use Rattle.flow_code.proofs.Fetched.{array-has, past-array, code-count}
 use Rattle.marks.specs.Marks.{notReached}
-use Rattle.lister.specs.Table.{tableMarks, raisedAt}
-use Rattle.lister.specs.Work.{isPending}
+use Rattle.lister_rules.specs.Table.{tableMarks, raisedAt}
+use Rattle.lister_rules.specs.Work.{isPending}
 use Rattle.lister.proofs.Closing.{Raises, left, raises-start, raises-over, goes-on, raises-end}
 use Rattle.lister.proofs.raising.raise_until_closed.Statement.{statement}
 use Rattle.lister.proofs.raising.raise_until_closed.Tie as tie

@@ -1,0 +1,8 @@
+pub mod Within
+pub mod Arithmetic
+pub mod Powers
+pub mod Shifts
+pub mod Offsets
+pub mod Differences
+pub mod Exact
+pub mod Rounding
