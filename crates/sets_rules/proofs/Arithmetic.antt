@@ -18,7 +18,7 @@ use Rattle.sets_rules.specs.Laws.{AluFormed, AluHolds}
 use Rattle.sets.specs.declared.NumberSet.{NumberSet}
 use Rattle.sets.proofs.Steps.{min-step, both-on}
 use Rattle.sets.proofs.Ends.{from-top, full-formed, full-holds, ended-formed, ended-holds}
-use Rattle.sets_rules.proofs.Within.{within-formed, within-holds}
+use Rattle.sets_rules.proofs.Overflow.{within-formed, within-holds}
 
 module _ (a b : NumberSet) (ra : SetRules a) (rb : SetRules b) where
   -- the sum of a member of each, between the sums of the ends

@@ -15,7 +15,7 @@ use Rattle.sets_rules.specs.Integers.{integer, Within32, Ends, EndsOrFul
 use Rattle.sets_rules.specs.Laws.{FullEnds, AddEnds, SubEnds, SllEnds}
 use Rattle.sets.specs.declared.NumberSet.{NumberSet}
 use Rattle.sets_rules.proofs.Differences.{same, same-of, sum, difference, multiple, le-of, le-to, lt-of, lt-to}
-use Rattle.sets_rules.proofs.Within.{Held, within-both}
+use Rattle.sets_rules.proofs.Overflow.{Held, within-both}
 use Rattle.sets_rules.proofs.Arithmetic.{alu-formed}
 use Rattle.sets_rules.proofs.Shifts.{shift-formed}
 

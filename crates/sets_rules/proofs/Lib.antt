@@ -1,4 +1,4 @@
-pub mod Within
+pub mod Overflow
 pub mod Arithmetic
 pub mod Powers
 pub mod Shifts

@@ -13,7 +13,7 @@ use Rattle.sets.specs.Sets.{modulus, Member}
 use Rattle.sets_rules.specs.Rules.{addSets, subSets}
 use Rattle.sets_rules.specs.Laws.{Offset, AddsOffset, SubsOffset}
 use Rattle.sets.specs.declared.NumberSet.{NumberSet}
-use Rattle.sets_rules.proofs.Within.{within-positive}
+use Rattle.sets_rules.proofs.Overflow.{within-positive}
 use Rattle.sets_rules.proofs.Arithmetic.{sum-between, difference-between}
 
 -- the address with the offset v

@@ -20,7 +20,7 @@ use Rattle.sets.specs.declared.NumberSet.{NumberSet}
 use Rattle.sets.proofs.Steps.{shifted-step, shifted-on}
 use Rattle.sets_rules.proofs.Powers.{parts, half-div, up-div, div-lt, half-le, shr-fits, pow-half}
 use Rattle.sets.proofs.Ends.{full-formed, full-holds, ended-formed, ended-holds}
-use Rattle.sets_rules.proofs.Within.{within-both, within-formed, within-holds}
+use Rattle.sets_rules.proofs.Overflow.{within-both, within-formed, within-holds}
 use Rattle.sets_rules.proofs.Arithmetic.{positive}
 
 sra-formed : (a : NumberSet) (s : ℕ) → s < 32 → SetRules a → SetRules (sraSet a s)
