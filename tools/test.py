@@ -8,6 +8,7 @@ assembler, a program, an answer or the place where they run: each must be said i
 Sees that rows are found, kept, printed and read again as they were.
 Holds the words and the data of both terminals against what they must be, and the examples and routines that use the frame
 against the answers of the plain checker too.
+Holds what pace.py says of a gate against a log that is made here, and tries logs that are none.
 Sees that each script says what it does when asked for help, and does nothing else.
 
 What needs GNU binutils for SPARC, gcc or a program (target/bin/answer, explain, infer or kinds, or those with a 9) is left
@@ -36,6 +37,7 @@ import kindcases
 import kinds
 import layout
 import mutants
+import pace
 import parts
 import programs
 import routines
@@ -1790,6 +1792,136 @@ def kinds_with_a_frame():
             yield f"kinds.py with a bundle of version {version}", given == called("kinds.py", os.path.join(folder, "bundle.bin")) and given[0] == 0, given[1] + given[2]
 
 
+# The pace of a gate
+
+GATE = """\
+gate: temporary files are in memory, in a folder
+fn v8::read::read_word: proved
+rt: v8 proved (21 s)
+rt: rules proved (33 s)
+rt: answer proved (12 s)
+rt: must-fail v8/short_range: refused, as it must be (first at proofs/read.antt:3:5; 19 s)
+rt: must-fail rules/no_bound: refused, as it must be (25 s)
+rt: must-fail rules/wide: refused, as it must be (first at specs/Rules (old; new).antt:1:1; 1190 s)
+rt: answer ran as nobody, and wrote what its file 'stdout' has (1 s)
+rt: ok, 3 crates proved, 3 must-fail edits refused
+6 passed, 0 failed
+"""
+GATE_SHOWN = """\
+crate   proved  edits  tried  longest  total
+rules       33      2  1,215    1,190  1,248
+v8          21      1     19       19     40
+answer      12      0      0        0     12
+
+crates: 3, 66 s
+edits: 3, 1,234 s
+programs run: 1, 1 s
+sum: 1,301 s; shared by 2 jobs 10.8 minutes
+"""
+# Later: results is new and has rules/wide, answer is gone, v8/short_range too
+LATER = """\
+rt: v8 proved (20 s)
+rt: rules proved (11 s)
+rt: results proved (41 s)
+rt: must-fail rules/no_bound: refused, as it must be (9 s)
+rt: must-fail results/wide: refused, as it must be (20 s)
+rt: ok, 3 crates proved, 2 must-fail edits refused
+5 passed, 0 failed
+"""
+LATER_SHOWN = """\
+crate    proved  edits     tried   longest      total
+results  41 +41   1 +1    20 +20    20 +20     61 +61
+rules    11 -22   1 -1  9 -1,206  9 -1,181  20 -1,228
+v8        20 -1   0 -1     0 -19     0 -19     20 -20
+"""
+
+
+def paced(log, *options, old=None):
+    """What pace.py prints of a log, or the problem that it has with it."""
+    out = io.StringIO()
+    with tempfile.TemporaryDirectory() as folder:
+        for name, text in (("log", log), ("old", old or "")):
+            write(text.encode() if isinstance(text, str) else text, folder, name)
+        before = ["--before", os.path.join(folder, "old")] if old is not None else []
+        try:
+            with contextlib.redirect_stdout(out):
+                pace.main([*before, *options, os.path.join(folder, "log")])
+        except script.Problem as problem:
+            return str(problem)
+    return out.getvalue()
+
+
+@cases()
+def times_of_a_gate():
+    given = paced(GATE)
+    yield "the table of a gate", given == GATE_SHOWN, given
+    yield "the same from lines with CR LF", paced(GATE.replace("\n", "\r\n")) == GATE_SHOWN, ""
+    for jobs, expected in [("1", "21.7"), ("4", "5.4")]:
+        given = paced(GATE, "--jobs", jobs)
+        yield f"the estimate for {jobs} jobs", f"; shared by {jobs} jobs {expected} minutes\n" in given, given
+    given = paced(GATE, "--bars")
+    yield "what is over the bars", given == GATE_SHOWN + "gate over 40.0 minutes: none\ncrates over 40 s: none\nedits over 20 s: rules/wide 1190 s, rules/no_bound 25 s\n", given
+    given = paced(LATER.replace("(20 s)", "(5000 s)"), "--bars")
+    yield "a gate that is over the bar", "gate over 40.0 minutes: 83.8 minutes\ncrates over 40 s: v8 5000 s, results 41 s\nedits over 20 s: results/wide 5000 s\n" in given, given
+    for what, line, expected in [
+            ("a crate that is not proved", "rt: policy NOT PROVED (exit 1, 7 s)\nrt: FAILED: policy", "crates: 4, 73 s"),
+            ("an edit that is not refused", "rt: must-fail v8/x: NOT REFUSED: the crate is still proved with this edit (7 s)\nrt: FAILED: v8/x", "edits: 4, 1,241 s"),
+            ("an edit that is none", "rt: must-fail v8/x: BAD EDIT: it has no 'old:' and 'new:' pair\nrt: FAILED: v8/x", "edits: 3, 1,234 s"),
+            ("a program that failed", "rt: rules proved, and its run FAILED (7 s)\nrt: FAILED: rules", "programs run: 2, 8 s"),
+            ("a program of another user", "rt: rules ran, and wrote what its file 'stdout' has (7 s)\nrt: FAILED: y z", "programs run: 2, 8 s")]:
+        given = paced(re.sub("rt: ok.*", line, GATE))
+        failed = line.rpartition(": ")[2].replace(" ", ", ")
+        yield f"a log with {what}", f"\n{expected}\n" in given and given.endswith(f"\nfailed: {failed}\n"), given
+    given = paced(GATE[:GATE.index("rt: answer ran")])
+    yield "a log that is cut off", given.endswith("\nthe log has no end: what the gate did then is not counted\n"), given
+    given = paced("rt: v8 proved (2 s)\nrt: ok, 1 crates proved, no program run\n")
+    yield "a log of rt prove", "sum: 2 s; shared by 2 jobs 0.0 minutes\n" in given and "the log has no end" not in given, given
+
+
+@cases()
+def times_of_two_gates():
+    given = paced(LATER, old=GATE)
+    yield "the table beside an old one", given.startswith(LATER_SHOWN), given
+    yield "the totals beside old ones", """
+crates: 3 (+0), 72 s (+6)
+edits: 2 (-1), 29 s (-1,205)
+programs run: 0 (-1), 0 s (-1)
+sum: 101 s (-1,200); shared by 2 jobs 0.8 minutes, 10.8 minutes before
+new crates: results
+crates gone: answer
+edits moved: rules/wide to results/wide
+edits gone: v8/short_range
+""" in given, given
+    given = paced(GATE, old=GATE)
+    yield "no difference", given.endswith("\nnew crates: none\ncrates gone: none\nedits moved: none\nedits gone: none\n"), given
+    yield "bars after differences", paced(LATER, "--bars", old=GATE).endswith("short_range\ngate over 40.0 minutes: none\ncrates over 40 s: results 41 s\nedits over 20 s: none\n"), ""
+    for what, names, old, expected in [
+            ("two of a label, one moved", ["c/x"], ["a/x", "b/x"], ({"a/x": "c/x"}, ["b/x"])), ("two of a label, one stays", ["a/x"], ["a/x", "b/x"], ({}, ["b/x"])),
+            ("one that moved, and one more", ["b/x", "c/x"], ["a/x"], ({"a/x": "b/x"}, [])), ("another label in the crate", ["a/y"], ["a/x"], ({}, ["a/x"]))]:
+        given = pace.moved(*(pace.Gate({}, dict.fromkeys(edits, 1), {}, []) for edits in (names, old)))
+        yield f"edits: {what}", given == expected, repr(given)
+
+
+@cases()
+def logs_that_are_none():
+    for what, log, expected in [
+            ("no bytes", b"", "log is empty"), ("no UTF-8", b"rt: v8 proved (2 s)\n\xff", "log, line 2: byte FF "), ("no line of rt", "v8 proved (2 s)\n", "log tells of no crate"),
+            ("an end alone", "rt: ok, 0 crates proved\n", "log tells of no crate"), ("a form that is not known", GATE.replace("v8 proved (21", "v8 is proved (21"), "log, line 3: `rt: v8 is proved (21 s)` is no line of rt"),
+            ("seconds that are none", GATE.replace("(21 s)", "(2,1 s)"), "log, line 3: `rt: v8 proved (2,1 s)` is no line of rt"),
+            ("a crate that was proved before", GATE.replace("(21 s)", "(unchanged since it was last proved)"), "log, line 3: v8 was not proved in this run"),
+            ("no beginning", GATE[GATE.index("rt: must-fail"):], "log, line 1: v8 has not been proved before this line"), ("a gate twice", GATE * 2, "log, line 14: the log goes on after its end"),
+            ("a crate twice", "rt: v8 proved (2 s)\n" * 2, "log, line 2: v8 is told a second time"),
+            ("a crate that is missing", GATE.replace("rt: answer proved (12 s)\n", ""), "log, line 8: answer has not been proved before this line"),
+            ("an edit that is missing", re.sub("rt: must-fail v8.*\n", "", GATE), "log, line 9: the log's end tells 3 crates and 3 edits, and its lines 3 and 2")]:
+        given = paced(log)
+        yield f"a log with {what}", given.startswith(expected), given
+        if what != "no bytes":
+            given = paced(GATE, old=log)
+            yield f"an old log with {what}", given.startswith(expected.replace("log", "old", 1)), given
+    for options in ["--bar"], ["--jobs", "x"], ["--jobs", "-1"], ["--jobs"]:
+        yield f"pace.py {' '.join(options)} LOG", refused(pace.main, [*options, os.path.join(ROOT, "README.md")]), ""
+
+
 # How the tools are called, and where
 
 @cases()
@@ -1809,7 +1941,9 @@ def wrong_calls():
             ("found.py", []), ("found.py", ["8", "none"]), ("found.py", ["8", "none", "none"]), ("found.py", ["--every", "0", "8", "none", "none"]),
             ("found.py", ["7", os.path.join(name, "bundle.bin"), os.path.join(name, "answer.txt")]),
             ("bundle.py", ["--rows"]), ("bundle.py", ["--rows", EXAMPLES]), ("bundle.py", ["--rows", "--version", "1", name]),
-            ("searches.py", ["x", "y"]), ("searches.py", ["none"]), ("searches.py", [os.path.join(ROOT, "README.md")])]:
+            ("searches.py", ["x", "y"]), ("searches.py", ["none"]), ("searches.py", [os.path.join(ROOT, "README.md")]),
+            ("pace.py", []), ("pace.py", ["none"]), ("pace.py", ["x", "y"]), ("pace.py", ["--bars"]), ("pace.py", ["--before", "none"]), ("pace.py", ["--jobs", "0", "none"]),
+            ("pace.py", [os.path.join(ROOT, "README.md")])]:
         status, out, said = called(tool, *arguments)
         yield f"{tool} {' '.join(arguments)[:60]}", one_line(tool, status, out, said), f"{status} {out} {said}"
 
