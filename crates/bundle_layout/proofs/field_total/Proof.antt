@@ -10,7 +10,7 @@ fields-before-requires : tie.Need-fields-before-requires
 fields-before-requires c κs = search needs
 
 returns : tie.Need-returns
-returns c = (cc, search needs)
+returns c = (rw (c .fields-before .ensures .0, c .before .region-count .ensures .0), search needs)
 
 pub field-total-spec : {M : Type 1} → statement M
 field-total-spec = tie.close (tie.spec region-count-requires fields-before-requires returns)

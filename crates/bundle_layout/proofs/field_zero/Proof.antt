@@ -13,7 +13,7 @@ byte-at-requires : tie.Need-byte-at-requires
 byte-at-requires c κs = search needs
 
 returns : tie.Need-returns
-returns c = cc
+returns c = rw (c .byte-at .ensures .0, c .before .field-place .ensures .0)
 
 pub field-zero-spec : {M : Type 1} → statement M
 field-zero-spec = tie.close (tie.spec field-place-requires add-byte-at byte-at-requires returns)

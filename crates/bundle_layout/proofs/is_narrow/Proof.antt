@@ -8,7 +8,7 @@ half-at-requires : tie.Need-half-at-requires
 half-at-requires c κs = search needs
 
 returns : tie.Need-returns
-returns c = cc
+returns c = rw (c .half-at .ensures .0)
 
 pub is-narrow-spec : {M : Type 1} → statement M
 is-narrow-spec = tie.close (tie.spec half-at-requires returns)

@@ -16,7 +16,7 @@ byte-at-requires : tie.Need-byte-at-requires
 byte-at-requires c κs = search needs
 
 returns : tie.Need-returns
-returns c = cc
+returns c = rw (c .byte-at .ensures .0)
 
 pub region-zero-spec : {M : Type 1} → statement M
 region-zero-spec =

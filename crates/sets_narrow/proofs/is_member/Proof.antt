@@ -12,7 +12,7 @@ remainder-requires c κs = search needs
 
 returns : tie.Need-returns
 unfolding isMember
-returns c = cc
+returns c = rw (c .before .before .remainder .ensures, c .before .before .before .minus .ensures)
 
 pub is-member-spec : {M : Type 1} → statement M
 is-member-spec = tie.close (tie.spec minus-requires remainder-requires returns)

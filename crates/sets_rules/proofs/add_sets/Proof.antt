@@ -30,7 +30,7 @@ within-requires c κs = search needs
 
 returns : tie.Need-returns
 unfolding addSets
-returns c = cc
+returns c = rw (c .within .ensures, c .before .before .before .before .before .smaller-step .ensures)
 
 pub add-sets-spec : {M : Type 1} → statement M
 add-sets-spec =

@@ -18,7 +18,7 @@ within-requires c κs = search needs
 
 returns : tie.Need-returns
 unfolding sllSet
-returns c = cc
+returns c = rw (c .within .ensures, c .before .shifted-up2 .ensures, c .before .before .shifted-up .ensures, c .before .before .before .shifted-step .ensures)
 
 pub sll-set-spec : {M : Type 1} → statement M
 sll-set-spec =

@@ -15,7 +15,7 @@ ended-requires c κs = search needs
 
 returns : tie.Need-returns
 unfolding sraSet
-returns c = cc
+returns c = rw (c .ended .ensures, c .before .shifted-down2 .ensures, c .before .before .shifted-down .ensures)
 
 pub sra-set-spec : {M : Type 1} → statement M
 sra-set-spec =

@@ -36,7 +36,7 @@ within-requires c κs = search needs
 
 returns : tie.Need-returns
 unfolding subSets
-returns c = cc
+returns c = rw (c .within .ensures, c .before .before .before .before .before .smaller-step .ensures)
 
 pub sub-sets-spec : {M : Type 1} → statement M
 sub-sets-spec =

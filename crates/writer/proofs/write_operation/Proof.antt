@@ -51,13 +51,13 @@ returns : tie.Need-returns
 returns c = rw (c .before .before .x .given .1) (c .write-sethi .ensures)
 
 returns-2 : tie.Need-returns-2
-returns-2 c = rw (c .before .before .before .before .x2 .given .1) (cc)
+returns-2 c = rw (c .before .before .before .before .x2 .given .1, c .pack .ensures, c .before .operand-bits .ensures, c .before .before .alu-code-cc .ensures)
 
 returns-3 : tie.Need-returns-3
-returns-3 c = rw (c .before .before .before .before .x3 .given .1) (cc)
+returns-3 c = rw (c .before .before .before .before .x3 .given .1, c .pack2 .ensures, c .before .count-bits .ensures, c .before .before .shift-code .ensures)
 
 returns-4 : tie.Need-returns-4
-returns-4 c = rw (c .before .before .before .before .x4 .given .1) (cc)
+returns-4 c = rw (c .before .before .before .before .x4 .given .1, c .pack3 .ensures, c .before .displacement-bits .ensures, c .before .before .access-code .ensures)
 
 pub write-operation-spec : {M : Type 1} → statement M
 write-operation-spec =

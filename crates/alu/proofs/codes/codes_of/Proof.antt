@@ -24,7 +24,15 @@ carry-requires c κs = search needs
 
 returns : tie.Need-returns
 unfolding codesOf
-returns c = cc
+returns c =
+    rw (
+      c .carry .ensures,
+      c .before .overflow .ensures,
+      c .before .before .negative3 .ensures,
+      c .before .before .before .negative2 .ensures,
+      c .before .before .before .before .negative .ensures,
+      c .before .before .before .before .before .alu .ensures,
+    )
 
 pub codes-of-spec : {M : Type 1} → statement M
 codes-of-spec =

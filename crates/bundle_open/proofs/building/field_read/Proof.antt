@@ -57,7 +57,21 @@ excess-requires-2 c κs = search needs
 
 returns : tie.Need-returns
 unfolding fieldRead
-returns c = cc
+returns c =
+    let at-half-at2 = c .before .before .before .before in
+    let at-byte-at2 = at-half-at2 .before .before .before in
+    rw (
+      c .excess2 .ensures,
+      c .before .word-at2 .ensures,
+      c .before .before .excess .ensures,
+      c .before .before .before .word-at .ensures,
+      at-half-at2 .half-at2 .ensures .0,
+      at-half-at2 .before .half-at .ensures .0,
+      at-half-at2 .before .before .byte-at3 .ensures .0,
+      at-byte-at2 .byte-at2 .ensures .0,
+      at-byte-at2 .before .byte-at .ensures .0,
+      at-byte-at2 .before .before .field-place .ensures .0,
+    )
 
 pub field-read-spec : {M : Type 1} → statement M
 field-read-spec =

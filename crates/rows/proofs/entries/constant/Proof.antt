@@ -13,7 +13,7 @@ number-in-requires : tie.Need-number-in-requires
 number-in-requires c κs = search needs
 
 returns : tie.Need-returns
-returns c = cc
+returns c = rw (c .number-in .ensures, c .before .single .ensures, c .before .before .excess .ensures)
 
 pub constant-spec : {M : Type 1} → statement M
 constant-spec = tie.close (tie.spec excess-requires single-requires number-in-requires returns)

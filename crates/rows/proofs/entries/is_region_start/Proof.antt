@@ -7,7 +7,7 @@ only-zero-requires : tie.Need-only-zero-requires
 only-zero-requires c κs = search needs
 
 returns : tie.Need-returns
-returns c = cc
+returns c = rw (c .only-zero .ensures)
 
 pub is-region-start-spec : {M : Type 1} → statement M
 is-region-start-spec = tie.close (tie.spec only-zero-requires returns)

@@ -10,7 +10,7 @@ address-in-requires : tie.Need-address-in-requires
 address-in-requires c κs = search needs
 
 returns : tie.Need-returns
-returns c = cc
+returns c = rw (c .address-in .ensures, c .before .single .ensures)
 
 pub region-start-spec : {M : Type 1} → statement M
 region-start-spec = tie.close (tie.spec single-requires address-in-requires returns)

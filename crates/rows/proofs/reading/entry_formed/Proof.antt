@@ -16,7 +16,7 @@ entry-ok-requires : tie.Need-entry-ok-requires
 entry-ok-requires c κs = search needs
 
 returns : tie.Need-returns
-returns c = cc
+returns c = rw (c .entry-ok .ensures, c .before .read-entry .ensures)
 
 pub entry-formed-spec : {M : Type 1} → statement M
 entry-formed-spec =

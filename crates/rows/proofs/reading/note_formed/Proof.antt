@@ -22,7 +22,7 @@ note-ok-requires : tie.Need-note-ok-requires
 note-ok-requires c κs = search needs
 
 returns : tie.Need-returns
-returns c = cc
+returns c = rw (c .note-ok .ensures, c .before .read-note .ensures)
 
 pub note-formed-spec : {M : Type 1} → statement M
 note-formed-spec =

@@ -33,7 +33,7 @@ number-at-requires-2 c κs = search needs
 
 returns : tie.Need-returns
 unfolding entryOf
-returns c = cc
+returns c = rw (c .before .number-at .ensures, c .number-at2 .ensures)
 
 pub read-entry-spec : {M : Type 1} → statement M
 read-entry-spec =

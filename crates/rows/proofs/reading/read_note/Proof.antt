@@ -21,7 +21,7 @@ number-at-requires c κs = search needs
 
 returns : tie.Need-returns
 unfolding noteOf
-returns c = cc
+returns c = rw (c .number-at .ensures)
 
 pub read-note-spec : {M : Type 1} → statement M
 read-note-spec =

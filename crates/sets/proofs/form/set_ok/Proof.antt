@@ -15,7 +15,7 @@ remainder-requires c κs = search needs
 
 returns : tie.Need-returns
 unfolding setOk
-returns c = cc
+returns c = rw (c .before .before .before .remainder .ensures, c .before .before .before .before .minus .ensures, c .before .before .before .before .before .is-step .ensures)
 
 pub set-ok-spec : {M : Type 1} → statement M
 set-ok-spec = tie.close (tie.spec is-step-requires minus-requires remainder-requires returns)

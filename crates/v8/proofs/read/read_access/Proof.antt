@@ -22,7 +22,15 @@ enum-told : tie.Need-enum-told
 enum-told c = search needs
 
 returns : tie.Need-returns
-returns c = rw (← c .before .before .before .before .operand-of .ensures, c .before .before .x .given .1) (cc)
+returns c =
+    let at-operand-of = c .before .before .before .before in
+    rw (
+      ← at-operand-of .operand-of .ensures,
+      c .before .before .x .given .1,
+      c .displacement-of .ensures,
+      at-operand-of .before .rs1-of .ensures,
+      at-operand-of .before .before .rd-of .ensures,
+    )
 
 returns-2 : tie.Need-returns-2
 returns-2 c = rw (← c .before .before .operand-of .ensures, c .enum-told .given .1)

@@ -19,7 +19,9 @@ enum-told : tie.Need-enum-told
 enum-told c = search needs
 
 returns : tie.Need-returns
-returns c = rw (← c .before .before .before .operand-of .ensures, c .before .operand .given .1) (cc)
+returns c =
+    let at-operand-of = c .before .before .before in
+    rw (← at-operand-of .operand-of .ensures, c .before .operand .given .1, at-operand-of .before .rs1-of .ensures, at-operand-of .before .before .rd-of .ensures)
 
 returns-2 : tie.Need-returns-2
 returns-2 c = rw (← c .before .before .operand-of .ensures, c .enum-told .given .1)

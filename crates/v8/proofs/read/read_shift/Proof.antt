@@ -19,7 +19,9 @@ enum-told : tie.Need-enum-told
 enum-told c = search needs
 
 returns : tie.Need-returns
-returns c = rw (← c .before .before .before .count-of .ensures, c .before .count .given .1) (cc)
+returns c =
+    let at-count-of = c .before .before .before in
+    rw (← at-count-of .count-of .ensures, c .before .count .given .1, at-count-of .before .rs1-of .ensures, at-count-of .before .before .rd-of .ensures)
 
 returns-2 : tie.Need-returns-2
 returns-2 c = rw (← c .before .before .count-of .ensures, c .enum-told .given .1)
