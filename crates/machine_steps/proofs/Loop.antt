@@ -8,16 +8,18 @@ use native.Mathlib.Nat.{sub-zero}
 use native.Mathlib.Omega.{arith}
 use Rattle.v8.specs.Numbers.{notRead, noWord}
 use Rattle.v8.specs.declared.Access.{Access}
+use Rattle.v8.specs.declared.WordIndex.{WordIndex}
 use Rattle.v8.specs.declared.Reading.{Reading}
 use Rattle.v8.specs.declared.Reading.the-variants.{Unread}
 use Rattle.flow_edges.specs.declared.Destination.{Destination}
+use Rattle.flow_edges.specs.declared.Destination.the-variants.{To, Caller}
 use Rattle.step.specs.declared.Went.{Went}
 use Rattle.step.specs.declared.Progress.{Progress}
 use Rattle.step.specs.declared.Progress.the-variants.{Goes, Returned, Stopped, Accesses}
 use Rattle.flow_code.specs.Readings.{readingAt}
 use Rattle.step.specs.Setting.{Setting}
-use Rattle.step.specs.Control.{dueAt}
-use Rattle.step.specs.Effect.{Core, accessTo}
+use Rattle.step.specs.Control.{goTo, dueAt}
+use Rattle.step.specs.Effect.{Core, Effect, accessTo}
 use Rattle.step.specs.Step.{State, Step, stopped, next, returned, advance, plainStep, stepWith, stepOf}
 use Rattle.step.specs.Lent.{Stepped, coreOf, leaving, stepFrom, completed}
 use Rattle.machine_steps.specs.declared.End.the-variants as End·
@@ -105,15 +107,41 @@ module _ {s : Setting} {allowance steps : ℕ} {st : State} {w : Went} {values :
   pub turn-stopped : (f : ℕ) → w .progress ≡ Stopped f → runFrom s (allowance - steps) steps st ≡ ended (End·.Fault f) steps left
   turn-stopped f q = stops f (ap saying q)
 
-  -- an access that met a fault, and one that was done
-  module _ (a : Access) (rd address : ℕ) (q : w .progress ≡ Accesses a rd address) (x : Moved) (c : Core) (m : Moves x c left (accessTo (s .layout) left a rd address)) where
-    pub turn-missed : (f : ℕ) → x ≡ Missed f → runFrom s (allowance - steps) steps st ≡ ended (End·.Fault f) steps c
-    turn-missed f e =
-        let missed = met c left f (accessTo (s .layout) left a rd address) (subst (λ (y : Moved). Moves y c left (accessTo (s .layout) left a rd address)) e m) in
-        stops f (ap saying q ∙ ap (plainStep (st .control)) (missed .0)) ∙ ap (ended (End·.Fault f) steps) (sym (missed .1))
+-- what a turn has shown after the access that its step asks for: what the step left, and what the access answered, leaving a core
+pub record Accessed (s : Setting) (allowance steps : ℕ) (st : State) (x : Moved) (c : Core) : Type 0 where
+  pub went : Went
+  pub values : List ℕ
+  pub marks : List Bool
+  pub turned : Turned s allowance steps st went values marks
+  pub access : Access
+  pub rd : ℕ
+  pub address : ℕ
+  pub asks : went .progress ≡ Accesses access rd address
+  pub moves : Moves x c (left turned) (accessTo (s .layout) (left turned) access rd address)
 
-    pub turn-moved : (d : Destination) → x ≡ Done → dueAt (st .control .at .0) (st .control .pending) ≡ d
-        → runFrom s (allowance - steps) steps st ≡ afterStep steps st (runFrom s (allowance - (steps + 1)) (steps + 1)) (advance c d)
-    turn-moved d e to =
-        let moved = did c left (accessTo (s .layout) left a rd address) (subst (λ (y : Moved). Moves y c left (accessTo (s .layout) left a rd address)) e m) in
-        one _ (ap saying q ∙ ap (plainStep (st .control)) moved ∙ ap (advance c) to)
+module _ {s : Setting} {allowance steps : ℕ} {st : State} {x : Moved} {c : Core} (a : Accessed s allowance steps st x c) where
+  abbrev effect : Effect
+  effect = accessTo (s .layout) (left (a .turned)) (a .access) (a .rd) (a .address)
+
+  moves-as : (y : Moved) → x ≡ y → Moves y c (left (a .turned)) effect
+  moves-as y e = subst (λ (z : Moved). Moves z c (left (a .turned)) effect) e (a .moves)
+
+  -- by what the access answered: it met a fault, or was done, and control goes on to a word or out
+  pub turn-missed : (f : ℕ) → x ≡ Missed f → runFrom s (allowance - steps) steps st ≡ ended (End·.Fault f) steps c
+  turn-missed f e =
+      let missed = met c (left (a .turned)) f effect (moves-as (Missed f) e) in
+      stops (a .turned) f (ap (saying (a .turned)) (a .asks) ∙ ap (plainStep (st .control)) (missed .0)) ∙ ap (ended (End·.Fault f) steps) (sym (missed .1))
+
+  moved : (d : Destination) → x ≡ Done → dueAt (st .control .at .0) (st .control .pending) ≡ d
+      → runFrom s (allowance - steps) steps st ≡ afterStep steps st (runFrom s (allowance - (steps + 1)) (steps + 1)) (advance c d)
+  moved d e to =
+      one (a .turned) _
+      (ap (saying (a .turned)) (a .asks) ∙ ap (plainStep (st .control)) (did c (left (a .turned)) effect (moves-as Done e)) ∙ ap (advance c) to)
+
+  pub turn-moved : (w : WordIndex) → x ≡ Done → dueAt (st .control .at .0) (st .control .pending) ≡ To w
+      → runFrom s (allowance - steps) steps st ≡ runFrom s (allowance - (steps + 1)) (steps + 1) (record { control = goTo (w .0); core = c })
+  turn-moved w e to = moved (To w) e to
+
+  pub turn-left : x ≡ Done → dueAt (st .control .at .0) (st .control .pending) ≡ Caller
+      → runFrom s (allowance - steps) steps st ≡ ended End·.Returned (steps + 1) c
+  turn-left e to = moved Caller e to

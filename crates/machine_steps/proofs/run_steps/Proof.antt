@@ -18,7 +18,7 @@ use Rattle.step.specs.Step.{State}
 use Rattle.step.specs.Lent.{coreOf}
 use Rattle.machine_access.specs.Covered.{Covers}
 use Rattle.machine_steps.specs.Steps.{runFrom, settingOf}
-use Rattle.machine_steps.proofs.Loop.{Turned, turn-first, turn-spent, turn-outside, turn-goes, turn-returned, turn-stopped, turn-missed, turn-moved}
+use Rattle.machine_steps.proofs.Loop.{Turned, Accessed, turn-first, turn-spent, turn-outside, turn-goes, turn-returned, turn-stopped, turn-missed, turn-moved, turn-left}
 use Rattle.machine_steps.proofs.run_steps.Statement.{statement}
 use Rattle.machine_steps.proofs.run_steps.Tie as tie
 
@@ -78,14 +78,35 @@ turned o =
       says = o .one-step .ensures _ _;
     }
 
--- Seen from after an access: the step that asked for it; and memory is as long as it was.
-abbrev Accessed : Type 0
-Accessed = tie.After-access-to Inv-loop μ-loop
+-- Seen from after an access: the step that asked for it; what the turn has shown; and memory is as long as it was.
+abbrev AfterAccess : Type 0
+AfterAccess = tie.After-access-to Inv-loop μ-loop
 
-abbrev at-step : Accessed → Stepped
+abbrev at-step : AfterAccess → Stepped
 at-step m = m .before .before .before .before .before .before .before .before .before .before .before .before .before .before .before
 
-same-after : (m : Accessed) → length (m .access-to .last .1 .1 .0) ≡ length (now (at-start (at-step m) .args .memory))
+accessed : (m : AfterAccess)
+    → Accessed
+    (setting (at-read (at-step m)))
+    (at-start (at-step m) .args .allowance)
+    (at-loop (at-step m) .loop .steps)
+    (state (at-loop (at-step m)))
+    (m .access-to .result)
+    (coreOf (m .access-to .last .0) (m .access-to .last .1 .0) (at-step m .one-step .result .codes) (m .access-to .last .1 .1 .0))
+accessed m =
+    record {
+      went = _;
+      values = _;
+      marks = _;
+      turned = turned (at-step m);
+      access = _;
+      rd = _;
+      address = _;
+      asks = m .before .before .before .before .before .before .before .before .before .before .before .before .progress2 .given .1;
+      moves = m .access-to .ensures (at-step m .one-step .result .codes);
+    }
+
+same-after : (m : AfterAccess) → length (m .access-to .last .1 .1 .0) ≡ length (now (at-start (at-step m) .args .memory))
 same-after m = m .access-to .kept .1 .1 .0 ∙ at-loop (at-step m) .loop .inv .1
 
 read-all-requires : tie.Need-read-all-requires Inv-loop μ-loop
@@ -175,9 +196,7 @@ same-length-4 c = same-after (c .before .before .before .before .before)
 returns-4 : tie.Need-returns-4 Inv-loop μ-loop
 returns-4 c =
     let m = c .before .before .before .before .before in
-    let asked = m .before .before .before .before .before .before .before .before .before .before .before .before .progress2 .given .1 in
-    let moves = m .access-to .ensures (at-step m .one-step .result .codes) in
-    sym (at-loop (at-step m) .loop .inv .2 ∙ turn-missed (turned (at-step m)) _ _ _ asked _ _ moves _ (c .before .moved .given .1)) ∙ run-as (at-read (at-step m)) _ _ _
+    sym (at-loop (at-step m) .loop .inv .2 ∙ turn-missed (accessed m) _ (c .before .moved .given .1)) ∙ run-as (at-read (at-step m)) _ _ _
 
 due-requires : tie.Need-due-requires Inv-loop μ-loop
 due-requires c κs = c .before .before .before .before .before .before .before .before .before .before .before .before .before .before .before .before .before .before .before .before .before .before .before .if1 .left
@@ -198,10 +217,8 @@ loop-less-2 c =
 loop-again-2 : tie.Need-loop-again-2 Inv-loop μ-loop
 loop-again-2 c =
     let m = c .before .before .before .before .before .before .before .before in
-    let asked = m .before .before .before .before .before .before .before .before .before .before .before .before .progress2 .given .1 in
-    let moves = m .access-to .ensures (at-step m .one-step .result .codes) in
     let to = sym (c .before .before .before .due .ensures) ∙ c .before .to .given .1 in
-    let run = at-loop (at-step m) .loop .inv .2 ∙ turn-moved (turned (at-step m)) _ _ _ asked _ _ moves _ (c .before .before .before .before .enum-told3 .given .1) to in
+    let run = at-loop (at-step m) .loop .inv .2 ∙ turn-moved (accessed m) _ (c .before .before .before .before .enum-told3 .given .1) to in
     (omega (arith, at-test (at-step m) .loop-test .taken), same-after m, run)
 
 enum-told-4 : tie.Need-enum-told-4 Inv-loop μ-loop
@@ -218,10 +235,8 @@ same-length-5 c = same-after (c .before .before .before .before .before .before 
 returns-5 : tie.Need-returns-5 Inv-loop μ-loop
 returns-5 c =
     let m = c .before .before .before .before .before .before .before in
-    let asked = m .before .before .before .before .before .before .before .before .before .before .before .before .progress2 .given .1 in
-    let moves = m .access-to .ensures (at-step m .one-step .result .codes) in
     let to = sym (c .before .before .due .ensures) ∙ c .enum-told4 .given .1 in
-    sym (at-loop (at-step m) .loop .inv .2 ∙ turn-moved (turned (at-step m)) _ _ _ asked _ _ moves _ (c .before .before .before .enum-told3 .given .1) to) ∙ run-as (at-read (at-step m)) _ _ _
+    sym (at-loop (at-step m) .loop .inv .2 ∙ turn-left (accessed m) (c .before .before .before .enum-told3 .given .1) to) ∙ run-as (at-read (at-step m)) _ _ _
 
 same-length-6 : tie.Need-same-length-6 Inv-loop μ-loop
 same-length-6 c = search needs

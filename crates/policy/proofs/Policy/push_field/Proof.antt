@@ -1,15 +1,18 @@
 -- The tests of the add, one by one. The region exists, so it is one of the eight, and it has room, so the field has a place in the
 -- arrays; the next policy is the one defined.
-use Prim.Native.Nat.{ℕ, _<_}
+use Prim.Native.Nat.{ℕ, _+_, _<_}
 use mathlib.Core.Path.{_≡_, sym, _∙_}
 use mathlib.Core.Bool.{true, false}
+use mathlib.Core.List.{List}
+use lib.ListN.{set}
 use lib.Dec.{leb}
 use native.Mathlib.Omega.{arith}
 use borrow.Author.Tests.{not-true, not-false, lt-leb, le-leb}
 use Rattle.v8.specs.Numbers.{acceptance}
 use Rattle.policy.specs.declared.Field.{Field}
 use Rattle.policy.specs.declared.Policy.{Policy}
-use Rattle.policy.specs.Policy.{sizeOf, countOf, placeOf, endBefore, fieldFollows, fieldFits, policyOk}
+use Rattle.policy.specs.declared.Built.{Built}
+use Rattle.policy.specs.Policy.{fieldsFrom, valuesFrom, sizeOf, countOf, placeOf, endBefore, fieldFollows, fieldFits, policyOk}
 use Rattle.policy.specs.Build.{withField, fieldNumber, built, addFieldOf}
 use Rattle.policy.proofs.WellFormed.{regions-at-most}
 use borrow.Author.Needs.{needs}
@@ -31,6 +34,28 @@ accepts : (p : Policy) (r : ℕ) (f : Field) → policyOk p ≡ true → leb (p 
     → fieldFollows (p .regions .count) (sizeOf p r) (endBefore p r (countOf p r)) f ≡ true → addFieldOf p r f ≡ record { policy = withField p r f; number = acceptance }
 unfolding built fieldNumber fieldFits
 accepts p r f a b c d = simp (a, b, c, d)
+
+-- the policy with one field more in a region, its arrays of fields being these
+abbrev parts : Policy → ℕ → List ℕ → List ℕ → List ℕ → List ℕ → List ℕ → List ℕ → List ℕ → Policy
+parts p r es ms os cs ts ls hs =
+    record {
+      regions = record { count = p .regions .count; sizes = p .regions .sizes; fields = set (p .regions .fields) r (countOf p r + 1) };
+      fields = fieldsFrom es ms os cs;
+      values = valuesFrom ts ls hs;
+    }
+
+-- .. is what the add gives, where every test passes and each array has its part of the field at the field's place
+from-parts : (p : Policy) (r : ℕ) (f : Field) {es ms os cs ts ls hs : List ℕ}
+    → es ≡ set (p .fields .elements) (placeOf r (countOf p r)) (f .element)
+    → ms ≡ set (p .fields .permissions) (placeOf r (countOf p r)) (f .permission)
+    → os ≡ set (p .fields .offsets) (placeOf r (countOf p r)) (f .offset .0)
+    → cs ≡ set (p .fields .counts) (placeOf r (countOf p r)) (f .count)
+    → ts ≡ set (p .values .targets) (placeOf r (countOf p r)) (f .target)
+    → ls ≡ set (p .values .lows) (placeOf r (countOf p r)) (f .lo)
+    → hs ≡ set (p .values .highs) (placeOf r (countOf p r)) (f .hi)
+    → addFieldOf p r f ≡ record { policy = withField p r f; number = acceptance }
+    → _≡_ {A = Built} (record { policy = parts p r es ms os cs ts ls hs; number = acceptance }) (addFieldOf p r f)
+from-parts p r f a b c d e g h n = rw (a, b, c, d, e, g, h) (sym n)
 
 returns : tie.Need-returns
 unfolding built fieldNumber
@@ -120,17 +145,16 @@ returns-4 c =
     let accepted = c .before .before .before .before .before .before .before .before .before .before .before .before .before .before in
     let room = accepted .before .before .before .before .before .before .before .before in
     let there = room .before .before .before in
-    rw (
-      c .put-word3 .ensures,
-      c .before .before .put-word2 .ensures,
-      c .before .before .before .before .put-byte3 .ensures,
-      at-put-half .put-half .ensures,
-      at-put-word .put-word .ensures,
-      at-put-byte2 .put-byte2 .ensures,
-      at-put-byte .put-byte .ensures,
-    )
-    (sym (accepts _ _ _ (there .before .pre) (lt-leb _ _ (there .if1 .left)) (lt-leb _ _ (room .if2 .left))
-    (rw (← accepted .before .before .before .end-before .ensures) (sym (accepted .before .field-follows .ensures) ∙ not-false _ (accepted .if3 .left)))))
+    from-parts _ _ _
+    (at-put-byte .put-byte .ensures)
+    (at-put-byte2 .put-byte2 .ensures)
+    (at-put-word .put-word .ensures)
+    (at-put-half .put-half .ensures)
+    (c .before .before .before .before .put-byte3 .ensures)
+    (c .before .before .put-word2 .ensures)
+    (c .put-word3 .ensures)
+    (accepts _ _ _ (there .before .pre) (lt-leb _ _ (there .if1 .left)) (lt-leb _ _ (room .if2 .left))
+    (rw (← accepted .before .before .before .end-before .ensures) (sym (accepted .before .field-follows .ensures) ∙ not-false _ (accepted .if3 .left))))
 
 pub push-field-spec : {M : Type 1} → statement M
 push-field-spec =

@@ -1,14 +1,15 @@
 -- The test of a region is the one that is defined. Invariant: the fields below k obey the rules, and `end` is where they end. Measure: the
 -- fields left.
-use Prim.Native.Nat.{_≤_, _-_}
+use Prim.Native.Nat.{ℕ, _≤_, _-_}
 use mathlib.Core.Bool.{true, and-false}
-use mathlib.Core.Path.{_≡_, sym, _∙_}
+use mathlib.Core.Path.{_≡_, refl, sym, _∙_}
 use native.Mathlib.Omega.{arith}
 use native.Mathlib.Nat.{le-antisymm}
 use borrow.Author.Tests.{not-true, not-false, lt-leb, le-leb}
 use Rattle.v8.specs.Search.{all}
 use Rattle.v8.proofs.Search.{all-none, all-more, all-not}
-use Rattle.policy.specs.Policy.{fieldAt, fieldAtOk, endBefore, regionOk}
+use Rattle.policy.specs.Policy.{sizeOf, countOf, sizeOk, fieldAt, fieldAtOk, endBefore, regionOk}
+use Rattle.policy.specs.declared.Policy.{Policy}
 use Rattle.policy.proofs.Ending.{end-first, end-next, follows-is}
 use borrow.Author.Needs.{needs}
 use Rattle.policy.proofs.form.region_ok.Statement.{statement}
@@ -19,6 +20,12 @@ Inv-loop r p regions size count k₀ end₀ k end = (k ≤ count) × (all (field
 
 abbrev μ-loop : tie.MeasureT-loop
 μ-loop r p regions size count k₀ end₀ k end = count - k
+
+-- the test of a region holds where that of its size, that of its number of fields and those of its fields do
+holds-all : (p : Policy) (r : ℕ) {size count k : ℕ} → sizeOk size ≡ true → count ≤ 16 → all (fieldAtOk p r) k ≡ true → k ≡ count
+    → size ≡ sizeOf p r → count ≡ countOf p r → true ≡ regionOk p r
+unfolding regionOk
+holds-all p r s c a e es ec = simp (← es, s, ← ec, le-leb _ _ c, ← e, a)
 
 mul-size : tie.Need-mul-size Inv-loop μ-loop
 mul-size c = search needs
@@ -91,14 +98,14 @@ loop-again c =
     )
 
 returns-4 : tie.Need-returns-4 Inv-loop μ-loop
-unfolding regionOk
-returns-4 c = let e = le-antisymm (c .before .loop .inv .0) (c .loop-test .left) in
-    simp (
-      sym (c .before .before .before .before .size-ok .ensures) ∙ not-false _ (c .before .before .before .if1 .left),
-      le-leb _ _ (c .before .before .if2 .left),
-      ← e,
-      c .before .loop .inv .1,
-    )
+returns-4 c =
+    holds-all _ _
+    (sym (c .before .before .before .before .size-ok .ensures) ∙ not-false _ (c .before .before .before .if1 .left))
+    (c .before .before .if2 .left)
+    (c .before .loop .inv .1)
+    (le-antisymm (c .before .loop .inv .0) (c .loop-test .left))
+    refl
+    refl
 
 pub region-ok-spec : {M : Type 1} → statement M
 region-ok-spec =
