@@ -1,4 +1,6 @@
 pub mod Agreeing
+pub mod Shifted
+pub mod Computed
 pub mod Passing
 pub mod Keeping
 pub mod Answered

@@ -1,6 +1,6 @@
--- The routine that makes a link null: the check's passes, the start's tests and the run's eleven steps are computed from the definitions.
+-- The routine that makes a link null: the check, the start's tests and the run's eleven steps are computed from the definitions.
 use mathlib.Core.Path.{_≡_, refl, sym}
-use mathlib.Core.Bool.{true, xor}
+use mathlib.Core.Bool.{xor}
 use native.Mathlib.Omega.{arith}
 use Rattle.v8.specs.declared.Edition.{Edition}
 use Rattle.v8.specs.Signed.{signExtend}
@@ -28,61 +28,28 @@ use Rattle.sets_rules.specs.Rules.{within, addSets}
 use Rattle.sets_narrow.specs.Narrow.{isMember, only, without}
 use Rattle.rows.specs.Entry.{sizeIn, entryOk, fits, noteOk, fitsNote, fieldEntry}
 use Rattle.rows.specs.Flaw.{flawFrom}
-use Rattle.rows.specs.Row.{entryAt, entriesWith, entryOf, noteOf, rowOf, formedAt, formFault, scratchUnset, fitsAt, misfit}
+use Rattle.rows.specs.Row.{entryAt, entriesWith, entryOf, noteOf, rowOf, scratchUnset, fitsAt, misfit}
 use Rattle.rows.specs.Matches.{Host, RowMatches}
 use Rattle.rules.specs.Result.{offsetsGive, addressSum, addressDifference, aluResult}
 use Rattle.rules.specs.Reach.{inField, inRegion, inFrame, frameReach, reachOf}
 use Rattle.rules.specs.Change.{noteAfter, codesNote, aluChange, accessChange, branchChange, returnChange}
 use Rattle.rules.specs.Narrow.{narrowEntry, narrowRow}
 use Rattle.passes.specs.Answer.{accepted, passOf}
-use Rattle.passes_shape.specs.Shape.{shapeOk}
-use Rattle.passes.specs.Passes.{rowPass, readPass, flowPass, entryPass}
-use Rattle.checker.specs.Routine.{Routine, routineOf}
+use Rattle.passes.specs.Passes.{readPass, flowPass, entryPass}
 use Rattle.checker.specs.Passes.{cross, narrowedEdge, wordPass, checkOf}
 use Rattle.guarantee.specs.Fields.{Declared}
 use Rattle.guarantee.specs.Guarantee.{hostOf, valueAt, markAt, heldOf, Start}
 use Rattle.claims.specs.Unlink.{policy, words, digits, entry, rows, bases, returns, frame, registers, memory}
 use Rattle.claims.specs.Claims.{StartExists}
-use Rattle.claims.proofs.Passing.{all-accept}
+use Rattle.claims.proofs.Computed.{check-from}
 use Rattle.claims.proofs.Matching.{below, registers-match, fields-hold}
 
 abbrev host : Host
 host = hostOf bases returns frame
 
-abbrev t : Edition → Routine
-t e = routineOf e policy words rows entry digits
-
-policy-ok : policyOk policy ≡ true
-unfolding all lowest first widthOf leastOf mostOf fieldAt valuesOk fieldOk endBefore fieldFits fieldAtOk regionOk policyOk
-policy-ok = refl
-
-shape : shapeOk policy 8 rows entry digits ≡ true
-unfolding all lowest first sizeIn setOk entryOk noteOk entryOf noteOf formedAt flawFrom formFault scratchUnset shapeOk
-shape = refl
-
-rows-formed : passOf (rowPass policy rows) 8 ≡ accepted
-unfolding all lowest first sizeIn setOk entryOk noteOk entryOf noteOf formedAt flawFrom formFault passOf rowPass
-rows-formed = refl
-
-reads : (e : Edition) → passOf (readPass (t e .readings)) 8 ≡ accepted
-unfolding readingOf format00 format10 format11 operandOf countOf signExtend lowest first passOf readPass
-reads e = refl
-
-flows : (e : Edition) → passOf (flowPass (t e .readings)) 8 ≡ accepted
-unfolding readingOf format00 format10 format11 operandOf countOf signExtend slotRuns targetOf any isSlot isTarget lowest first passOf flowPass
-flows e = refl
-
-entry-fits : entryPass rows entry ≡ accepted
-unfolding lowest first fitsSet isMember fits fitsNote entryAt entryOf noteOf rowOf flawFrom fitsAt misfit entryPass
-entry-fits = refl
-
-looks : (e : Edition) → passOf (wordPass policy (t e .readings) rows digits) 8 ≡ accepted
-unfolding readingOf format00 format10 format11 operandOf countOf signExtend conditionOf lowest first widthOf fieldAt holdsIn stopOf findIn slotRuns targetOf ended setOk fitsSet within addSets isMember only without sizeIn entryOk fits fitsNote fieldEntry entryAt entriesWith entryOf noteOf flawFrom fitsAt misfit rowOf offsetsGive addressSum addressDifference aluResult isScratch inField inRegion inFrame frameReach reachOf noteAfter codesNote aluChange accessChange branchChange returnChange narrowEntry narrowRow passOf any isSlot isTarget cross narrowedEdge wordPass
-looks e = refl
-
 checks : (e : Edition) → checkOf e policy words rows entry digits ≡ accepted
-unfolding checkOf
-checks e = all-accept (t e) policy-ok shape rows-formed (reads e) (flows e) entry-fits (looks e)
+unfolding readingOf format00 format10 format11 operandOf countOf signExtend conditionOf all any lowest first widthOf leastOf mostOf fieldAt valuesOk fieldOk endBefore fieldFits fieldAtOk regionOk policyOk holdsIn stopOf findIn slotRuns targetOf isSlot isTarget ended setOk fitsSet within addSets isMember only without sizeIn entryOk fits noteOk fitsNote fieldEntry entryAt entriesWith entryOf noteOf rowOf flawFrom scratchUnset fitsAt misfit offsetsGive addressSum addressDifference aluResult isScratch inField inRegion inFrame frameReach reachOf noteAfter codesNote aluChange accessChange branchChange returnChange narrowEntry narrowRow passOf readPass flowPass entryPass cross narrowedEdge wordPass
+checks e = check-from e policy words rows entry digits
 
 row-matches : RowMatches host (rowOf entry 0) (heldOf policy (startState registers memory .core))
 unfolding all rowOf entryOf noteOf entryAt valueIn setIn isMember valueAt markAt partStart

@@ -22,15 +22,15 @@ use Rattle.sets.specs.Sets.{setOk, fitsSet}
 use Rattle.sets_narrow.specs.Narrow.{isMember}
 use Rattle.rows.specs.Entry.{sizeIn, entryOk, fits, noteOk, fitsNote}
 use Rattle.rows.specs.Flaw.{flawFrom}
-use Rattle.rows.specs.Row.{entryAt, entriesWith, entryOf, noteOf, rowOf, formedAt, formFault, scratchUnset, fitsAt, misfit}
+use Rattle.rows.specs.Row.{entryAt, entriesWith, entryOf, noteOf, rowOf, scratchUnset, fitsAt, misfit}
 use Rattle.rows.specs.Matches.{Host, RowMatches}
 use Rattle.rules.specs.Change.{noteAfter, branchChange, returnChange}
 use Rattle.rules.specs.Narrow.{narrowRow}
 use Rattle.passes.specs.Answer.{accepted, passOf}
-use Rattle.passes_shape.specs.Shape.{shapeOk}
-use Rattle.passes.specs.Passes.{rowPass, readPass, flowPass, entryPass}
-use Rattle.checker.specs.Passes.{cross, narrowedEdge, wordPass, answerOf, checkOf}
+use Rattle.passes.specs.Passes.{readPass, flowPass, entryPass}
+use Rattle.checker.specs.Passes.{cross, narrowedEdge, wordPass, checkOf}
 use Rattle.guarantee.specs.Guarantee.{hostOf, valueAt, markAt, heldOf, Start}
+use Rattle.claims.proofs.Computed.{check-from}
 use Rattle.claims.proofs.Matching.{below, registers-match, fields-hold}
 use Rattle.editionrows.specs.Elsewhere.{GuaranteedElsewhere, words, policy, entry, rows, result, returns, frame, registers, memory, Elsewhere}
 
@@ -38,8 +38,8 @@ abbrev host : Host
 host = hostOf [] returns frame
 
 accepts : checkOf V9 policy words rows entry result ≡ accepted
-unfolding readingOf format00 format10 operandOf signExtend conditionOf lowest first all any policyOk slotRuns targetOf isSlot isTarget setOk fitsSet sizeIn entryOk fits noteOk fitsNote entryAt entriesWith entryOf noteOf rowOf formedAt flawFrom formFault scratchUnset fitsAt misfit noteAfter branchChange returnChange narrowRow passOf shapeOk rowPass readPass flowPass entryPass cross narrowedEdge wordPass answerOf checkOf
-accepts = refl
+unfolding readingOf format00 format10 operandOf signExtend conditionOf lowest first all any policyOk slotRuns targetOf isSlot isTarget setOk fitsSet sizeIn entryOk fits noteOk fitsNote entryAt entriesWith entryOf noteOf rowOf flawFrom scratchUnset fitsAt misfit noteAfter branchChange returnChange narrowRow passOf readPass flowPass entryPass cross narrowedEdge wordPass
+accepts = check-from V9 policy words rows entry result
 
 row-matches : RowMatches host (rowOf entry 0) (heldOf policy (startState registers memory .core))
 unfolding all rowOf entryOf noteOf entryAt valueIn setIn isMember valueAt markAt partStart

@@ -24,26 +24,26 @@ use Rattle.sets_rules.specs.Rules.{within, addSets}
 use Rattle.sets_narrow.specs.Narrow.{atMost, atLeast, lessThan, isMember, only, without}
 use Rattle.rows.specs.Entry.{sizeIn, entryOk, fits, noteOk, fitsNote, fieldEntry}
 use Rattle.rows.specs.Flaw.{flawFrom}
-use Rattle.rows.specs.Row.{entryAt, entriesWith, entryOf, noteOf, rowOf, formedAt, formFault, scratchUnset, fitsAt, misfit}
+use Rattle.rows.specs.Row.{entryAt, entriesWith, entryOf, noteOf, rowOf, scratchUnset, fitsAt, misfit}
 use Rattle.rules.specs.Result.{offsetsGive, addressSum, aluResult}
 use Rattle.rules.specs.Reach.{inField, inRegion, frameReach, reachOf}
 use Rattle.rules.specs.Change.{noteAfter, codesNote, aluChange, accessChange, branchChange, returnChange}
 use Rattle.rules.specs.Narrow.{narrowEntry, narrowRow}
 use Rattle.passes.specs.Answer.{passOf}
-use Rattle.passes_shape.specs.Shape.{shapeOk}
-use Rattle.passes.specs.Passes.{rowPass, readPass, flowPass, entryPass}
-use Rattle.checker.specs.Passes.{cross, narrowedEdge, wordPass, answerOf, checkOf}
+use Rattle.passes.specs.Passes.{readPass, flowPass, entryPass}
+use Rattle.checker.specs.Passes.{cross, narrowedEdge, wordPass}
 use Rattle.bundle_layout.specs.Layout.{fieldsBefore, fieldRead, bundleOk}
 use Rattle.bundle_open.specs.Build.{regionTo, fieldTo, withRegions, withFieldsOf, withFields}
-use Rattle.bundle.specs.Bundle.{bundleAnswer}
 use Rattle.marks.specs.Marks as Marks·
 use Rattle.marks.specs.Effect.{ofNumbers, orMark}
 use Rattle.lister_rules.specs.Table.{marksAt, reached, raisedAt}
 use Rattle.lister_rules.specs.Rules.{entryMarks, sentBy, takenIn, closedAt, closed}
-use Rattle.lister.specs.Listing.{raisedByWords, raisedOnce, raisedUntilClosed, listingOf, listingAnswer, listed}
+use Rattle.lister.specs.Listing.{raisedByWords, raisedOnce, raisedUntilClosed, listingOf}
 use Rattle.trials.specs.Case.{Holds}
+use Rattle.trials.proofs.Computed.{by-computing}
 use Rattle.slotrows.specs.Table as Slots·
 use Rattle.kindrows.specs.Table as Kinds·
+use Rattle.kindrows.proofs.Computed.{lists-by-computing}
 use Rattle.editionrows.specs.WordRows as Words
 use Rattle.editionrows.specs.FlowRows as Flows
 use Rattle.editionrows.specs.PassRows as Passes
@@ -96,12 +96,12 @@ unfolding readingOf format00 format10 format11 operandOf countOf signExtend cond
 word-passes = refl
 
 checks-newer : Holds V9 Checks.newerRows
-unfolding readingOf format00 format10 format11 operandOf countOf signExtend conditionOf lowest first all any widthOf leastOf mostOf fieldAt valuesOk fieldOk endBefore fieldFits fieldAtOk regionOk policyOk regionNumber fieldNumber built slotRuns targetOf isSlot isTarget setOk fitsSet sizeIn entryOk fits noteOk fitsNote entryAt entriesWith entryOf noteOf rowOf formedAt flawFrom formFault scratchUnset fitsAt misfit noteAfter branchChange narrowRow passOf shapeOk rowPass readPass flowPass entryPass cross narrowedEdge wordPass answerOf checkOf fieldsBefore fieldRead bundleOk regionTo fieldTo withRegions withFieldsOf withFields bundleAnswer
-checks-newer = refl
+unfolding readingOf format00 format10 format11 operandOf countOf signExtend conditionOf lowest first all any widthOf leastOf mostOf fieldAt valuesOk fieldOk endBefore fieldFits fieldAtOk regionOk policyOk regionNumber fieldNumber built slotRuns targetOf isSlot isTarget setOk fitsSet sizeIn entryOk fits noteOk fitsNote entryAt entriesWith entryOf noteOf rowOf flawFrom scratchUnset fitsAt misfit noteAfter branchChange narrowRow passOf readPass flowPass entryPass cross narrowedEdge wordPass fieldsBefore fieldRead bundleOk regionTo fieldTo withRegions withFieldsOf withFields
+checks-newer = by-computing V9 Checks.newerRows refl
 
 checks-older : Holds V8 Checks.olderRows
-unfolding readingOf format00 format10 format11 operandOf countOf signExtend lowest first all widthOf leastOf mostOf fieldAt valuesOk fieldOk endBefore fieldFits fieldAtOk regionOk policyOk regionNumber fieldNumber built setOk sizeIn entryOk noteOk entryOf noteOf rowOf formedAt flawFrom formFault scratchUnset passOf shapeOk rowPass readPass answerOf checkOf fieldsBefore fieldRead bundleOk regionTo fieldTo withRegions withFieldsOf withFields bundleAnswer
-checks-older = refl
+unfolding readingOf format00 format10 format11 operandOf countOf signExtend lowest first all widthOf leastOf mostOf fieldAt valuesOk fieldOk endBefore fieldFits fieldAtOk regionOk policyOk regionNumber fieldNumber built setOk sizeIn entryOk noteOk entryOf noteOf rowOf flawFrom scratchUnset passOf readPass fieldsBefore fieldRead bundleOk regionTo fieldTo withRegions withFieldsOf withFields
+checks-older = by-computing V8 Checks.olderRows refl
 
 runs-newer : Holds V9 Runs.newerRows
 unfolding readingOf format00 format10 format11 operandOf countOf signExtend condHolds conditionOf all lowest first widthOf leastOf mostOf fieldAt valuesOk fieldOk endBefore fieldFits fieldAtOk regionOk policyOk partStart valueIn setIn valuesWith marksWith slotRuns targetOf stepOf disjointIn placedIn runFrom refusalOf runOf
@@ -117,12 +117,12 @@ runs-either V8 = refl
 runs-either V9 = refl
 
 lists-newer : Kinds·.Holds V9 Lists.newerRows
-unfolding readingOf format00 format10 format11 operandOf countOf signExtend lowest first all any slotRuns targetOf isSlot isTarget widthOf leastOf mostOf fieldAt valuesOk fieldOk endBefore fieldFits fieldAtOk regionOk policyOk setOk sizeIn entryOk noteOk entryOf noteOf formedAt flawFrom formFault scratchUnset passOf readPass flowPass Marks·.meet Marks·.markOf Marks·.marksWith ofNumbers orMark marksAt reached raisedAt entryMarks sentBy takenIn closedAt closed raisedByWords raisedOnce raisedUntilClosed listingOf listingAnswer listed
-lists-newer = refl
+unfolding readingOf format00 format10 format11 operandOf countOf signExtend lowest first all any slotRuns targetOf isSlot isTarget widthOf leastOf mostOf fieldAt valuesOk fieldOk endBefore fieldFits fieldAtOk regionOk policyOk setOk sizeIn entryOk noteOk entryOf noteOf flawFrom scratchUnset passOf readPass flowPass Marks·.meet Marks·.markOf Marks·.marksWith ofNumbers orMark marksAt reached raisedAt entryMarks sentBy takenIn closedAt closed raisedByWords raisedOnce raisedUntilClosed listingOf
+lists-newer = lists-by-computing V9 Lists.newerRows refl
 
 lists-older : Kinds·.Holds V8 Lists.olderRows
-unfolding readingOf format00 format10 format11 operandOf countOf signExtend lowest first all widthOf leastOf mostOf fieldAt valuesOk fieldOk endBefore fieldFits fieldAtOk regionOk policyOk setOk sizeIn entryOk noteOk entryOf noteOf formedAt flawFrom formFault scratchUnset passOf readPass listingOf listingAnswer listed
-lists-older = refl
+unfolding readingOf format00 format10 format11 operandOf countOf signExtend lowest first all widthOf leastOf mostOf fieldAt valuesOk fieldOk endBefore fieldFits fieldAtOk regionOk policyOk setOk sizeIn entryOk noteOk entryOf noteOf flawFrom scratchUnset passOf readPass listingOf
+lists-older = lists-by-computing V8 Lists.olderRows refl
 
 newer-holds : NewerHolds
 newer-holds =

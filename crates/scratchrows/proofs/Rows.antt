@@ -1,5 +1,8 @@
 -- The table holds: the definitions give each row's outcome, by computation.
-use mathlib.Core.Path.{refl}
+use Prim.Native.Nat.{ℕ}
+use mathlib.Core.Path.{refl, ap, fun-ext}
+use mathlib.Core.Bool.{Bool}
+use mathlib.Core.List.{List, map}
 use Rattle.v8.specs.declared.Edition.{Edition}
 use Rattle.v8.specs.Search.{all, any, lowest, first}
 use Rattle.v8.specs.Signed.{signExtend}
@@ -23,27 +26,28 @@ use Rattle.sets.specs.Sets.{ended, setOk, fitsSet}
 use Rattle.sets_rules.specs.Rules.{within, addSets}
 use Rattle.rows.specs.Entry.{sizeIn, entryOk, fits, noteOk, fitsNote, fieldEntry}
 use Rattle.rows.specs.Flaw.{flawFrom}
-use Rattle.rows.specs.Row.{entryAt, entriesWith, entryOf, noteOf, rowOf, formedAt, formFault, scratchUnset, fitsAt, misfit}
+use Rattle.rows.specs.Row.{entryAt, entriesWith, entryOf, noteOf, rowOf, scratchUnset, fitsAt, misfit}
 use Rattle.rules.specs.Result.{aluResult, shiftResult}
 use Rattle.rules.specs.Reach.{inField, inRegion, inFrame, frameReach, reachOf}
 use Rattle.rules.specs.Change.{noteAfter, codesNote, aluChange, shiftChange, accessChange, branchChange, returnChange}
 use Rattle.rules.specs.Narrow.{narrowEntry, narrowRow}
 use Rattle.passes.specs.Answer.{passOf}
-use Rattle.passes_shape.specs.Shape.{shapeOk}
-use Rattle.passes.specs.Passes.{rowPass, readPass, flowPass, entryPass}
-use Rattle.checker.specs.Passes.{cross, narrowedEdge, wordPass, answerOf, checkOf}
+use Rattle.passes.specs.Passes.{readPass, flowPass, entryPass}
+use Rattle.checker.specs.Passes.{cross, narrowedEdge, wordPass}
 use Rattle.bundle_layout.specs.Layout.{fieldsBefore, fieldRead, bundleOk}
 use Rattle.bundle_open.specs.Build.{regionTo, fieldTo, withRegions, withFieldsOf, withFields}
-use Rattle.bundle.specs.Bundle.{bundleAnswer}
 use Rattle.marks.specs.Marks as Marks·
 use Rattle.marks.specs.Effect.{ofNumbers, orMark}
 use Rattle.lister_rules.specs.Table.{marksAt, reached, raisedAt}
 use Rattle.lister_rules.specs.Rules.{entryMarks, sentBy, takenIn, closedAt, closed}
-use Rattle.lister.specs.Listing.{raisedByWords, raisedOnce, raisedUntilClosed, listingOf, listingAnswer, listed}
+use Rattle.lister.specs.Listing.{raisedByWords, raisedOnce, raisedUntilClosed, listingOf}
+use Rattle.claims.proofs.Computed.{start-from}
 use Rattle.trials.specs.Case.{Holds}
+use Rattle.trials.proofs.Computed.{by-computing}
 use Rattle.slotrows.specs.Table as Slots·
 use Rattle.kindrows.specs.Table as Kinds·
-use Rattle.scratchrows.specs.Case.{EntriesHold, RunsHold}
+use Rattle.kindrows.proofs.Computed.{lists-by-computing}
+use Rattle.scratchrows.specs.Case.{EntryRow, EntriesHold, RunsHold}
 use Rattle.scratchrows.specs.FormRows.{frameRows, scratchRows, sizes, entryRows}
 use Rattle.scratchrows.specs.FitRows.{fitRows}
 use Rattle.scratchrows.specs.ChangeRows.{offsetRows, indexedRows, ruleRows}
@@ -54,16 +58,16 @@ use Rattle.scratchrows.specs.BundleRows.{bundleRows}
 use Rattle.scratchrows.specs.Table.{TableHolds}
 
 frames-hold : (e : Edition) → Holds e frameRows
-unfolding lowest first setOk sizeIn entryOk noteOk entryOf noteOf formedAt flawFrom formFault
-frames-hold e = refl
+unfolding lowest first setOk sizeIn entryOk noteOk entryOf noteOf flawFrom
+frames-hold e = by-computing e frameRows refl
 
 scratch-hold : (e : Edition) → Holds e scratchRows
-unfolding lowest first setOk sizeIn entryOk noteOk entryOf noteOf formedAt flawFrom formFault
-scratch-hold e = refl
+unfolding lowest first setOk sizeIn entryOk noteOk entryOf noteOf flawFrom
+scratch-hold e = by-computing e scratchRows refl
 
 entries-hold : EntriesHold sizes entryRows
-unfolding lowest first setOk sizeIn entryOk noteOk entryOf noteOf formedAt flawFrom formFault all scratchUnset
-entries-hold = refl
+unfolding lowest first setOk sizeIn entryOk noteOk entryOf noteOf flawFrom all scratchUnset
+entries-hold = ap (λ (formed : List ℕ → Bool). map (λ (r : EntryRow). formed (r .bytes)) entryRows) (fun-ext (start-from 2 sizes 1))
 
 fits-hold : (e : Edition) → Holds e fitRows
 unfolding lowest first conditionOf fitsSet fits fitsNote entryAt flawFrom fitsAt misfit narrowEntry
@@ -102,20 +106,20 @@ unfolding readingOf format00 format10 format11 operandOf countOf signExtend all 
 among-hold e = refl
 
 checks-hold : (e : Edition) → Holds e checkRows
-unfolding readingOf format00 format10 format11 operandOf countOf signExtend conditionOf lowest first all any widthOf leastOf mostOf fieldAt valuesOk fieldOk endBefore fieldFits fieldAtOk regionOk policyOk slotRuns targetOf isSlot isTarget setOk fitsSet sizeIn entryOk fits noteOk fitsNote entryAt entriesWith entryOf noteOf rowOf formedAt flawFrom formFault scratchUnset fitsAt misfit isScratch inFrame frameReach reachOf noteAfter accessChange returnChange narrowRow passOf shapeOk rowPass readPass flowPass entryPass cross narrowedEdge wordPass answerOf checkOf
-checks-hold e = refl
+unfolding readingOf format00 format10 format11 operandOf countOf signExtend conditionOf lowest first all any widthOf leastOf mostOf fieldAt valuesOk fieldOk endBefore fieldFits fieldAtOk regionOk policyOk slotRuns targetOf isSlot isTarget setOk fitsSet sizeIn entryOk fits noteOk fitsNote entryAt entriesWith entryOf noteOf rowOf flawFrom scratchUnset fitsAt misfit isScratch inFrame frameReach reachOf noteAfter accessChange returnChange narrowRow passOf readPass flowPass entryPass cross narrowedEdge wordPass
+checks-hold e = by-computing e checkRows refl
 
 passes-hold : (e : Edition) → Slots·.Holds e passRows
 unfolding readingOf format00 format10 format11 operandOf countOf signExtend conditionOf lowest first any slotRuns targetOf isSlot isTarget fitsSet fits fitsNote entryAt entriesWith entryOf noteOf rowOf flawFrom fitsAt misfit isScratch inFrame frameReach reachOf noteAfter accessChange branchChange returnChange narrowRow passOf flowPass cross narrowedEdge wordPass
 passes-hold e = refl
 
 lists-hold : (e : Edition) → Kinds·.Holds e listRows
-unfolding readingOf format00 format10 format11 operandOf countOf signExtend lowest first all any slotRuns targetOf isSlot isTarget widthOf leastOf mostOf fieldAt valuesOk fieldOk endBefore fieldFits fieldAtOk regionOk policyOk setOk sizeIn entryOk noteOk entryOf noteOf formedAt flawFrom formFault scratchUnset passOf readPass flowPass Marks·.meet Marks·.markOf Marks·.marksWith ofNumbers orMark marksAt reached raisedAt entryMarks sentBy takenIn closedAt closed raisedByWords raisedOnce raisedUntilClosed listingOf listingAnswer listed
-lists-hold e = refl
+unfolding readingOf format00 format10 format11 operandOf countOf signExtend lowest first all any slotRuns targetOf isSlot isTarget widthOf leastOf mostOf fieldAt valuesOk fieldOk endBefore fieldFits fieldAtOk regionOk policyOk setOk sizeIn entryOk noteOk entryOf noteOf flawFrom scratchUnset passOf readPass flowPass Marks·.meet Marks·.markOf Marks·.marksWith ofNumbers orMark marksAt reached raisedAt entryMarks sentBy takenIn closedAt closed raisedByWords raisedOnce raisedUntilClosed listingOf
+lists-hold e = lists-by-computing e listRows refl
 
 bundles-hold : (e : Edition) → Holds e bundleRows
-unfolding readingOf format00 format10 format11 operandOf countOf signExtend conditionOf lowest first all any widthOf leastOf mostOf fieldAt valuesOk fieldOk endBefore fieldFits fieldAtOk regionOk policyOk slotRuns targetOf isSlot isTarget setOk fitsSet sizeIn entryOk fits noteOk fitsNote entryAt entriesWith entryOf noteOf rowOf formedAt flawFrom formFault scratchUnset fitsAt misfit isScratch inFrame frameReach reachOf noteAfter accessChange returnChange narrowRow passOf shapeOk rowPass readPass flowPass entryPass cross narrowedEdge wordPass answerOf checkOf fieldsBefore fieldRead bundleOk regionTo fieldTo withRegions withFieldsOf withFields bundleAnswer
-bundles-hold e = refl
+unfolding readingOf format00 format10 format11 operandOf countOf signExtend conditionOf lowest first all any widthOf leastOf mostOf fieldAt valuesOk fieldOk endBefore fieldFits fieldAtOk regionOk policyOk slotRuns targetOf isSlot isTarget setOk fitsSet sizeIn entryOk fits noteOk fitsNote entryAt entriesWith entryOf noteOf rowOf flawFrom scratchUnset fitsAt misfit isScratch inFrame frameReach reachOf noteAfter accessChange returnChange narrowRow passOf readPass flowPass entryPass cross narrowedEdge wordPass fieldsBefore fieldRead bundleOk regionTo fieldTo withRegions withFieldsOf withFields
+bundles-hold e = by-computing e bundleRows refl
 
 pub table-holds : (e : Edition) → TableHolds e
 table-holds e =

@@ -30,20 +30,19 @@ use Rattle.sets_rules.specs.Rules.{within, addSets, subSets, andSets, sllSet, s
 use Rattle.sets_narrow.specs.Narrow.{atMost, atLeast, lessThan, isMember, only, without}
 use Rattle.rows.specs.Entry.{sizeIn, entryOk, fits, noteOk, fitsNote, fieldEntry}
 use Rattle.rows.specs.Flaw.{flawFrom}
-use Rattle.rows.specs.Row.{entryAt, entriesWith, entryOf, noteOf, rowOf, formedAt, formFault, scratchUnset, fitsAt, misfit}
+use Rattle.rows.specs.Row.{entryAt, entriesWith, entryOf, noteOf, rowOf, scratchUnset, fitsAt, misfit}
 use Rattle.rules.specs.Result.{offsetsGive, addressSum, addressDifference, aluResult, shiftResult}
 use Rattle.rules.specs.Reach.{inField, inRegion, frameReach, reachOf}
 use Rattle.rules.specs.Change.{noteAfter, codesNote, aluChange, shiftChange, accessChange, branchChange, returnChange}
 use Rattle.rules.specs.Narrow.{narrowEntry, narrowRow}
 use Rattle.passes.specs.Answer.{passOf}
-use Rattle.passes_shape.specs.Shape.{shapeOk}
-use Rattle.passes.specs.Passes.{rowPass, readPass, flowPass, entryPass}
-use Rattle.checker.specs.Passes.{cross, narrowedEdge, wordPass, answerOf, checkOf}
+use Rattle.passes.specs.Passes.{readPass, flowPass, entryPass}
+use Rattle.checker.specs.Passes.{cross, narrowedEdge, wordPass}
 use Rattle.bundle_layout.specs.Layout.{fieldsBefore, fieldRead, bundleOk}
 use Rattle.bundle_open.specs.Build.{regionTo, fieldTo, withRegions, withFieldsOf, withFields}
-use Rattle.bundle.specs.Bundle.{bundleAnswer}
 use Rattle.trials.specs.Case.{Row, Outcome, expected, found, Holds}
 use Rattle.trials.specs.CheckRows.{shapeRows, formPassRows, flowRows, edgeRows, slipRows}
+use Rattle.trials.proofs.Computed.{by-computing}
 use Rattle.claims.proofs.Answered.{return-then-nop, one-nop, loop-accepted}
 use Rattle.claims.proofs.Looped.{loop-never-returns}
 use Rattle.claims.proofs.Unlinked.{start-exists}
@@ -59,39 +58,39 @@ unfolding readingOf format00 format10 format11 operandOf countOf signExtend writ
 machine-rows-hold e = refl
 
 row-rows-hold : (e : Edition) → Holds e rowTable
-unfolding readingOf format00 format10 format11 operandOf countOf signExtend conditionOf lowest first widthOf fieldAt holdsIn stopOf findIn ended setOk fitsSet within addSets subSets andSets sllSet sraSet srlSet atMost atLeast lessThan isMember only without sizeIn entryOk fits noteOk fitsNote fieldEntry entryAt entriesWith entryOf noteOf formedAt flawFrom formFault fitsAt misfit offsetsGive addressSum addressDifference aluResult shiftResult inField inRegion frameReach reachOf noteAfter codesNote aluChange shiftChange accessChange branchChange returnChange narrowEntry narrowRow
-row-rows-hold e = refl
+unfolding readingOf format00 format10 format11 operandOf countOf signExtend conditionOf lowest first widthOf fieldAt holdsIn stopOf findIn ended setOk fitsSet within addSets subSets andSets sllSet sraSet srlSet atMost atLeast lessThan isMember only without sizeIn entryOk fits noteOk fitsNote fieldEntry entryAt entriesWith entryOf noteOf flawFrom fitsAt misfit offsetsGive addressSum addressDifference aluResult shiftResult inField inRegion frameReach reachOf noteAfter codesNote aluChange shiftChange accessChange branchChange returnChange narrowEntry narrowRow
+row-rows-hold e = by-computing e rowTable refl
 
 shape-rows-hold : (e : Edition) → Holds e shapeRows
-unfolding readingOf format00 format10 format11 operandOf countOf signExtend lowest first all widthOf leastOf mostOf fieldAt valuesOk fieldOk endBefore fieldFits fieldAtOk regionOk policyOk targetOf setOk fitsSet sizeIn entryOk fits noteOk fitsNote entryAt entryOf noteOf rowOf formedAt flawFrom formFault fitsAt misfit passOf isSlot isTarget any scratchUnset shapeOk rowPass readPass flowPass entryPass answerOf checkOf
-shape-rows-hold e = refl
+unfolding readingOf format00 format10 format11 operandOf countOf signExtend lowest first all widthOf leastOf mostOf fieldAt valuesOk fieldOk endBefore fieldFits fieldAtOk regionOk policyOk targetOf setOk fitsSet sizeIn entryOk fits noteOk fitsNote entryAt entryOf noteOf rowOf flawFrom fitsAt misfit passOf isSlot isTarget any scratchUnset readPass flowPass entryPass
+shape-rows-hold e = by-computing e shapeRows refl
 
 form-rows-hold : (e : Edition) → Holds e formPassRows
-unfolding readingOf format00 format10 format11 operandOf countOf signExtend lowest first all widthOf leastOf mostOf fieldAt valuesOk fieldOk endBefore fieldFits fieldAtOk regionOk policyOk targetOf setOk fitsSet sizeIn entryOk fits noteOk fitsNote entryAt entryOf noteOf rowOf formedAt flawFrom formFault fitsAt misfit passOf isSlot isTarget any scratchUnset shapeOk rowPass readPass flowPass entryPass answerOf checkOf
-form-rows-hold e = refl
+unfolding readingOf format00 format10 format11 operandOf countOf signExtend lowest first all widthOf leastOf mostOf fieldAt valuesOk fieldOk endBefore fieldFits fieldAtOk regionOk policyOk targetOf setOk fitsSet sizeIn entryOk fits noteOk fitsNote entryAt entryOf noteOf rowOf flawFrom fitsAt misfit passOf isSlot isTarget any scratchUnset readPass flowPass entryPass
+form-rows-hold e = by-computing e formPassRows refl
 
 flow-rows-hold : (e : Edition) → Holds e flowRows
-unfolding readingOf format00 format10 format11 operandOf countOf signExtend lowest first all widthOf leastOf mostOf fieldAt valuesOk fieldOk endBefore fieldFits fieldAtOk regionOk policyOk targetOf setOk fitsSet sizeIn entryOk fits noteOk fitsNote entryAt entryOf noteOf rowOf formedAt flawFrom formFault fitsAt misfit passOf isSlot isTarget any scratchUnset shapeOk rowPass readPass flowPass entryPass answerOf checkOf
-flow-rows-hold e = refl
+unfolding readingOf format00 format10 format11 operandOf countOf signExtend lowest first all widthOf leastOf mostOf fieldAt valuesOk fieldOk endBefore fieldFits fieldAtOk regionOk policyOk targetOf setOk fitsSet sizeIn entryOk fits noteOk fitsNote entryAt entryOf noteOf rowOf flawFrom fitsAt misfit passOf isSlot isTarget any scratchUnset readPass flowPass entryPass
+flow-rows-hold e = by-computing e flowRows refl
 
 pass-rows-hold : (e : Edition) → Holds e passTable
 pass-rows-hold e =
     both e shapeRows (formPassRows ++ flowRows) (shape-rows-hold e) (both e formPassRows flowRows (form-rows-hold e) (flow-rows-hold e))
 
 last-rows-hold : (e : Edition) → Holds e edgeRows
-unfolding readingOf format00 format10 format11 operandOf countOf signExtend conditionOf lowest first all widthOf leastOf mostOf fieldAt valuesOk fieldOk endBefore fieldFits fieldAtOk regionOk policyOk holdsIn stopOf findIn slotRuns targetOf ended setOk fitsSet within addSets subSets andSets sllSet sraSet srlSet atMost atLeast lessThan isMember only without sizeIn entryOk fits noteOk fitsNote fieldEntry entryAt entriesWith entryOf noteOf formedAt flawFrom formFault fitsAt misfit rowOf offsetsGive addressSum addressDifference aluResult shiftResult inField inRegion frameReach reachOf noteAfter codesNote aluChange shiftChange accessChange branchChange returnChange narrowEntry narrowRow passOf isSlot isTarget any scratchUnset shapeOk rowPass readPass flowPass entryPass cross narrowedEdge wordPass answerOf checkOf
-last-rows-hold e = refl
+unfolding readingOf format00 format10 format11 operandOf countOf signExtend conditionOf lowest first all widthOf leastOf mostOf fieldAt valuesOk fieldOk endBefore fieldFits fieldAtOk regionOk policyOk holdsIn stopOf findIn slotRuns targetOf ended setOk fitsSet within addSets subSets andSets sllSet sraSet srlSet atMost atLeast lessThan isMember only without sizeIn entryOk fits noteOk fitsNote fieldEntry entryAt entriesWith entryOf noteOf flawFrom fitsAt misfit rowOf offsetsGive addressSum addressDifference aluResult shiftResult inField inRegion frameReach reachOf noteAfter codesNote aluChange shiftChange accessChange branchChange returnChange narrowEntry narrowRow passOf isSlot isTarget any scratchUnset readPass flowPass entryPass cross narrowedEdge wordPass
+last-rows-hold e = by-computing e edgeRows refl
 
 slip-rows-hold : (e : Edition) → Holds e slipRows
-unfolding readingOf format00 format10 format11 operandOf countOf signExtend conditionOf lowest first all widthOf leastOf mostOf fieldAt valuesOk fieldOk endBefore fieldFits fieldAtOk regionOk policyOk holdsIn stopOf findIn slotRuns targetOf ended setOk fitsSet within addSets subSets andSets sllSet sraSet srlSet atMost atLeast lessThan isMember only without sizeIn entryOk fits noteOk fitsNote fieldEntry entryAt entriesWith entryOf noteOf formedAt flawFrom formFault fitsAt misfit rowOf offsetsGive addressSum addressDifference aluResult shiftResult inField inRegion frameReach reachOf noteAfter codesNote aluChange shiftChange accessChange branchChange returnChange narrowEntry narrowRow passOf isSlot isTarget any scratchUnset shapeOk rowPass readPass flowPass entryPass cross narrowedEdge wordPass answerOf checkOf
-slip-rows-hold e = refl
+unfolding readingOf format00 format10 format11 operandOf countOf signExtend conditionOf lowest first all widthOf leastOf mostOf fieldAt valuesOk fieldOk endBefore fieldFits fieldAtOk regionOk policyOk holdsIn stopOf findIn slotRuns targetOf ended setOk fitsSet within addSets subSets andSets sllSet sraSet srlSet atMost atLeast lessThan isMember only without sizeIn entryOk fits noteOk fitsNote fieldEntry entryAt entriesWith entryOf noteOf flawFrom fitsAt misfit rowOf offsetsGive addressSum addressDifference aluResult shiftResult inField inRegion frameReach reachOf noteAfter codesNote aluChange shiftChange accessChange branchChange returnChange narrowEntry narrowRow passOf isSlot isTarget any scratchUnset readPass flowPass entryPass cross narrowedEdge wordPass
+slip-rows-hold e = by-computing e slipRows refl
 
 edge-rows-hold : (e : Edition) → Holds e edgeTable
 edge-rows-hold e = both e edgeRows slipRows (last-rows-hold e) (slip-rows-hold e)
 
 bundle-rows-hold : (e : Edition) → Holds e bundleTable
-unfolding readingOf format00 format10 format11 operandOf countOf signExtend lowest first all widthOf leastOf mostOf fieldAt valuesOk fieldOk endBefore fieldFits fieldAtOk regionOk policyOk regionNumber fieldNumber built targetOf setOk fitsSet sizeIn entryOk fits noteOk fitsNote entryAt entriesWith entryOf noteOf rowOf formedAt flawFrom formFault fitsAt misfit branchChange returnChange narrowEntry narrowRow noteAfter passOf isSlot isTarget any scratchUnset shapeOk rowPass readPass flowPass entryPass cross narrowedEdge wordPass answerOf checkOf fieldsBefore fieldRead bundleOk regionTo fieldTo withRegions withFieldsOf withFields bundleAnswer
-bundle-rows-hold e = refl
+unfolding readingOf format00 format10 format11 operandOf countOf signExtend lowest first all widthOf leastOf mostOf fieldAt valuesOk fieldOk endBefore fieldFits fieldAtOk regionOk policyOk regionNumber fieldNumber built targetOf setOk fitsSet sizeIn entryOk fits noteOk fitsNote entryAt entriesWith entryOf noteOf rowOf flawFrom fitsAt misfit branchChange returnChange narrowEntry narrowRow noteAfter passOf isSlot isTarget any scratchUnset readPass flowPass entryPass cross narrowedEdge wordPass fieldsBefore fieldRead bundleOk regionTo fieldTo withRegions withFieldsOf withFields
+bundle-rows-hold e = by-computing e bundleTable refl
 
 every-claim-holds : (c : Claim) → Says c
 every-claim-holds returnThenNop = return-then-nop

@@ -47,6 +47,7 @@ use Rattle.rules.specs.declared.EntryLeft.{EntryLeft}
 use Rattle.rules.specs.Result.{aluResult, shiftResult}
 use Rattle.rules.specs.Change.{changeOf}
 use Rattle.rules.specs.Narrow.{RowLeft, narrowEntry, narrowRow}
+use Rattle.passes.specs.declared.Answer.{Answer}
 use Rattle.checker.specs.Passes.{checkOf}
 use Rattle.bundle.specs.Bundle.{bundleAnswer}
 
@@ -201,35 +202,53 @@ abbrev pub changeBy : Policy → Rows·.Row → Reading → Outcome
 changeBy p row (Read x) = changes (changeOf p row x)
 changeBy p row (Unread n) = reads (Unread n)
 
--- what the definitions give, on a terminal of the edition
+-- judges: what tests the form of a row, checks a routine and answers a bundle
+pub record Judges : Type 0 where
+  -- how many regions there are, their sizes, the row's bytes
+  pub form : ℕ → List ℕ → List ℕ → Flaw
+  -- policy, words, the rows' bytes, the entry row's, the result entry's
+  pub check : Edition → Policy → List ℕ → List ℕ → List ℕ → List ℕ → Answer
+  -- the bundle's bytes
+  pub bundle : Edition → List ℕ → Answer
+
+-- the definitions, as judges
+abbrev pub defined : Judges
+defined = record { form = λ regions sizes bytes. formFault regions sizes bytes 0; check = checkOf; bundle = bundleAnswer }
+
+-- what comes of what is given, by such judges, on a terminal of the edition. (The definitions cost the prover much to compute, so a proof takes
+-- other judges, and shows that they are the same.)
+abbrev pub outcomeBy : Judges → Edition → Given → Outcome
+outcomeBy j e (word w) = reads (readingOf e w)
+outcomeBy j e (instruction x) = writes (writingOf e x)
+outcomeBy j e (readAnswer w) = yields (readNumber (readingOf e w))
+outcomeBy j e (writeAnswer x) = yields (writeNumber (writingOf e x))
+outcomeBy j e (edge at w taken) = edgeBy at taken (readingOf e w)
+outcomeBy j e (writing w) = writtenBy (readingOf e w)
+outcomeBy j e (examining words) = marks (examinedBelow (readingsOf e words) (length words))
+outcomeBy j e (operation op x y) = sets (aluOf op x y) (digitOf (codesOf op x y))
+outcomeBy j e (shift op x n) = yields (shiftOf op x n)
+outcomeBy j e (condition k) = meets (meetingBelow k 16)
+outcomeBy j e (adds p more) = numbers (numbersOf p more)
+outcomeBy j e (loaded op m a) = yields (loadOf op m a)
+outcomeBy j e (stored op v a m) = leaves (storeOf op v a m)
+outcomeBy j e (begins sizes r) = yields (partStart sizes r)
+outcomeBy j e (runs p words bases returns frame g allowance memory) = endsOf (runOf e p words bases returns frame g allowance memory)
+outcomeBy j e (form regions sizes bytes) = flaw (j .form regions sizes bytes)
+outcomeBy j e (fitting a b) = fitted (fits a b)
+outcomeBy j e (fittingNote a b) = fitted (fitsNote a b)
+outcomeBy j e (fittingRow a b) = flaw (misfit a b)
+outcomeBy j e (entries sizes op a b) = makes (aluResult sizes op a b)
+outcomeBy j e (shiftedEntry op a b) = makes (shiftResult op a b)
+outcomeBy j e (change p row w) = changeBy p row (readingOf e w)
+outcomeBy j e (narrowing k a n) = remains (narrowEntry (conditionOf k .narrowing) a n)
+outcomeBy j e (narrowingRow k row) = rowRemains (narrowRow (conditionOf k .narrowing) row)
+outcomeBy j e (check p words rows entry result) =
+    let a = j .check e p words rows entry result in answers (a .number) (a .word .0) (a .register)
+outcomeBy j e (bundle b) = let a = j .bundle e b in answers (a .number) (a .word .0) (a .register)
+
+-- what the definitions give
 abbrev pub outcome : Edition → Given → Outcome
-outcome e (word w) = reads (readingOf e w)
-outcome e (instruction x) = writes (writingOf e x)
-outcome e (readAnswer w) = yields (readNumber (readingOf e w))
-outcome e (writeAnswer x) = yields (writeNumber (writingOf e x))
-outcome e (edge at w taken) = edgeBy at taken (readingOf e w)
-outcome e (writing w) = writtenBy (readingOf e w)
-outcome e (examining words) = marks (examinedBelow (readingsOf e words) (length words))
-outcome e (operation op x y) = sets (aluOf op x y) (digitOf (codesOf op x y))
-outcome e (shift op x n) = yields (shiftOf op x n)
-outcome e (condition k) = meets (meetingBelow k 16)
-outcome e (adds p more) = numbers (numbersOf p more)
-outcome e (loaded op m a) = yields (loadOf op m a)
-outcome e (stored op v a m) = leaves (storeOf op v a m)
-outcome e (begins sizes r) = yields (partStart sizes r)
-outcome e (runs p words bases returns frame g allowance memory) = endsOf (runOf e p words bases returns frame g allowance memory)
-outcome e (form regions sizes bytes) = flaw (formFault regions sizes bytes 0)
-outcome e (fitting a b) = fitted (fits a b)
-outcome e (fittingNote a b) = fitted (fitsNote a b)
-outcome e (fittingRow a b) = flaw (misfit a b)
-outcome e (entries sizes op a b) = makes (aluResult sizes op a b)
-outcome e (shiftedEntry op a b) = makes (shiftResult op a b)
-outcome e (change p row w) = changeBy p row (readingOf e w)
-outcome e (narrowing k a n) = remains (narrowEntry (conditionOf k .narrowing) a n)
-outcome e (narrowingRow k row) = rowRemains (narrowRow (conditionOf k .narrowing) row)
-outcome e (check p words rows entry result) =
-    let a = checkOf e p words rows entry result in answers (a .number) (a .word .0) (a .register)
-outcome e (bundle b) = let a = bundleAnswer e b in answers (a .number) (a .word .0) (a .register)
+outcome e g = outcomeBy defined e g
 
 -- .. for a row
 abbrev pub found : Edition → Row → Outcome
