@@ -44,24 +44,6 @@
 //   length N                            how many bytes there are
 //   given N                             how many the counts give
 
-// Items: a name and values on a line.
-mod items;
-// Words, entries, notes and rows as items.
-mod shown;
-// The operands of a word, what an access reaches, and the fields of a region.
-mod operands;
-// An edge of a word.
-mod ways;
-// A refusal at a word of the last pass.
-mod words;
-// A broken flow.
-mod flowing;
-// Badly formed rows and entries.
-mod form;
-// A policy that is refused.
-mod adding;
-// Bytes that are no bundle.
-mod unopened;
 // What an answer is about, by its number.
 mod refusals;
 

@@ -6,15 +6,14 @@ ghost use Prim.Native.Nat.{_+_, _≤_, _*_};
 ghost use lib.ListN.{length};
 ghost use Rattle.v8.specs.Numbers.{mostWords};
 ghost use Rattle.rows.specs.Geometry.{rowBytes, entryBytes, RowLies};
-use crate::trying::try_rows;
+use attempt::try_rows;
 use drafts::TABLE_ENTRIES;
-use growth::NO_LIMIT;
+use merging::NO_LIMIT;
 use passes::Answer;
 use policy::Policy;
 use rows::geometry::ENTRIES;
 use rows::geometry::NOTE_NAME;
 use v8::Edition;
-use v8::Reading;
 use v8::numbers::EDGE_MISFIT;
 use v8::numbers::MOST_WORDS;
 use v8::numbers::OFF_GRID;
@@ -56,6 +55,20 @@ fn is_turn(way: u16, turn: usize) -> bool
 {
     let first = (way / 256) as usize;
     first == turn + 1
+}
+
+// The turn from k on of an entry that is not limited; TURNS * TABLE_ENTRIES if there is none. Each turn goes
+// through all entries.
+fn next_turn(ways: &[u16; TABLE_ENTRIES], limits: &[u16; TABLE_ENTRIES], from: usize) -> usize {
+    let mut k = from;
+    while k < TURNS * TABLE_ENTRIES {
+        let i = k % TABLE_ENTRIES;
+        if is_turn(ways[i], k / TABLE_ENTRIES) & (limits[i] == NO_LIMIT) {
+            return k;
+        }
+        k += 1;
+    }
+    k
 }
 
 // Whether an answer names the way back on which an entry grows that is kept from it.
@@ -106,8 +119,6 @@ fn stretch(
     edition: Edition,
     policy: Policy,
     words: &[u32],
-    readings: [Reading; MOST_WORDS],
-    examined: &[bool; MOST_WORDS],
     given: &[bool; MOST_WORDS],
     entry: &[u8],
     result: &[u8],
@@ -126,11 +137,8 @@ fn stretch(
             edition,
             policy,
             words,
-            readings,
-            examined,
             given,
             limits,
-            true,
             entry,
             result,
             rows,
@@ -142,14 +150,12 @@ fn stretch(
     limit_all(limits, kept);
 }
 
-// Keeps entries from growing until the answer names the way back on which one grows; whether one does. If
-// none does, no entry is limited at the end. `ways` and `first` are of the search without limits.
+// Keeps entries from growing until the answer names the way back on which one grows. If none does, no
+// entry is limited at the end. `ways` and `first` are of the search without limits.
 pub fn blame(
     edition: Edition,
     policy: Policy,
     words: &[u32],
-    readings: [Reading; MOST_WORDS],
-    examined: &[bool; MOST_WORDS],
     given: &[bool; MOST_WORDS],
     entry: &[u8],
     result: &[u8],
@@ -157,33 +163,27 @@ pub fn blame(
     ways: &[u16; TABLE_ENTRIES],
     limits: &mut [u16; TABLE_ENTRIES],
     first: Answer,
-) -> bool
+)
     requires { ⌜ (length (now words) ≤ mostWords) × (rowBytes * length (now words) ≡ length (now rows)) × RowLies 0 (length (now entry)) × (entryBytes ≤ length (now result)) ⌝ }
 {
     let mut spare = [0u16; TABLE_ENTRIES];
     let mut answer = first;
-    let mut left = TRIALS;
     let mut k: usize = 0;
-    while k < TURNS * TABLE_ENTRIES {
-        let i = k % TABLE_ENTRIES;
-        if left == 0 {
+    let mut left = TRIALS;
+    while 0 < left {
+        left -= 1;
+        k = next_turn(ways, limits, k);
+        if TURNS * TABLE_ENTRIES <= k {
             break;
         }
-        if !is_turn(ways[i], k / TABLE_ENTRIES) | (limits[i] != NO_LIMIT) {
-            k += 1;
-            continue;
-        }
-        left -= 1;
+        let i = k % TABLE_ENTRIES;
         limits[i] = 0;
         let found = try_rows(
             edition,
             policy,
             words,
-            readings,
-            examined,
             given,
             limits,
-            true,
             entry,
             result,
             rows,
@@ -194,8 +194,6 @@ pub fn blame(
                 edition,
                 policy,
                 words,
-                readings,
-                examined,
                 given,
                 entry,
                 result,
@@ -203,7 +201,7 @@ pub fn blame(
                 limits,
                 found,
             );
-            return true;
+            return;
         }
         if (found.number != EDGE_MISFIT) & (answer.word.0 < found.word.0) {
             answer = found;
@@ -214,5 +212,4 @@ pub fn blame(
         }
     }
     limit_all(limits, NO_LIMIT);
-    false
 }

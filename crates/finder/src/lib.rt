@@ -2,10 +2,6 @@
 // row and the result entry, and from rows that are given for some words. What is found is a guess, and
 // the check judges it: the answer is the check's to the rows that are handed back.
 
-// Rows made smaller again.
-mod lowering;
-// One search.
-mod trying;
 // What a refusal may come from.
 mod blaming;
 // The search for rows.

@@ -2,7 +2,6 @@
 // of it, until no row changes or all sweeps are spent.
 ghost use Prim.Native.Nat.{_<_, _≤_};
 ghost use Rattle.v8.specs.Numbers.{mostWords};
-use crate::merging::merge;
 use drafts::TABLE_BYTES;
 use drafts::TABLE_ENTRIES;
 use drafts::carry;
@@ -11,6 +10,7 @@ use drafts::slot_of;
 use flow_edges::Destination;
 use flow_edges::Edge;
 use flow_edges::edges::edge_of;
+use merging::merge;
 use policy::Policy;
 use rows::Row;
 use rows::geometry::ROW_BYTES;

@@ -1,14 +1,8 @@
 // Rows grown from the entry row on: each word hands on, along its edges, what it makes of its row, until
 // no row changes. The number of sweeps is bounded, whatever the words.
 
-// An entry that grows on a way back.
-mod widening;
-// A row taken up by another.
-mod merging;
 // Sweeps over the words.
 mod growing;
 
 pub use growing::SWEEPS;
 pub use growing::grow;
-pub use merging::NO_LIMIT;
-pub use widening::NO_BOUND;

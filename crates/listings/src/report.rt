@@ -18,6 +18,10 @@ struct Tally {
     wrong: u64,
 }
 
+fn print_fault(line: u64, fault: &[u8]) {
+    print_wrong(b"line", line, fault)
+}
+
 // Prints a line's number and what is wrong with it, if anything is.
 fn print_verdict(line: u64, verdict: Verdict) {
     match verdict {
@@ -25,28 +29,27 @@ fn print_verdict(line: u64, verdict: Verdict) {
         Verdict::KeptByNewer => {}
         Verdict::Refused => {}
         Verdict::Privileged => {}
-        Verdict::Malformed => print_wrong(b"line", line, b"not a word and its text"),
-        Verdict::NotRead => print_wrong(b"line", line, b"not read"),
-        Verdict::ReadOtherwise => print_wrong(b"line", line, b"read as something else"),
-        Verdict::NotWrittenBack => print_wrong(b"line", line, b"not written back"),
-        Verdict::ReadOutside => print_wrong(b"line", line, b"read, but outside the subset"),
-        Verdict::OtherNumber => print_wrong(b"line", line, b"refused with another number"),
+        Verdict::Malformed => print_fault(line, b"not a word and its text"),
+        Verdict::NotRead => print_fault(line, b"not read"),
+        Verdict::ReadOtherwise => print_fault(line, b"read as something else"),
+        Verdict::NotWrittenBack => print_fault(line, b"not written back"),
+        Verdict::ReadOutside => print_fault(line, b"read, but outside the subset"),
+        Verdict::OtherNumber => print_fault(line, b"refused with another number"),
     }
 }
 
+fn print_count(n: u64, text: &[u8]) {
+    print_number(n);
+    print(text);
+}
+
 fn print_tally(t: Tally) {
-    print_number(t.lines);
-    print(b" words: ");
-    print_number(t.kept);
-    print(b" read and written back, ");
-    print_number(t.newer);
-    print(b" on the newer terminal alone, ");
-    print_number(t.refused);
-    print(b" not read, ");
-    print_number(t.privileged);
-    print(b" privileged, ");
-    print_number(t.wrong);
-    print(b" wrong\n");
+    print_count(t.lines, b" words: ");
+    print_count(t.kept, b" read and written back, ");
+    print_count(t.newer, b" on the newer terminal alone, ");
+    print_count(t.refused, b" not read, ");
+    print_count(t.privileged, b" privileged, ");
+    print_count(t.wrong, b" wrong\n");
 }
 
 // The index of the first line end from `from` on, or the length where there is none.

@@ -116,18 +116,36 @@ fn put_three(buf: &mut [u8; 64], at: usize, rs1: u8, x: Operand, rd: u8) -> usiz
     put_register(buf, e, rd)
 }
 
-// The mnemonics, at the start of the buffer. Those of loads and stores have a space after them.
-fn put_alu_name(buf: &mut [u8; 64], op: AluOp) -> usize {
-    match op {
-        AluOp::Add => put_all(buf, 0, b"add"),
-        AluOp::And => put_all(buf, 0, b"and"),
-        AluOp::Or => put_all(buf, 0, b"or"),
-        AluOp::Xor => put_all(buf, 0, b"xor"),
-        AluOp::Sub => put_all(buf, 0, b"sub"),
-        AluOp::Andn => put_all(buf, 0, b"andn"),
-        AluOp::Orn => put_all(buf, 0, b"orn"),
-        AluOp::Xnor => put_all(buf, 0, b"xnor"),
+// Puts name k of a list at the start of the buffer; a question mark, where there is none. Each name in the
+// list takes four bytes, and a shorter one is filled up with spaces.
+fn put_name(buf: &mut [u8; 64], names: &[u8], k: u8) -> usize {
+    let start = 4 * k as usize;
+    let mut at = 0;
+    let mut i = 0;
+    while i < 4 {
+        if names.len() <= start + i {
+            return put(buf, 0, b'?');
+        }
+        if names[start + i] != b' ' {
+            at = put(buf, at, names[start + i]);
+        }
+        i += 1;
     }
+    at
+}
+
+fn put_alu_name(buf: &mut [u8; 64], op: AluOp) -> usize {
+    let k = match op {
+        AluOp::Add => 0,
+        AluOp::And => 1,
+        AluOp::Or => 2,
+        AluOp::Xor => 3,
+        AluOp::Sub => 4,
+        AluOp::Andn => 5,
+        AluOp::Orn => 6,
+        AluOp::Xnor => 7,
+    };
+    put_name(buf, b"add and or  xor sub andnorn xnor", k)
 }
 
 fn put_cc(buf: &mut [u8; 64], at: usize, cc: bool) -> usize {
@@ -138,51 +156,40 @@ fn put_cc(buf: &mut [u8; 64], at: usize, cc: bool) -> usize {
 }
 
 fn put_shift_name(buf: &mut [u8; 64], op: ShiftOp) -> usize {
-    match op {
-        ShiftOp::Sll => put_all(buf, 0, b"sll"),
-        ShiftOp::Srl => put_all(buf, 0, b"srl"),
-        ShiftOp::Sra => put_all(buf, 0, b"sra"),
-    }
+    let k = match op {
+        ShiftOp::Sll => 0,
+        ShiftOp::Srl => 1,
+        ShiftOp::Sra => 2,
+    };
+    put_name(buf, b"sll srl sra ", k)
 }
 
 fn put_load_name(buf: &mut [u8; 64], op: LoadOp) -> usize {
-    match op {
-        LoadOp::Ld => put_all(buf, 0, b"ld "),
-        LoadOp::Ldub => put_all(buf, 0, b"ldub "),
-        LoadOp::Lduh => put_all(buf, 0, b"lduh "),
-        LoadOp::Ldsb => put_all(buf, 0, b"ldsb "),
-        LoadOp::Ldsh => put_all(buf, 0, b"ldsh "),
-    }
+    let k = match op {
+        LoadOp::Ld => 0,
+        LoadOp::Ldub => 1,
+        LoadOp::Lduh => 2,
+        LoadOp::Ldsb => 3,
+        LoadOp::Ldsh => 4,
+    };
+    put_name(buf, b"ld  ldublduhldsbldsh", k)
 }
 
 fn put_store_name(buf: &mut [u8; 64], op: StoreOp) -> usize {
-    match op {
-        StoreOp::St => put_all(buf, 0, b"st "),
-        StoreOp::Stb => put_all(buf, 0, b"stb "),
-        StoreOp::Sth => put_all(buf, 0, b"sth "),
-    }
+    let k = match op {
+        StoreOp::St => 0,
+        StoreOp::Stb => 1,
+        StoreOp::Sth => 2,
+    };
+    put_name(buf, b"st  stb sth ", k)
 }
 
 fn put_condition(buf: &mut [u8; 64], cond: u8) -> usize {
-    match cond {
-        0 => put_all(buf, 0, b"bn"),
-        1 => put_all(buf, 0, b"be"),
-        2 => put_all(buf, 0, b"ble"),
-        3 => put_all(buf, 0, b"bl"),
-        4 => put_all(buf, 0, b"bleu"),
-        5 => put_all(buf, 0, b"bcs"),
-        6 => put_all(buf, 0, b"bneg"),
-        7 => put_all(buf, 0, b"bvs"),
-        8 => put_all(buf, 0, b"ba"),
-        9 => put_all(buf, 0, b"bne"),
-        10 => put_all(buf, 0, b"bg"),
-        11 => put_all(buf, 0, b"bge"),
-        12 => put_all(buf, 0, b"bgu"),
-        13 => put_all(buf, 0, b"bcc"),
-        14 => put_all(buf, 0, b"bpos"),
-        15 => put_all(buf, 0, b"bvc"),
-        _ => put_all(buf, 0, b"?"),
-    }
+    put_name(
+        buf,
+        b"bn  be  ble bl  bleubcs bnegbvs ba  bne bg  bge bgu bcc bposbvc ",
+        cond,
+    )
 }
 
 fn put_annul(buf: &mut [u8; 64], at: usize, annul: bool) -> usize {
@@ -235,16 +242,18 @@ fn put_shift(buf: &mut [u8; 64], op: ShiftOp, rs1: u8, count: Operand, rd: u8) -
 
 fn put_load(buf: &mut [u8; 64], op: LoadOp, rd: u8, rs1: u8, x: Displacement) -> usize {
     let a = put_load_name(buf, op);
-    let b = put_address(buf, a, rs1, x);
-    let c = put(buf, b, b',');
-    put_register(buf, c, rd)
+    let b = put(buf, a, b' ');
+    let c = put_address(buf, b, rs1, x);
+    let d = put(buf, c, b',');
+    put_register(buf, d, rd)
 }
 
 fn put_store(buf: &mut [u8; 64], op: StoreOp, rd: u8, rs1: u8, x: Displacement) -> usize {
     let a = put_store_name(buf, op);
-    let b = put_register(buf, a, rd);
-    let c = put(buf, b, b',');
-    put_address(buf, c, rs1, x)
+    let b = put(buf, a, b' ');
+    let c = put_register(buf, b, rd);
+    let d = put(buf, c, b',');
+    put_address(buf, d, rs1, x)
 }
 
 // A load or a store, its destination last.

@@ -7,11 +7,11 @@ use Rattle.finder.proofs.blaming.stretch.Statement.{statement}
 use Rattle.finder.proofs.blaming.stretch.Tie as tie
 
 abbrev Inv-loop : tie.InvT-loop
-Inv-loop edition policy words readings examined given entry result rows₀ limits₀ named spare₀ kept₀ more₀ rows limits spare kept more =
+Inv-loop edition policy words given entry result rows₀ limits₀ named spare₀ kept₀ more₀ rows limits spare kept more =
     (kept + 2 * more ≤ 256) × (length rows ≡ length rows₀)
 
 abbrev μ-loop : tie.MeasureT-loop
-μ-loop edition policy words readings examined given entry result rows₀ limits₀ named spare₀ kept₀ more₀ rows limits spare kept more =
+μ-loop edition policy words given entry result rows₀ limits₀ named spare₀ kept₀ more₀ rows limits spare kept more =
     more
 
 loop-holds : tie.Need-loop-holds Inv-loop μ-loop

@@ -50,8 +50,8 @@ lengths c =
     shaped (given (c .before .before .before .before .before .before .before .before .before))
     (sym (c .before .shape-ok .ensures) ∙ not-false _ (c .if2 .left))
 
-search-requires : tie.Need-search-requires
-search-requires c κs = let h = lengths (c .before) in (h .most, sym (h .rows), omega (arith, h .entry), omega (arith, h .result))
+write-rows-requires : tie.Need-write-rows-requires
+write-rows-requires c κs = let h = lengths (c .before) in (h .most, sym (h .rows), omega (arith, h .entry), omega (arith, h .result))
 
 check-requires-3 : tie.Need-check-requires-3
 check-requires-3 c κs = search needs
@@ -74,7 +74,7 @@ find-rows-spec =
     check-requires-2
     same-length-2
     returns-2
-    search-requires
+    write-rows-requires
     check-requires-3
     same-length-3
     returns-3)
