@@ -1,4 +1,4 @@
-// One search: the rows of all words, found and checked. Limits say how often an entry may grow; where there
+// One attempt: the rows of all words, found and checked. Limits say how often an entry may grow; where there
 // are some, rows are not made smaller again.
 ghost use mathlib.Core.Path.{_≡_};
 ghost use Prim.Native.Nat.{_≤_, _<_, _*_};

@@ -57,8 +57,8 @@ fn is_turn(way: u16, turn: usize) -> bool
     first == turn + 1
 }
 
-// The turn from k on of an entry that is not limited; TURNS * TABLE_ENTRIES if there is none. Each turn goes
-// through all entries.
+// The next turn, from one on, that is an entry's which is not limited; the number of all turns, if there is
+// none. Turn after turn, all entries are gone through.
 fn next_turn(ways: &[u16; TABLE_ENTRIES], limits: &[u16; TABLE_ENTRIES], from: usize) -> usize {
     let mut k = from;
     while k < TURNS * TABLE_ENTRIES {
