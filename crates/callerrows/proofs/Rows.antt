@@ -18,21 +18,22 @@ use Rattle.machine.specs.Run.{refusalOf, runOf}
 use Rattle.sets.specs.Sets.{setOk, fitsSet}
 use Rattle.rows.specs.Entry.{sizeIn, entryOk, fits, noteOk, fitsNote}
 use Rattle.rows.specs.Flaw.{flawFrom}
-use Rattle.rows.specs.Row.{entryAt, entriesWith, entryOf, noteOf, rowOf, formedAt, formFault, scratchUnset, fitsAt, misfit}
+use Rattle.rows.specs.Row.{entryAt, entriesWith, entryOf, noteOf, rowOf, scratchUnset, fitsAt, misfit}
 use Rattle.rules.specs.Result.{aluResult}
 use Rattle.rules.specs.Change.{noteAfter, aluChange, returnChange}
 use Rattle.rules.specs.Narrow.{narrowRow}
 use Rattle.passes.specs.Answer.{passOf}
-use Rattle.passes_shape.specs.Shape.{shapeOk}
-use Rattle.passes.specs.Passes.{rowPass, readPass, flowPass, entryPass}
-use Rattle.checker.specs.Passes.{cross, narrowedEdge, wordPass, answerOf, checkOf}
+use Rattle.passes.specs.Passes.{readPass, flowPass, entryPass}
+use Rattle.checker.specs.Passes.{cross, narrowedEdge, wordPass}
 use Rattle.marks.specs.Marks as Marks·
 use Rattle.marks.specs.Effect.{ofNumbers, orMark}
 use Rattle.lister_rules.specs.Table.{marksAt, reached, raisedAt}
 use Rattle.lister_rules.specs.Rules.{entryMarks, sentBy, takenIn, closedAt, closed}
-use Rattle.lister.specs.Listing.{raisedByWords, raisedOnce, raisedUntilClosed, listingOf, listingAnswer, listed}
+use Rattle.lister.specs.Listing.{raisedByWords, raisedOnce, raisedUntilClosed, listingOf}
 use Rattle.trials.specs.Case as Trials·
+use Rattle.trials.proofs.Computed.{by-computing}
 use Rattle.kindrows.specs.Table as Kinds·
+use Rattle.kindrows.proofs.Computed.{lists-by-computing}
 use Rattle.callerrows.specs.Case.{Holds}
 use Rattle.callerrows.specs.FlowRows.{registerRows, placeRows}
 use Rattle.callerrows.specs.CheckRows.{checkRows}
@@ -49,16 +50,16 @@ unfolding readingOf format00 format10 format11 operandOf countOf signExtend lowe
 places-hold e = refl
 
 checks-hold : (e : Edition) → Trials·.Holds e checkRows
-unfolding readingOf format00 format10 format11 operandOf countOf signExtend conditionOf lowest first all any widthOf leastOf mostOf fieldAt valuesOk fieldOk endBefore fieldFits fieldAtOk regionOk policyOk slotRuns targetOf isSlot isTarget setOk fitsSet sizeIn entryOk fits noteOk fitsNote entryAt entriesWith entryOf noteOf rowOf formedAt flawFrom formFault scratchUnset fitsAt misfit aluResult noteAfter aluChange returnChange narrowRow passOf shapeOk rowPass readPass flowPass entryPass cross narrowedEdge wordPass answerOf checkOf
-checks-hold e = refl
+unfolding readingOf format00 format10 format11 operandOf countOf signExtend conditionOf lowest first all any widthOf leastOf mostOf fieldAt valuesOk fieldOk endBefore fieldFits fieldAtOk regionOk policyOk slotRuns targetOf isSlot isTarget setOk fitsSet sizeIn entryOk fits noteOk fitsNote entryAt entriesWith entryOf noteOf rowOf flawFrom scratchUnset fitsAt misfit aluResult noteAfter aluChange returnChange narrowRow passOf readPass flowPass entryPass cross narrowedEdge wordPass
+checks-hold e = by-computing e checkRows refl
 
 runs-hold : (e : Edition) → Trials·.Holds e runRows
 unfolding readingOf format00 format10 format11 operandOf countOf signExtend conditionOf all lowest first widthOf leastOf mostOf fieldAt valuesOk fieldOk endBefore fieldFits fieldAtOk regionOk policyOk partStart valueIn setIn valuesWith marksWith stepOf disjointIn placedIn runFrom refusalOf runOf
 runs-hold e = refl
 
 lists-hold : (e : Edition) → Kinds·.Holds e listRows
-unfolding readingOf format00 format10 format11 operandOf countOf signExtend lowest first all any slotRuns targetOf isSlot isTarget widthOf leastOf mostOf fieldAt valuesOk fieldOk endBefore fieldFits fieldAtOk regionOk policyOk setOk sizeIn entryOk noteOk entryOf noteOf formedAt flawFrom formFault scratchUnset passOf readPass flowPass Marks·.meet Marks·.markOf Marks·.marksWith ofNumbers orMark marksAt reached raisedAt entryMarks sentBy takenIn closedAt closed raisedByWords raisedOnce raisedUntilClosed listingOf listingAnswer listed
-lists-hold e = refl
+unfolding readingOf format00 format10 format11 operandOf countOf signExtend lowest first all any slotRuns targetOf isSlot isTarget widthOf leastOf mostOf fieldAt valuesOk fieldOk endBefore fieldFits fieldAtOk regionOk policyOk setOk sizeIn entryOk noteOk entryOf noteOf flawFrom scratchUnset passOf readPass flowPass Marks·.meet Marks·.markOf Marks·.marksWith ofNumbers orMark marksAt reached raisedAt entryMarks sentBy takenIn closedAt closed raisedByWords raisedOnce raisedUntilClosed listingOf
+lists-hold e = lists-by-computing e listRows refl
 
 pub table-holds : (e : Edition) → TableHolds e
 table-holds e =
