@@ -1,30 +1,9 @@
 -- The word is not read, is a transfer in a slot, or is run by the function of its kind.
-use Prim.Native.Nat.{ℕ}
-use mathlib.Core.Path.{_≡_}
-use mathlib.Core.Bool.{Bool, false, and-false}
-use borrow.Author.Needs.{needs}
-use Rattle.v8.specs.declared.Operation.{Operation}
-use Rattle.v8.specs.declared.Instruction.{Instruction}
-use Rattle.v8.specs.declared.Instruction.the-variants.{Plain}
-use Rattle.v8.specs.declared.Reading.{Reading}
-use Rattle.v8.specs.declared.Reading.the-variants.{Read}
-use Rattle.access.specs.Layout.{Layout}
+use mathlib.Core.Bool.{and-false}
 use Rattle.step.specs.Control.{inSlot}
-use Rattle.step.specs.Effect.{effectOf}
-use Rattle.step.specs.Step.{State, plainStep, execute, stepWith}
-use Rattle.step.specs.Lent.{Stepped, leaving}
+use borrow.Author.Needs.{needs}
 use Rattle.step.proofs.dispatch.one_step.Statement.{statement}
 use Rattle.step.proofs.dispatch.one_step.Tie as tie
-
-module _ (l : Layout) (returns : ℕ) (st : State) {x : Reading} {i : Instruction} (reads : x ≡ Read i) {y : Stepped} where
-  -- the step of an operation is that of the word, in a slot or not
-  plain-is : {o p : Operation} → i ≡ Plain o → o ≡ p → y ≡ leaving (st .core) (plainStep (st .control) (effectOf l (st .core) p)) → y ≡ leaving (st .core) (stepWith l returns st x)
-  plain-is is same e = rw (reads, is, and-false (inSlot (st .control .pending)), same) e
-
-  -- the step of a transfer is that of the word outside a slot
-  transfer-is : {t : Instruction} {slot : Bool} → i ≡ t → slot ≡ inSlot (st .control .pending) → slot ≡ false → y ≡ leaving (st .core) (execute l returns st t)
-      → y ≡ leaving (st .core) (stepWith l returns st x)
-  transfer-is is slots outside e = rw (reads, is, ← slots, outside) e
 
 enum-known-x : tie.Need-enum-known-x
 enum-known-x c = search needs
@@ -100,33 +79,49 @@ stop-requires-3 c κs = search needs
 
 returns-3 : tie.Need-returns-3
 returns-3 c = λ l memory.
-    let instruction = c .before .before .before .before .before .before .before in
-    plain-is l _ _ (instruction .before .before .before .x .given .1) (instruction .instruction .given .1) (c .before .before .before .before .operation .given .1) (c .step-sethi .ensures l memory)
+    let start = c .before .before .before .before .before .before .before .before .before .before .before .before in
+    let x = c .before .before .before .before .before .before .before .before .before .before .x in
+    let instruction = c .before .before .before .before .before .before .before .instruction in
+    let operation = c .before .before .before .before .operation in
+    rw (x .given .1, instruction .given .1, and-false (inSlot (start .args .control .pending)), operation .given .1) (c .step-sethi .ensures l memory)
 
 returns-4 : tie.Need-returns-4
 returns-4 c = λ l memory.
-    let instruction = c .before .before .before .before .before .before .before in
-    plain-is l _ _ (instruction .before .before .before .x .given .1) (instruction .instruction .given .1) (c .before .before .before .before .operation2 .given .1) (c .step-alu .ensures l memory)
+    let start = c .before .before .before .before .before .before .before .before .before .before .before .before in
+    let x = c .before .before .before .before .before .before .before .before .before .before .x in
+    let instruction = c .before .before .before .before .before .before .before .instruction in
+    let operation2 = c .before .before .before .before .operation2 in
+    rw (x .given .1, instruction .given .1, and-false (inSlot (start .args .control .pending)), operation2 .given .1) (c .step-alu .ensures l memory)
 
 returns-5 : tie.Need-returns-5
 returns-5 c = λ l memory.
-    let instruction = c .before .before .before .before .before .before .before in
-    plain-is l _ _ (instruction .before .before .before .x .given .1) (instruction .instruction .given .1) (c .before .before .before .before .operation3 .given .1) (c .step-shift .ensures l memory)
+    let start = c .before .before .before .before .before .before .before .before .before .before .before .before in
+    let x = c .before .before .before .before .before .before .before .before .before .before .x in
+    let instruction = c .before .before .before .before .before .before .before .instruction in
+    let operation3 = c .before .before .before .before .operation3 in
+    rw (x .given .1, instruction .given .1, and-false (inSlot (start .args .control .pending)), operation3 .given .1) (c .step-shift .ensures l memory)
 
 returns-6 : tie.Need-returns-6
 returns-6 c = λ l memory.
-    let instruction = c .before .before .before .before .before .before .before in
-    plain-is l _ _ (instruction .before .before .before .x .given .1) (instruction .instruction .given .1) (c .before .before .before .before .operation4 .given .1) (c .step-access .ensures l memory)
+    let start = c .before .before .before .before .before .before .before .before .before .before .before .before in
+    let x = c .before .before .before .before .before .before .before .before .before .before .x in
+    let instruction = c .before .before .before .before .before .before .before .instruction in
+    let operation4 = c .before .before .before .before .operation4 in
+    rw (x .given .1, instruction .given .1, and-false (inSlot (start .args .control .pending)), operation4 .given .1) (c .step-access .ensures l memory)
 
 returns-7 : tie.Need-returns-7
 returns-7 c = λ l memory.
-    let instruction = c .before .before .before .before in
-    transfer-is l _ _ (instruction .before .before .before .x .given .1) (instruction .instruction2 .given .1) (c .before .before .in-slot .ensures) (c .before .if1 .left) (c .branch .ensures _ _ l memory)
+    let x = c .before .before .before .before .before .before .before .x in
+    let instruction2 = c .before .before .before .before .instruction2 in
+    rw (x .given .1, instruction2 .given .1, ← c .before .before .in-slot .ensures, c .before .if1 .left) (c .branch .ensures _ _ l memory)
 
 returns-8 : tie.Need-returns-8
 returns-8 c = λ l memory.
-    let told = c .before .before .before .before .before in
-    transfer-is l _ _ (told .before .before .before .x .given .1) (told .enum-told .given .1) (c .before .before .before .before .in-slot2 .ensures) (c .before .before .before .if2 .left) (c .leave .ensures l memory)
+    let x = c .before .before .before .before .before .before .before .before .x in
+    let enum-told = c .before .before .before .before .before .enum-told in
+    let in-slot2 = c .before .before .before .before .in-slot2 in
+    let test2 = c .before .before .before .if2 in
+    rw (x .given .1, enum-told .given .1, ← in-slot2 .ensures, test2 .left) (c .leave .ensures l memory)
 
 returns-9 : tie.Need-returns-9
 returns-9 c = λ l memory. rw (c .before .enum-told2 .given .1, c .stop3 .ensures)
