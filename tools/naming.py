@@ -60,7 +60,7 @@ BARE = re.compile(r"[A-Z]\w*\.antt")  # a file of some specs/
 PATH = re.compile(r"[\w.-]*(?:/[\w.-]*)+|[\w-]+\.(?:py|md|txt|bin|s|c|rt)")
 SPAN = re.compile(r"`([^`]+)`")
 SPANS = r"`[^`]+`(?:(?:,? and|,| \.\.|, \.\.)\s`[^`]+`)*"  # a list of them
-MODULES = r"[A-Z][a-z]\w*(?:, [A-Z][a-z]\w*)*"
+MODULES = r"[A-Z][a-z]\w*(?:,\s[A-Z][a-z]\w*)*"
 # The forms. Those of modules have a crate or none, modules, and names or none.
 MODULE = re.compile(rf"`([a-z]\w*)`\s({MODULES})(?:[:,]\s({SPANS}))?")
 MODULE_MORE = re.compile(rf"(?:;\s|\()()({MODULES})[:,]\s({SPANS})")
@@ -178,7 +178,7 @@ class Document:
         crate = None
         for match in sorted(matches, key=lambda match: match.start()):
             crate = match[1] or crate or self.crate_before(unit, match.start())
-            paths = [f"crates/{crate}/specs/{module}.antt" for module in match[2].split(", ")]
+            paths = [f"crates/{crate}/specs/{module}.antt" for module in re.split(r",\s", match[2])]
             if match[1] and crate not in self.product.crates:
                 self.say(unit, match.start(), crate, f"`{crate}` is no crate of crates.txt")
             if crate not in self.product.crates:
