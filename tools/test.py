@@ -9,6 +9,7 @@ Sees that rows are found, kept, printed and read again as they were.
 Holds the words and the data of both terminals against what they must be, and the examples and routines that use the frame
 against the answers of the plain checker too.
 Holds what pace.py says of a gate against a log that is made here, and tries logs that are none.
+Sees that every crate, definition, edit and file that the documents name is there, and that every edit is named.
 Sees that each script says what it does when asked for help, and does nothing else.
 
 What needs GNU binutils for SPARC, gcc or a program (target/bin/answer, explain, infer or kinds, or those with a 9) is left
@@ -37,6 +38,7 @@ import kindcases
 import kinds
 import layout
 import mutants
+import naming
 import pace
 import parts
 import programs
@@ -1922,6 +1924,115 @@ def logs_that_are_none():
         yield f"pace.py {' '.join(options)} LOG", refused(pace.main, [*options, os.path.join(ROOT, "README.md")]), ""
 
 
+# Names in the documents
+
+# A product that is made here, with the names that its files declare.
+SOURCES = {
+    "crates/one/specs/Read.antt": {"readingOf", "formatOf"}, "crates/one/specs/Laws.antt": {"ReadsSound"},
+    "crates/one/src/lib.rt": {"read_word"}, "crates/two/specs/Step.antt": {"stepOf"}, "crates/two/proofs/Steps.antt": {"step-sound"},
+    "crates/two/src/step.rt": {"one_step"}, "tools/read.py": {"read_all"},
+}
+NAMED = naming.Product(["one", "two"], {"one/wide", "two/short"}, {"read-twice"}, {*SOURCES, "docs/PAGE.md", "examples/sum", "examples/sum/rows.txt"}, SOURCES)
+# Text in which every name is right, and what is reported where a part of it is replaced by another, with the line in which that stands.
+PAGE = """# A page
+
+Reading is `one` Read: `readingOf`, `formatOf`; Laws: `ReadsSound`, and a step is `two` Step, `stepOf`. It rests
+on `one`'s `read_word`, on `two`: `one_step` and on the law `ReadsSound`; see `step-sound` of `two`, `sum` and `cmp`.
+
+    `nothing` is read here
+
+1. In `one` is `specs/Read.antt` (`formatOf`), in `two` is `one_step` of `src/step.rt`,
+   and in `crates/two/specs/Step.antt`: `stepOf`. `Read.antt`, `specs/`, `two/proofs/Steps.antt`, `tools/read.py`,
+   `read.py`, `docs/PAGE.md` and `rows.txt` are files; `stepOf (readingOf w)` and `read_all` are names.
+
+| sentence | definition | wrong versions that are told apart |
+|---|---|---|
+| "Read" | `one` Read; Laws | read-twice, and so on |
+| edit `one/wide` | `two` Step: `stepOf`; `one` Read: `readingOf` | |
+"""
+WRONG_NAMES = [
+    ("a crate", "`one` Read: `readingOf`, `f", "`ten` Read: `readingOf`, `f", 3, "`ten` is no crate of crates.txt"),
+    ("a crate of a definition", "`two` Step: `stepOf`; `one`", "`ten` Step: `stepOf`; `one`", 15, "`ten` is no crate of crates.txt"),
+    ("a module", "`one` Read: `readingOf`, `f", "`one` Reed: `readingOf`, `f", 3, "there is no crates/one/specs/Reed.antt"),
+    ("a module of another crate", "; `one` Read: `readingOf` |", "; Read: `readingOf` |", 15, "there is no crates/two/specs/Read.antt"),
+    ("a module after a semicolon", "; Laws: `ReadsSound`", "; Law: `ReadsSound`", 3, "there is no crates/one/specs/Law.antt"),
+    ("a module without names", "`one` Read; Laws |", "`one` Read; Step |", 14, "there is no crates/one/specs/Step.antt"),
+    ("a definition", "`readingOf`, `formatOf`;", "`readingOf`, `formOf`;", 3, "`formOf` is not declared in crates/one/specs/Read.antt"),
+    ("a definition of another module", "`readingOf`, `formatOf`;", "`ReadsSound`, `formatOf`;", 3, "`ReadsSound` is not declared in crates/one/specs/Read.antt"),
+    ("a definition after a comma", "Step, `stepOf`", "Step, `readingOf`", 3, "`readingOf` is not declared in crates/two/specs/Step.antt"),
+    ("a definition in a table", "Step: `stepOf`;", "Step: `one_step`;", 15, "`one_step` is not declared in crates/two/specs/Step.antt"),
+    ("a name of another crate", "`one`'s `read_word`", "`two`'s `read_word`", 4, "`read_word` is not declared in two"),
+    ("a name after a crate and a colon", "`two`: `one_step`", "`two`: `read_word`", 4, "`read_word` is not declared in two"),
+    ("a name of a crate that is named after it", "`step-sound` of `two`", "`step-sound` of `one`", 4, "`step-sound` is not declared in one"),
+    ("a law", "law `ReadsSound`", "law `readingOf`", 4, "`readingOf` is not declared in the specs/Laws.antt of any crate"),
+    ("a name of a file", "(`formatOf`)", "(`stepOf`)", 8, "`stepOf` is not declared in crates/one/specs/Read.antt"),
+    ("a name before its file", "`one_step` of `src", "`stepOf` of `src", 8, "`stepOf` is not declared in crates/two/src/step.rt"),
+    ("a name after its file", "antt`: `stepOf`", "antt`: `one_step`", 9, "`one_step` is not declared in crates/two/specs/Step.antt"),
+    ("a name of nothing", "`read_all`", "`read_none`", 10, "`read_none` is declared nowhere"),
+    ("a word of nothing", "`sum`", "`total`", 4, "`total` is declared nowhere"),
+    ("a name among others", "`stepOf (readingOf w)`", "`stepOf (readOf w)`", 10, "`readOf` is declared nowhere"),
+    ("an edit", "`one/wide`", "`one/narrow`", 15, "there is no edit `one/narrow`"),
+    ("an edit of another crate", "`one/wide`", "`two/wide`", 15, "there is no edit `two/wide`"),
+    ("an edit of no crate", "`one/wide`", "`ten/wide`", 15, "`ten/wide`: `ten` is no crate of crates.txt"),
+    ("a file of a crate", "`src/step.rt`", "`src/lib.rt`", 8, "there is no `src/lib.rt` in `two`, the crate named before it"),
+    ("a path", "`crates/two/specs/Step.antt`", "`crates/one/specs/Step.antt`", 9, "there is no `crates/one/specs/Step.antt`"),
+    ("a path in crates/", "`two/proofs/Steps.antt`", "`one/proofs/Steps.antt`", 9, "there is no `one/proofs/Steps.antt`"),
+    ("a tool", "`tools/read.py`", "`tools/reed.py`", 9, "there is no `tools/reed.py`"),
+    ("a file of tools/", "`read.py`", "`reed.py`", 10, "there is no `reed.py`"),
+    ("a file of specs/", "`Read.antt`", "`Reed.antt`", 9, "there is no specs/Reed.antt in any crate"),
+    ("a document", "`docs/PAGE.md`", "`docs/PAPER.md`", 10, "there is no `docs/PAPER.md`"),
+    ("a file of an example", "`rows.txt`", "`row.txt`", 10, "there is no `row.txt`"),
+    ("a wrong version", "| read-twice,", "| read-once,", 14, "read-once is no wrong version that tools/plain lists"),
+]
+
+
+@cases()
+def names_in_documents():
+    found, texts = naming.findings(), "\n".join(naming.documents().values())
+    yield "the names in the documents", found == [], "\n".join(found)
+    unused = [name for name in sorted(naming.OUTSIDE_NAMES) if not re.search(rf"`(?:[^`]* )?{re.escape(name)}(?: [^`]*)?`", texts)]
+    yield "the names that are not the product's are used", unused == [], " ".join(unused)
+
+
+@cases()
+def names_that_are_wrong():
+    given = naming.wrong_in(NAMED, "x.md", PAGE)
+    yield "a page without a wrong name", given == [], "\n".join(given)
+    for what, old, new, line, expected in WRONG_NAMES:
+        given = naming.wrong_in(NAMED, "x.md", PAGE.replace(old, new, 1))
+        yield f"a page with a wrong name: {what}", PAGE.count(old) and given == [f"x.md, line {line}: {expected}"], "\n".join(given)
+    for what, trace, architecture, expected in [
+            ("nothing", "`one/wide`, `two/short`", "`one`, `two`", []),
+            ("an edit", "`one/wide`, `two/shorter`", "`one`, `two`", ["docs/TRACE.md does not name the edit two/short"]),
+            ("a crate", "`one/wide`, `two/short`", "`one`", ["docs/ARCHITECTURE.md does not name the crate two"])]:
+        given = naming.missing_in(NAMED, trace, architecture)
+        yield f"pages that leave out {what}", given == expected, "\n".join(given)
+
+
+@cases()
+def names_that_are_declared():
+    for what, reader, text, expected in [
+            ("definitions", naming.names_of_antt, "-- a : b\npub mod Read\nuse Read.{x}\nabbrev pub isR : ℕ → Bool\nisR n = y\n  unfoldable pub at : ℕ\n"
+             "pub record Row (n : ℕ) : Type 0 where\n  pub lo hi : ℕ\nstep-sound :\n    (a : ℕ) → b\n", "Read isR at Row lo hi step-sound"),
+            ("code", naming.names_of_rt, "// fn no\nuse a::b;\npub const MOST: u8 = 1;\npub struct Row {\n    pub at: u8,\n}\npub enum End {\n    Spent,\n    Fault(u8),\n}\n"
+             "fn one_step(x: u8) -> u8 {\n    let y = x;\n}\nmod edges;\n", "MOST Row at End Spent Fault one_step edges"),
+            ("a script", naming.names_of_py, "import os\nMOST = 1\nA, B = 1, 2\nclass Row:\n    def read(self):\n        x = 1\n", "MOST A Row read")]:
+        given = reader(text)
+        yield f"the names that are declared in {what}", given == set(expected.split()), " ".join(sorted(given))
+    with tempfile.TemporaryDirectory() as root:
+        for path, text in [("crates.txt", "# Words.\nv8:\nalu: v8\n"), ("README.md", "`v8` Read: `readOf`\n"), ("docs/TRACE.md", "`v8`\n"), ("docs/ARCHITECTURE.md", "`v8`\n"),
+                           ("crates/v8/specs/Read.antt", "readingOf : ℕ\n"), ("crates/v8/must-fail/wide.edit", ""), ("tools/plain/mutants.txt", "The versions.\n\nread-twice\n- x\n"),
+                           ("target/x.py", "def read(): 1\n")]:
+            os.makedirs(os.path.join(root, os.path.dirname(path)), exist_ok=True)
+            write(text.encode(), root, path)
+        product, given = naming.product_of(root), naming.findings(root)
+    right = (product.crates, product.edits, product.versions, product.declared) == (["v8", "alu"], {"v8/wide"}, {"read-twice"}, {"crates/v8/specs/Read.antt": {"readingOf"}})
+    yield "a product that is read", right and "target/x.py" not in product.paths, str(product)
+    yield "a product and its documents", given == [
+        "README.md, line 1: `readOf` is not declared in crates/v8/specs/Read.antt", "docs/TRACE.md does not name the edit v8/wide",
+        "docs/ARCHITECTURE.md does not name the crate alu"], "\n".join(given)
+
+
 # How the tools are called, and where
 
 @cases()
@@ -1943,7 +2054,7 @@ def wrong_calls():
             ("bundle.py", ["--rows"]), ("bundle.py", ["--rows", EXAMPLES]), ("bundle.py", ["--rows", "--version", "1", name]),
             ("searches.py", ["x", "y"]), ("searches.py", ["none"]), ("searches.py", [os.path.join(ROOT, "README.md")]),
             ("pace.py", []), ("pace.py", ["none"]), ("pace.py", ["x", "y"]), ("pace.py", ["--bars"]), ("pace.py", ["--before", "none"]), ("pace.py", ["--jobs", "0", "none"]),
-            ("pace.py", [os.path.join(ROOT, "README.md")])]:
+            ("pace.py", [os.path.join(ROOT, "README.md")]), ("naming.py", ["x"])]:
         status, out, said = called(tool, *arguments)
         yield f"{tool} {' '.join(arguments)[:60]}", one_line(tool, status, out, said), f"{status} {out} {said}"
 
