@@ -113,8 +113,8 @@ fn limit_all(limits: &mut [u16; TABLE_ENTRIES], n: u16) {
     }
 }
 
-// Lets the entries that are limited grow as far as the answer stays the same, so that the rows say how
-// far that is.
+// Lets the entries that are limited grow as often as the answer stays the same, so that the rows show what
+// they are then.
 fn stretch(
     edition: Edition,
     policy: Policy,

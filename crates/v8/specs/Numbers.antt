@@ -87,7 +87,7 @@ badSize = 19
 abbrev pub badPolicy : ℕ
 badPolicy = 20
 
--- "21 words not 1 to 128, rows not 392 bytes a word, or the entry row or result entry badly formed"
+-- "21 words not 1 to 128, rows not [464] bytes a word, or the entry row or result entry badly formed"
 abbrev pub badShape : ℕ
 badShape = 21
 
