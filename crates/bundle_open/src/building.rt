@@ -1,5 +1,5 @@
 // The bundle's policy, as the operations of document 01 build it: all regions are added, then the
-// fields of each; the first refusal stays (specs/Bundle.antt). Each policy on the way obeys the rules, so
+// fields of each; the first refusal stays (specs/Build.antt). Each policy on the way obeys the rules, so
 // the adds need not test it.
 ghost use mathlib.Core.Path.{_≡_};
 ghost use Prim.Native.Nat.{_≤_, _<_};
