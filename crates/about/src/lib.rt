@@ -43,6 +43,7 @@
 //   end END                             where the fields before end
 //   length N                            how many bytes there are
 //   given N                             how many the counts give
+#![tactic(auto)]
 
 // What an answer is about, by its number.
 mod refusals;

@@ -1,5 +1,6 @@
 // What a refusal is about that names no word: bytes that are no bundle, a policy that is refused, rows and
 // entries that are badly formed, and where their bytes stand in the bundle.
+#![tactic(auto)]
 
 // Bytes that are no bundle.
 mod unopened;

@@ -1,5 +1,6 @@
 // Items, of which what is printed about an answer consists: a name and values in decimal, one item a line
 // (crates/about/src/lib.rt lists them).
+#![tactic(auto)]
 
 // A name and values on a line.
 pub mod items;

@@ -13,7 +13,7 @@ use v8::signed::BIAS;
 
 // A row along an edge: whether members are left after narrowing, the row then, whether the slot breaks a
 // condition, and the row after the slot.
-#[derive(Drop)]
+#[derive(Clone, Copy)]
 pub struct OnWay {
     pub left: bool,
     pub handed: Row,

@@ -1,5 +1,6 @@
 // What the refusal of a word is about: its own conditions, its edges and the rows along them. All is found by
 // the functions that the check itself calls.
+#![tactic(auto)]
 
 // The rows of words, and what does not fit them.
 mod arriving;

@@ -1,5 +1,6 @@
 // Accesses to memory: what one needs of a field, and where it lies. The machine and the check rest on
 // these alike. (Document 01, refusals 7, 8, 10 and 103; document 02, request 7.)
+#![tactic(auto)]
 
 // What an access needs of a field.
 mod serve;
@@ -12,7 +13,7 @@ use v8::ByteOffset;
 
 // Where an access lies: at an offset of a region, in a field that allows it; at a scratch word of the
 // frame; or nowhere.
-#[derive(Drop)]
+#[derive(Clone, Copy)]
 pub enum Located {
     At(u8, ByteOffset),
     Scratch(u8),

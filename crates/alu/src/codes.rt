@@ -7,7 +7,7 @@ use crate::result::alu;
 use v8::AluOp;
 
 // The integer condition codes: negative, zero, overflow, carry.
-#[derive(Drop)]
+#[derive(Clone, Copy)]
 pub struct Codes {
     pub n: bool,
     pub z: bool,

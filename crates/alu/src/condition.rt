@@ -6,7 +6,7 @@ ghost use Rattle.alu.specs.Condition.{rule_holds, condition_of, cond_holds, oppo
 use crate::codes::Codes;
 
 // The eight rules of the codes, of which the sixteen conditions are these and their opposites.
-#[derive(Drop)]
+#[derive(Clone, Copy)]
 pub enum Rule {
     Never,
     Equal,
@@ -20,7 +20,7 @@ pub enum Rule {
 
 // The narrowing class of a condition: what it says of the signed number compared with another, where
 // it says anything.
-#[derive(Drop)]
+#[derive(Clone, Copy)]
 pub enum Narrowing {
     Unrelated,
     EqualTo,
@@ -32,7 +32,7 @@ pub enum Narrowing {
 }
 
 // A condition: a rule or its opposite, and the narrowing class.
-#[derive(Drop)]
+#[derive(Clone, Copy)]
 pub struct Condition {
     pub rule: Rule,
     pub negated: bool,

@@ -1,6 +1,7 @@
 // What SPARC V8 gives: the results of the arithmetic, logic and shift operations on 32-bit words,
 // the condition codes that they set, and the sixteen conditions of a branch.
 // (V8, appendices B and C; document 01, "Words we read".)
+#![tactic(auto)]
 
 // Results.
 mod result;

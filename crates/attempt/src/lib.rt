@@ -1,5 +1,6 @@
 // One attempt at the rows of a routine: those that are not given are found, as far as limits let entries
 // grow, and all are checked.
+#![tactic(auto)]
 
 // The table of rows in draft.
 mod tables;

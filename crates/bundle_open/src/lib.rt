@@ -1,5 +1,6 @@
 // A bundle opened: its policy as the adds build it, its words, and where its other parts stand.
 // (Document 01, "Bundle".)
+#![tactic(auto)]
 use bundle_layout::MOST_GIVEN;
 use policy::Policy;
 
@@ -13,7 +14,7 @@ pub use opening::open;
 // A bundle, opened: 0 and its policy, how many words it has and the words, with zeros after them, and
 // the places in its bytes where the entry row, the result entry, the words and the rows begin and the
 // rows end; or the number of the refusal, and all else is empty.
-#[derive(Drop)]
+#[derive(Clone, Copy)]
 pub struct Opened {
     pub number: u8,
     pub policy: Policy,

@@ -1,5 +1,6 @@
 // Bundles in records on standard input, each answered, or completed and answered, and held against an
 // expected answer.
+#![tactic(auto)]
 
 // One record.
 mod record;
@@ -9,7 +10,7 @@ mod report;
 pub use report::check_bundles;
 
 // What is asked of a bundle.
-#[derive(Drop)]
+#[derive(Clone, Copy)]
 pub enum Asked {
     // The answer to it as it stands.
     Answer,

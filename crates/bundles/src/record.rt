@@ -15,13 +15,13 @@ use v8::{Edition, WordIndex};
 // The longest bundle that is read: one byte more than any that is well-formed.
 const ROOM: usize = 62469;
 
-#[derive(Drop)]
+#[derive(Clone, Copy)]
 pub struct Answers {
     pub answered: Answer,
     pub expected: Answer,
 }
 
-#[derive(Drop)]
+#[derive(Clone, Copy)]
 pub enum Record {
     Held(Answers),
     // There is no such edition, the bundle is too long, or the record is cut short.
@@ -30,7 +30,7 @@ pub enum Record {
     End,
 }
 
-#[derive(Drop)]
+#[derive(Clone, Copy)]
 enum Answered {
     With(Answer),
     Bad,

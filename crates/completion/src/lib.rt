@@ -1,5 +1,6 @@
 // A bundle completed: the rows that are missing in it are found, in place, and it is answered then. A row
 // whose first byte is 0 is missing; the others stay.
+#![tactic(auto)]
 use bundle_open::open;
 use libc::STDIN_FILENO;
 use output::{print, print_line};

@@ -1,6 +1,7 @@
 // Rows in draft: found, and not yet checked. They stand in bytes, as the check takes them; a row whose
 // first byte is 0, so that r0's entry is unset, is not there. Here are their writing, and what becomes of
 // one after a word and along an edge.
+#![tactic(auto)]
 use rows::Row;
 
 // Rows written to bytes.
@@ -20,7 +21,7 @@ pub const TABLE_BYTES: usize = 59392;
 pub const TABLE_ENTRIES: usize = 4864;
 
 // A row that is carried along an edge; or, where no values are left on it, that it does not arrive.
-#[derive(Drop)]
+#[derive(Clone, Copy)]
 pub struct Carried {
     pub arrives: bool,
     pub row: Row,

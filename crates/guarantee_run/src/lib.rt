@@ -1,5 +1,6 @@
 // The call that checks a routine and then runs it, with the running guarantee as its contract.
 // (Document 01, "Demand 3, the running guarantee".)
+#![tactic(auto)]
 ghost use Rattle.std.specs.Prelude.{◌≡◌};
 ghost use Rattle.guarantee_run.specs.Checked.{checked_left, checked_run_of, HoldsTo};
 
@@ -14,7 +15,7 @@ use v8::Edition;
 use v8::numbers::ACCEPTED;
 
 // What the check answers, and what the run gives; where the check refuses, nothing is run.
-#[derive(Drop)]
+#[derive(Clone, Copy)]
 pub struct CheckedRun {
     pub answer: Answer,
     pub outcome: Outcome,

@@ -1,8 +1,9 @@
 // Words spelled in hexadecimal, for the programs that read them.
+#![tactic(auto)]
 ghost use Rattle.std.specs.Prelude.{◌≤◌, length};
 
 // A word, or none where a digit is not hexadecimal.
-#[derive(Drop)]
+#[derive(Clone, Copy)]
 pub enum Digits {
     Word(u32),
     Wrong,

@@ -1,4 +1,5 @@
 // Joins: the least entry that two entries fit, and the least note.
+#![tactic(auto)]
 
 // The least set that two sets of numbers lie in.
 mod numbers;

@@ -6,6 +6,7 @@
 // INDEX is decimal and WORD hexadecimal. Then comes a letter for each of r0 to r31: `.` not reached, `n`
 // number, `a` address, `z` address or null, `r` return, `-` unset. A bundle that is refused has one line
 // instead: number, word and register, as the bundle program prints them. (Document 02, request 2.)
+#![tactic(auto)]
 
 // The listing of a bundle's routine.
 mod listing;

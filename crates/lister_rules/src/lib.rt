@@ -1,5 +1,6 @@
 // The rules of the listing of kinds: a table of marks, what each word sends where, and how the table is
 // raised by it. (Document 02, request 2.)
+#![tactic(auto)]
 
 // A table of marks.
 pub mod table;

@@ -8,7 +8,7 @@ use v8::{Edition, Instruction, Reading, read_word};
 use writer::{Writing, write_instruction};
 
 // What a line shows.
-#[derive(Drop)]
+#[derive(Clone, Copy)]
 pub enum Verdict {
     // A word of the subset, read as the text says and written back.
     Kept,

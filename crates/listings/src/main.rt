@@ -4,6 +4,7 @@
 // `12480004 V9 bne,pt %icc,.+16`, and the older one refuses with 2; or a word that both refuse, with the
 // number, as `c43a4000 !2 std %g2,[%o1]`, or 24 if it is privileged. Prints each line that is wrong,
 // then counts.
+#![tactic(auto)]
 mod line;
 mod report;
 mod text;

@@ -6,7 +6,7 @@ use crate::line::{Verdict, judge};
 use output::{print, print_number, print_wrong};
 
 // How many lines showed what.
-#[derive(Drop)]
+#[derive(Clone, Copy)]
 struct Tally {
     lines: u64,
     kept: u64,

@@ -1,4 +1,5 @@
 // An access to the place where it lies: what a step asks of the lent memory.
+#![tactic(auto)]
 ghost use Rattle.std.specs.Prelude.{◌≡◌, ◌+◌, ◌≤◌, length};
 ghost use Rattle.policy.specs.Policy.{fields_from};
 ghost use Rattle.memory.specs.Place.{part_start, scratch_place};
@@ -20,7 +21,7 @@ use v8::numbers::{NO_FIELD, UNSET_READ};
 use v8::{Access, ByteOffset};
 
 // What an access came to: it was done, or the fault that it met.
-#[derive(Drop)]
+#[derive(Clone, Copy)]
 pub enum Moved {
     Done,
     Missed(u8),

@@ -1,5 +1,6 @@
 // The run from a state, step after step, with its allowance, over lent arrays. (Document 01, "Machine
 // run".)
+#![tactic(auto)]
 ghost use Rattle.std.specs.Prelude.{◌≡◌, ◌≤◌, length};
 ghost use Rattle.v8.specs.Numbers.{most_words};
 ghost use Rattle.step.specs.Control.{go_to};
@@ -19,7 +20,7 @@ use v8::numbers::{MOST_WORDS, NO_WORD};
 use v8::{Edition, WordIndex};
 
 // How a run ends.
-#[derive(Drop)]
+#[derive(Clone, Copy)]
 pub enum End {
     Returned,
     Spent,
@@ -29,7 +30,7 @@ pub enum End {
 
 // What a run gives: how it ended, the steps run, and the registers and codes with their marks, the
 // marks of scratch words too.
-#[derive(Drop)]
+#[derive(Clone, Copy)]
 pub struct Outcome {
     pub end: End,
     pub steps: u64,
@@ -37,7 +38,7 @@ pub struct Outcome {
 }
 
 // What the steps of a run give beside what they leave in the lent arrays.
-#[derive(Drop)]
+#[derive(Clone, Copy)]
 pub struct Ended {
     pub end: End,
     pub steps: u64,

@@ -1,5 +1,6 @@
 // Marks: what a listing of kinds says of a register at a word, and what an instruction does to the
 // marks of all 32. (Document 02, request 2.)
+#![tactic(auto)]
 
 // Marks, and two of them meeting.
 pub mod kinds;

@@ -1,6 +1,7 @@
 // The lent memory: big-endian loads and stores, in a slice of bytes or in a region's part of it.
 // Everything above rests on the definitions and laws in specs/, never on the code here. (V8,
 // appendix B, load and store integer instructions; document 01, the machine's run.)
+#![tactic(auto)]
 
 // Numbers in a slice of bytes.
 mod reading;

@@ -1,5 +1,6 @@
 // Rows merged: what a word hands on is taken up by the row of another. An entry that grows on a way back is
 // widened, so that it stops growing.
+#![tactic(auto)]
 
 // An entry that grows on a way back.
 mod widening;

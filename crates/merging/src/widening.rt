@@ -27,14 +27,14 @@ const HIGHEST: u32 = 4294967295;
 const LAST: u64 = HIGHEST as u64;
 
 // How an entry was widened, and whether a number compared with bounds it.
-#[derive(Drop)]
+#[derive(Clone, Copy)]
 pub struct Widened {
     pub entry: Entry,
     pub bounded: bool,
 }
 
 // Where an end goes that moved, and whether a number compared with bounds it.
-#[derive(Drop)]
+#[derive(Clone, Copy)]
 struct Rest {
     at: u64,
     bounded: bool,
@@ -42,7 +42,7 @@ struct Rest {
 
 // The words of a loop, from the first up to one that is not among them, and whether the numbers that they
 // compare with are asked for.
-#[derive(Drop)]
+#[derive(Clone, Copy)]
 struct Loop {
     first: usize,
     end: usize,
@@ -50,7 +50,7 @@ struct Loop {
 }
 
 // An end that moves up: it stands at `end`, has moved by `moved` and may go to `most`, in steps.
-#[derive(Drop)]
+#[derive(Clone, Copy)]
 struct Climb {
     end: u64,
     moved: u64,

@@ -1,4 +1,5 @@
 // What later words read of a row, and rows without what none reads.
+#![tactic(auto)]
 
 // What is read from a word on.
 mod reading;

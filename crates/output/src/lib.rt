@@ -1,4 +1,5 @@
 // Text and numbers on standard output, for the programs.
+#![tactic(auto)]
 ghost use Rattle.io.specs.Counts.{IsPrefixLen};
 
 use libc::STDOUT_FILENO;

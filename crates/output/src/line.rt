@@ -7,7 +7,7 @@ const SPACE: u8 = 32;
 const NEWLINE: u8 = 10;
 
 // A line: the first `count` bytes of the text.
-#[derive(Drop)]
+#[derive(Clone, Copy)]
 pub struct Line {
     pub text: [u8; 64],
     pub count: usize,

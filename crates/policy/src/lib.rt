@@ -1,5 +1,6 @@
 // The policy: regions of memory and their fields, the rules they obey, and the three operations that
 // build one. (Document 01, "Policy".)
+#![tactic(auto)]
 use v8::ByteOffset;
 
 // The elements' widths and ranges.
@@ -13,7 +14,7 @@ pub use form::{elements_end, field_in};
 
 // A field of a region: `count` elements that begin `offset` bytes after the region's start.
 // lo and hi are signed numbers in excess form, 2^31 more than the number.
-#[derive(Drop)]
+#[derive(Clone, Copy)]
 pub struct Field {
     pub element: u8,
     pub permission: u8,
@@ -25,7 +26,7 @@ pub struct Field {
 }
 
 // The regions of a policy: how many there are, and of each its size in bytes and how many fields it has.
-#[derive(Drop)]
+#[derive(Clone, Copy)]
 pub struct Regions {
     pub count: u8,
     pub sizes: [u16; 8],
@@ -33,7 +34,7 @@ pub struct Regions {
 }
 
 // Where fields lie and how they may be accessed, by place: offsets are in bytes, counts in elements.
-#[derive(Drop)]
+#[derive(Clone, Copy)]
 pub struct Fields {
     pub elements: [u8; 128],
     pub permissions: [u8; 128],
@@ -42,7 +43,7 @@ pub struct Fields {
 }
 
 // What the elements of fields hold, by place.
-#[derive(Drop)]
+#[derive(Clone, Copy)]
 pub struct Values {
     pub targets: [u8; 128],
     pub lows: [u32; 128],
@@ -51,7 +52,7 @@ pub struct Values {
 
 // A policy of at most 8 regions of at most 16 fields, in parts: field k of region r stands at place
 // 16 r + k of each array of fields and values. Places that are not in use mean nothing.
-#[derive(Drop)]
+#[derive(Clone, Copy)]
 pub struct Policy {
     pub regions: Regions,
     pub fields: Fields,
@@ -59,7 +60,7 @@ pub struct Policy {
 }
 
 // What an add gives: the next policy and 0, or the policy given and the number of the refusal.
-#[derive(Drop)]
+#[derive(Clone, Copy)]
 pub struct Built {
     pub policy: Policy,
     pub number: u8,

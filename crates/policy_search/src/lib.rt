@@ -1,4 +1,5 @@
 // The search for the field of a region that holds some bytes (document 02, request 3; specs/Find.antt).
+#![tactic(auto)]
 ghost use Rattle.std.specs.Prelude.{◌≡◌, ◌+◌, ◌-◌, ◌≤◌, ◌<◌};
 ghost use Rattle.policy_search.specs.Find.{search_in, search_of};
 
@@ -7,14 +8,14 @@ use v8::ByteOffset;
 use v8::numbers::{ACCEPTED, BAD_POLICY};
 
 // What is found: the place of the field, or that no field holds the bytes.
-#[derive(Drop)]
+#[derive(Clone, Copy)]
 pub enum Found {
     At(usize),
     Nothing,
 }
 
 // What a search gives: what is found, and how many fields were looked at.
-#[derive(Drop)]
+#[derive(Clone, Copy)]
 pub struct Search {
     pub found: Found,
     pub looked: usize,
@@ -22,7 +23,7 @@ pub struct Search {
 
 // What a search in a policy handed in gives: 0 and what the search gives; or the number of the refusal,
 // with nothing found and no field looked at.
-#[derive(Drop)]
+#[derive(Clone, Copy)]
 pub struct FieldSearch {
     pub number: u8,
     pub found: Found,

@@ -1,7 +1,7 @@
 // The edition that a number of a record tells.
 use v8::Edition;
 
-#[derive(Drop)]
+#[derive(Clone, Copy)]
 pub enum Told {
     As(Edition),
     // The number is neither 8 nor 9.

@@ -1,5 +1,6 @@
 // Records on standard input, and what programs read of one: how many there are of something, the
 // edition, and a policy.
+#![tactic(auto)]
 
 // The reading of records.
 pub mod reading;

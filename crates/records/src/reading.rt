@@ -7,7 +7,7 @@ use memory::load;
 use v8::LoadOp;
 
 // Whether there is a record.
-#[derive(Drop)]
+#[derive(Clone, Copy)]
 pub enum Found {
     Whole,
     // The record is cut short, or it is too long.
@@ -17,7 +17,7 @@ pub enum Found {
 }
 
 // The numbers of a record; those that it does not have are 0.
-#[derive(Drop)]
+#[derive(Clone, Copy)]
 pub struct Record {
     pub numbers: [u32; MOST_NUMBERS],
     pub found: Found,

@@ -1,5 +1,6 @@
 // What the bundle programs say: the line of the answer to a bundle, on a terminal of each edition.
 // (Document 01, "Bundle".)
+#![tactic(auto)]
 ghost use Rattle.bundle.specs.Bundle.{bundle_answer};
 ghost use Rattle.reply.specs.Reply.{LineFor};
 

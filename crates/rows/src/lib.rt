@@ -1,5 +1,6 @@
 // Rows: what each register holds at a word, read from bytes; their form, and what fits. (Document 01,
 // "Rows".)
+#![tactic(auto)]
 use crate::geometry::ENTRIES;
 use sets::NumberSet;
 
@@ -27,7 +28,7 @@ pub use registers::{entry_at, row_with};
 // What a register holds, by its kind: 0 unset; 1 a number of the set; 2 the address of the region's
 // start plus an offset of the set; 3 the address of the region's start, or null; 4 the return
 // address; 5 the frame address.
-#[derive(Drop)]
+#[derive(Clone, Copy)]
 pub struct Entry {
     pub kind: u8,
     pub region: u8,
@@ -36,7 +37,7 @@ pub struct Entry {
 
 // What is known of the condition codes, by its kind: 0 unset; 1 set; 2 those that SUBcc gives for the
 // register's present value and the number, which stands in excess form.
-#[derive(Drop)]
+#[derive(Clone, Copy)]
 pub struct Note {
     pub kind: u8,
     pub register: u8,
@@ -44,7 +45,7 @@ pub struct Note {
 }
 
 // The entries of r0 to r31 and of the six scratch words, and the note.
-#[derive(Drop)]
+#[derive(Clone, Copy)]
 pub struct Row {
     pub entries: [Entry; ENTRIES],
     pub note: Note,
@@ -52,7 +53,7 @@ pub struct Row {
 
 // The lowest place of a row that has a flaw, by the number that names it in an answer: the register's,
 // the note's or the scratch word's; or that no place has one.
-#[derive(Drop)]
+#[derive(Clone, Copy)]
 pub enum Flaw {
     None,
     At(u8),

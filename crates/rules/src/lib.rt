@@ -1,5 +1,6 @@
 // What each word does to a row, the conditions that it may break, and what a branch narrows. (Document
 // 01, "What each word does to a row" and "One word's conditions".)
+#![tactic(auto)]
 use rows::{Entry, Note};
 
 // What an instruction makes of its operands.
@@ -23,7 +24,7 @@ pub use operand::operands_of;
 pub use results::is_sub;
 
 // The operands of a word: the registers that it names, and their entries.
-#[derive(Drop)]
+#[derive(Clone, Copy)]
 pub struct Operands {
     pub rs1: u8,
     pub first: Entry,
@@ -32,7 +33,7 @@ pub struct Operands {
 }
 
 // What an instruction makes of its operands: an entry, or the number of the condition that is broken.
-#[derive(Drop)]
+#[derive(Clone, Copy)]
 pub enum Result {
     Gives(Entry),
     Fails(u8),
@@ -40,7 +41,7 @@ pub enum Result {
 
 // Where an access lies: the place of its field in the policy, the scratch word that it is of, or the
 // number of the condition that is broken and the register named.
-#[derive(Drop)]
+#[derive(Clone, Copy)]
 pub enum Reach {
     Inside(usize),
     Scratch(u8),
@@ -49,7 +50,7 @@ pub enum Reach {
 
 // What a word does to a row: it writes an entry, a register's or a scratch word's, and leaves a note;
 // it keeps the row; or it breaks a condition, given by its number and the register named.
-#[derive(Drop)]
+#[derive(Clone, Copy)]
 pub enum Change {
     Writes(u8, Entry, Note),
     Keeps,
@@ -57,7 +58,7 @@ pub enum Change {
 }
 
 // What a comparison leaves of an entry.
-#[derive(Drop)]
+#[derive(Clone, Copy)]
 pub enum EntryLeft {
     Left(Entry),
     Nothing,

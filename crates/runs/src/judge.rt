@@ -15,7 +15,7 @@ use step::Registers;
 use v8::Edition;
 
 // What a run shows.
-#[derive(Drop)]
+#[derive(Clone, Copy)]
 pub enum Verdict {
     // The machine gives the same.
     Same,

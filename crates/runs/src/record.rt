@@ -63,7 +63,7 @@ const MOST_FIELDS: u32 = 128;
 pub const MOST_BYTES: usize = 2168;
 
 // Some bytes of memory with zeros after them.
-#[derive(Drop)]
+#[derive(Clone, Copy)]
 pub struct Bytes {
     pub bytes: [u8; MOST_BYTES],
     pub whole: bool,

@@ -8,7 +8,7 @@ use records::MOST_NUMBERS;
 use v8::ByteOffset;
 
 // What a list shows.
-#[derive(Drop)]
+#[derive(Clone, Copy)]
 pub enum Verdict {
     // Each search gives the same.
     Same,

@@ -1,5 +1,6 @@
 // One step of the machine: V8's effect of each instruction of the subset on registers and codes, and
 // which access to the lent memory it makes. (Document 01, "Machine run".)
+#![tactic(auto)]
 
 // Registers in lent arrays.
 pub mod regs;
@@ -24,7 +25,7 @@ pub const MARKS: usize = 38;
 pub const FIRST_SCRATCH: usize = 32;
 
 // The condition codes, marked set or unset.
-#[derive(Drop)]
+#[derive(Clone, Copy)]
 pub struct MarkedCodes {
     pub value: Codes,
     pub set: bool,
@@ -32,7 +33,7 @@ pub struct MarkedCodes {
 
 // Registers r0 to r31 and the condition codes, each marked set or unset, with the marks of the six
 // scratch words.
-#[derive(Drop)]
+#[derive(Clone, Copy)]
 pub struct Registers {
     pub values: [u32; 32],
     pub marks: [bool; MARKS],
@@ -40,7 +41,7 @@ pub struct Registers {
 }
 
 // What is read of a register, with its mark.
-#[derive(Drop)]
+#[derive(Clone, Copy)]
 pub struct Marked {
     pub value: u32,
     pub set: bool,
@@ -48,21 +49,21 @@ pub struct Marked {
 
 // What follows the next word: the word after it; or, where the next word is a slot, the place that
 // its transfer goes to.
-#[derive(Drop)]
+#[derive(Clone, Copy)]
 pub enum Pending {
     Nothing,
     Due(Destination),
 }
 
 // Where control stands: the next word, and what follows it.
-#[derive(Drop)]
+#[derive(Clone, Copy)]
 pub struct Control {
     pub at: WordIndex,
     pub pending: Pending,
 }
 
 // Where an access aims: at an address, or the fault that it meets first.
-#[derive(Drop)]
+#[derive(Clone, Copy)]
 pub enum Aim {
     Address(u32),
     Missed(u8),
@@ -70,7 +71,7 @@ pub enum Aim {
 
 // How a step went: on to the next word, returned, or stopped at a fault; or it is an access that moves
 // a register at an address, and goes on once that is done.
-#[derive(Drop)]
+#[derive(Clone, Copy)]
 pub enum Progress {
     Goes,
     Returned,
@@ -80,7 +81,7 @@ pub enum Progress {
 
 // What a step gives beside what it leaves in the lent arrays: how it went, where control stands then
 // if it goes, and the condition codes.
-#[derive(Drop)]
+#[derive(Clone, Copy)]
 pub struct Went {
     pub progress: Progress,
     pub control: Control,

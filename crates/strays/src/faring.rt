@@ -27,7 +27,7 @@ const REFUSED: u8 = 2;
 pub const NOT_TRIED: u8 = 3;
 
 // A row made by a word, if the word is not refused.
-#[derive(Drop)]
+#[derive(Clone, Copy)]
 struct Made {
     made: bool,
     row: Row,

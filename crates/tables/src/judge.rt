@@ -14,7 +14,7 @@ use v8::Edition;
 use v8::numbers::ACCEPTED;
 
 // What a case shows.
-#[derive(Drop)]
+#[derive(Clone, Copy)]
 pub enum Verdict {
     // The listing is the same.
     Same,

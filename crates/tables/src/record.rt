@@ -46,7 +46,7 @@ const MOST_FIELDS: u32 = 128;
 pub const MOST_BYTES: usize = 4104;
 
 // Some bytes with zeros after them.
-#[derive(Drop)]
+#[derive(Clone, Copy)]
 pub struct Bytes {
     pub bytes: [u8; MOST_BYTES],
     pub whole: bool,

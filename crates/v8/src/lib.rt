@@ -1,6 +1,7 @@
 // SPARC words: the instructions of our subset, V8's and (request 5) V9's predicted branch, and words
 // read as such. The lowest crate: everything above it speaks of these types and rests on the
 // definitions in specs/, never on the code here. (Document 01, "Words we read".)
+#![tactic(auto)]
 
 // The numbers of document 01.
 pub mod numbers;
@@ -15,22 +16,22 @@ pub use read::read_word;
 
 // Which edition of the SPARC Architecture Manual a terminal's processor follows: Version 8, or (request 5)
 // Version 9, run with 32-bit address masking.
-#[derive(Drop)]
+#[derive(Clone, Copy)]
 pub enum Edition {
     V8,
     V9,
 }
 
 // A count of words: a word's index in the code, or a branch's signed distance (sign-extended).
-#[derive(Drop)]
+#[derive(Clone, Copy)]
 pub struct WordIndex(pub u32);
 
 // A count of bytes: an offset in memory, or a signed distance there (sign-extended).
-#[derive(Drop)]
+#[derive(Clone, Copy)]
 pub struct ByteOffset(pub u32);
 
 // Arithmetic and logic, in the order of the opcodes 00 to 07.
-#[derive(Drop)]
+#[derive(Clone, Copy)]
 pub enum AluOp {
     Add,
     And,
@@ -43,7 +44,7 @@ pub enum AluOp {
 }
 
 // Shifts, in the order of the opcodes 25 to 27.
-#[derive(Drop)]
+#[derive(Clone, Copy)]
 pub enum ShiftOp {
     Sll,
     Srl,
@@ -51,7 +52,7 @@ pub enum ShiftOp {
 }
 
 // Loads: a word, an unsigned byte or half, a signed byte or half.
-#[derive(Drop)]
+#[derive(Clone, Copy)]
 pub enum LoadOp {
     Ld,
     Ldub,
@@ -61,7 +62,7 @@ pub enum LoadOp {
 }
 
 // Stores: a word, a byte, a half.
-#[derive(Drop)]
+#[derive(Clone, Copy)]
 pub enum StoreOp {
     St,
     Stb,
@@ -70,28 +71,28 @@ pub enum StoreOp {
 
 // The second operand: register rs2, or a signed 13-bit number, sign-extended to 32 bits.
 // As a shift's count: register rs2, or a number from 0 to 31.
-#[derive(Drop)]
+#[derive(Clone, Copy)]
 pub enum Operand {
     Reg(u8),
     Imm(u32),
 }
 
 // The second part of an address, added to rs1: register rs2, or a signed 13-bit count of bytes.
-#[derive(Drop)]
+#[derive(Clone, Copy)]
 pub enum Displacement {
     Index(u8),
     Bytes(ByteOffset),
 }
 
 // An access to memory: a load or a store.
-#[derive(Drop)]
+#[derive(Clone, Copy)]
 pub enum Access {
     Loads(LoadOp),
     Stores(StoreOp),
 }
 
 // The instructions that are no transfer: the word after them is the next.
-#[derive(Drop)]
+#[derive(Clone, Copy)]
 pub enum Operation {
     // rd becomes imm22 times 1024.
     Sethi {
@@ -122,7 +123,7 @@ pub enum Operation {
 }
 
 // How a branch is written: without prediction, or (request 5) with it, hinting whether it will be taken.
-#[derive(Drop)]
+#[derive(Clone, Copy)]
 pub enum BranchForm {
     Unpredicted,
     Predicted(bool),
@@ -130,7 +131,7 @@ pub enum BranchForm {
 
 // A branch on the condition codes, by its distance in words where the condition holds. Only reading and
 // writing look at its form.
-#[derive(Drop)]
+#[derive(Clone, Copy)]
 pub struct Bicc {
     pub annul: bool,
     pub cond: u8,
@@ -140,7 +141,7 @@ pub struct Bicc {
 
 // The instructions of the subset, by how control goes on from them: to the next word; over the slot,
 // taken or not; over the slot to the caller.
-#[derive(Drop)]
+#[derive(Clone, Copy)]
 pub enum Instruction {
     Plain(Operation),
     Branch(Bicc),
@@ -149,7 +150,7 @@ pub enum Instruction {
 }
 
 // What a word is read as: an instruction, or the number of the refusal.
-#[derive(Drop)]
+#[derive(Clone, Copy)]
 pub enum Reading {
     Read(Instruction),
     Unread(u8),

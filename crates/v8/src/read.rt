@@ -17,7 +17,7 @@ use crate::{
 pub const LEAF_RETURN: u32 = 0x81C3_E008;
 
 // A second operand, or none where bits that must be zero are not.
-#[derive(Drop)]
+#[derive(Clone, Copy)]
 pub enum OperandReading {
     Second(Operand),
     Reserved,

@@ -14,7 +14,7 @@ use step::{MARKS, MarkedCodes, Registers};
 // The return address of every case.
 pub const RETURNS: u32 = 65536;
 
-#[derive(Drop)]
+#[derive(Clone, Copy)]
 pub struct Case {
     pub fields: [u32; 25],
     pub well_formed: bool,

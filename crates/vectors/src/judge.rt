@@ -11,7 +11,7 @@ use step::Registers;
 use v8::Edition;
 
 // What a case shows.
-#[derive(Drop)]
+#[derive(Clone, Copy)]
 pub enum Verdict {
     // The machine leaves what the emulator left.
     Kept,

@@ -1,5 +1,6 @@
 // SPARC instructions of the subset written as 32-bit words. The laws that reading and writing undo each other
 // stand in specs/Laws.antt. (Document 01, "Write an instruction".)
+#![tactic(auto)]
 ghost use Rattle.std.specs.Prelude.{◌≡◌, ◌+◌, ◌<◌, ◌≤◌, ◌^◌};
 ghost use Rattle.writer.specs.Write.{write_number, writing_of, signed_bits, five_bits, operand_bits, count_bits, displacement_bits, alu_code, alu_code_cc, shift_code, load_code, store_code, access_code, packed, sethi_word, predicted_bits, branch_bits, branch_word, operation_word, Fits};
 
@@ -32,14 +33,14 @@ const HINT_BIT: u32 = 0x0008_0000;
 const I_BIT: u32 = 0x2000;
 
 // What an instruction is written as. Unwritable is refusal 17.
-#[derive(Drop)]
+#[derive(Clone, Copy)]
 pub enum Writing {
     Written(u32),
     Unwritable,
 }
 
 // A part of a word, or a number that does not fit there.
-#[derive(Drop)]
+#[derive(Clone, Copy)]
 pub enum Part {
     Bits(u32),
     OutOfRange,
