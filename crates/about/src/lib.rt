@@ -48,8 +48,7 @@
 // What an answer is about, by its number.
 mod refusals;
 
-use libc::STDIN_FILENO;
-use output::print_line;
+use output::{STDIN_FILENO, print_line};
 use refusals::show_answer;
 use reply::{ROOM, reply};
 use v8::Edition;

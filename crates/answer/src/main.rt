@@ -1,6 +1,7 @@
 // The bundle program of the older terminal, whose processor follows SPARC Version 8: reads one
 // bundle from standard input and prints the line that answers it. (Document 01, "Bundle".)
 #![tactic(auto)]
+
 use reply::serve;
 use v8::Edition;
 

@@ -1,5 +1,6 @@
 // The answer to a bundle: its refusal, that of an add, or the check's answer (specs/Bundle.antt).
 #![tactic(auto)]
+
 ghost use Rattle.std.specs.Prelude.{◌≡◌, true, false, length};
 ghost use Rattle.passes.specs.Answer.{refuse};
 ghost use Rattle.bundle_layout.specs.Layout.{narrow};

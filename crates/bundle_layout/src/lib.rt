@@ -1,5 +1,6 @@
 // Where the parts of a bundle stand, by its version, and whether bytes are a bundle (specs/Layout.antt).
 #![tactic(auto)]
+
 ghost use Rattle.std.specs.Prelude.{◌≡◌, ◌*◌, ◌≤◌, ◌<◌};
 ghost use Rattle.v8.specs.Search.{all};
 ghost use Rattle.bundle_layout.specs.Layout.{narrow, most_bytes, rows_bytes, region_count, word_count, field_count, region_zero, fields_before, field_total, field_place, field_zero, entry_place, length_given, head_ok, bundle_ok};

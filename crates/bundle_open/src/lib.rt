@@ -1,6 +1,7 @@
 // A bundle opened: its policy as the adds build it, its words, and where its other parts stand.
 // (Document 01, "Bundle".)
 #![tactic(auto)]
+
 use bundle_layout::MOST_GIVEN;
 use policy::Policy;
 

@@ -1,5 +1,6 @@
 // Rows of version 1, put into the form of version 2 (specs/Wide.antt).
 #![tactic(auto)]
+
 ghost use Rattle.std.specs.Prelude.{◌≡◌, ◌++◌, ◌+◌, ◌*◌, ◌≤◌, length, take, replicate};
 ghost use Rattle.rows.specs.Geometry.{row_bytes};
 ghost use Rattle.bundle_layout.specs.Layout.{most_given, narrow_row_bytes};

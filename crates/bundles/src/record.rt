@@ -7,7 +7,7 @@
 ghost use Rattle.std.specs.Prelude.{◌<◌};
 
 use crate::Asked;
-use libc::STDIN_FILENO;
+use output::STDIN_FILENO;
 use passes::Answer;
 use records::edition::{Told, edition_of};
 use v8::{Edition, WordIndex};

@@ -1,9 +1,9 @@
 // A bundle completed: the rows that are missing in it are found, in place, and it is answered then. A row
 // whose first byte is 0 is missing; the others stay.
 #![tactic(auto)]
+
 use bundle_open::open;
-use libc::STDIN_FILENO;
-use output::{print, print_line};
+use output::{STDIN_FILENO, print, print_line};
 use reply::{ROOM, answer_line};
 use v8::Edition;
 use v8::numbers::ACCEPTED;

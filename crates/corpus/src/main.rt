@@ -2,6 +2,7 @@
 // 01 gives, and those of the examples. Standard input has a record for each bundle
 // (crates/bundles/src/record.rt). Prints each bundle that is answered otherwise, then counts.
 #![tactic(auto)]
+
 use bundles::{Asked, check_bundles};
 
 fn main() {

@@ -2,6 +2,7 @@
 // first byte is 0, so that r0's entry is unset, is not there. Here are their writing, and what becomes of
 // one after a word and along an edge.
 #![tactic(auto)]
+
 use rows::Row;
 
 // Rows written to bytes.

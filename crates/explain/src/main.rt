@@ -1,6 +1,7 @@
 // Explains the answer to a bundle on the older terminal, whose processor follows SPARC Version 8:
 // prints the line that answers it, and then what the answer is about (crates/about/src/lib.rt).
 #![tactic(auto)]
+
 use about::explain;
 use v8::Edition;
 

@@ -1,6 +1,7 @@
 // Where control may go from a word, and what follows for a routine all of whose words pass: an edge of a
 // word that is examined leads to another. (Document 01, "3 flow"; specs/Flow.antt, specs/Laws.antt.)
 #![tactic(auto)]
+
 ghost use Rattle.std.specs.Prelude.{◌≡◌, ◌<◌, ltb};
 ghost use Rattle.v8.specs.Numbers.{most_words};
 ghost use Rattle.v8.specs.declared.Reading.TheVariants.{Read};

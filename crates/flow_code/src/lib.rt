@@ -1,5 +1,6 @@
 // The words of a routine as they are read, and which of them are examined (specs/Readings.antt).
 #![tactic(auto)]
+
 ghost use Rattle.std.specs.Prelude.{◌≡◌, ◌&&◌, ◌<◌, ◌≤◌, length};
 ghost use Rattle.v8.specs.Numbers.{most_words};
 ghost use Rattle.flow_code.specs.Readings.{readings_of, reading_at, transfers, ends_at, lands_on};

@@ -1,6 +1,7 @@
 // The register that an instruction writes, and those that it must leave to the caller
 // (specs/Written.antt).
 #![tactic(auto)]
+
 ghost use Rattle.std.specs.Prelude.{◌≡◌};
 ghost use Rattle.flow_writes.specs.Written.{access_writes, operation_writes, register_written, written_by, is_callers};
 

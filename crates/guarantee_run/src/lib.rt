@@ -1,6 +1,7 @@
 // The call that checks a routine and then runs it, with the running guarantee as its contract.
 // (Document 01, "Demand 3, the running guarantee".)
 #![tactic(auto)]
+
 ghost use Rattle.std.specs.Prelude.{◌≡◌};
 ghost use Rattle.guarantee_run.specs.Checked.{checked_left, checked_run_of, HoldsTo};
 

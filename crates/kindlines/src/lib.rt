@@ -15,12 +15,11 @@ mod text;
 // The lines that are printed.
 mod lines;
 
-use libc::STDIN_FILENO;
 use lines::show_listing;
 use lister_rules::TABLE_MARKS;
 use listing::list_bundle;
 use marks::kinds::NOT_REACHED;
-use output::print_line;
+use output::{STDIN_FILENO, print_line};
 use reply::{ROOM, answer_line};
 use v8::Edition;
 use v8::numbers::ACCEPTED;

@@ -4,9 +4,8 @@ ghost use Rattle.v8.specs.Numbers.{most_words};
 
 use crate::text::marks_text;
 use bundle_open::open;
-use libc::STDOUT_FILENO;
 use lister_rules::TABLE_MARKS;
-use output::{print, print_number};
+use output::{STDOUT_FILENO, print, print_number};
 use v8::numbers::MOST_WORDS;
 
 // The line of a word.

@@ -2,7 +2,7 @@
 ghost use Rattle.std.specs.Prelude.{◌≤◌, length};
 
 use crate::text::put_instruction;
-use hex::{Digits, word_of};
+use hex_words::{Digits, word_of};
 use v8::numbers::{ACCEPTED, NOT_READ, PRIVILEGED};
 use v8::{Edition, Instruction, Reading, read_word};
 use writer::{Writing, write_instruction};

@@ -5,16 +5,17 @@
 // number, as `c43a4000 !2 std %g2,[%o1]`, or 24 if it is privileged. Prints each line that is wrong,
 // then counts.
 #![tactic(auto)]
+
 mod line;
 mod report;
 mod text;
 
 fn main() {
     let mut input = io::large_buffer();
-    let n = io::read_full(libc::STDIN_FILENO, &mut input);
+    let n = io::read_full(output::STDIN_FILENO, &mut input);
     if n < 65536 {
         report::check_lines(&input[..n]);
     } else {
-        io::write_all(libc::STDOUT_FILENO, b"more than 65535 bytes\n");
+        io::write_all(output::STDOUT_FILENO, b"more than 65535 bytes\n");
     }
 }

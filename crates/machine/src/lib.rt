@@ -1,5 +1,6 @@
 // The machine: the run of a routine, what refuses it and how it begins. (Document 01, "Machine run".)
 #![tactic(auto)]
+
 ghost use Rattle.std.specs.Prelude.{◌≡◌};
 ghost use Rattle.machine.specs.Run.{end_number, refusal_of, run_of};
 ghost use Rattle.machine_steps.specs.Ended.{left_by};

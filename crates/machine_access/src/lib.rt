@@ -1,5 +1,6 @@
 // An access to the place where it lies: what a step asks of the lent memory.
 #![tactic(auto)]
+
 ghost use Rattle.std.specs.Prelude.{◌≡◌, ◌+◌, ◌≤◌, length};
 ghost use Rattle.policy.specs.Policy.{fields_from};
 ghost use Rattle.memory.specs.Place.{part_start, scratch_place};

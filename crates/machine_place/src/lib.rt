@@ -1,6 +1,7 @@
 // Whether the host has laid regions, return address, frame and memory as document 01 says, and
 // document 02, request 7 (specs/Placement.antt).
 #![tactic(auto)]
+
 ghost use Rattle.std.specs.Prelude.{◌≡◌, ◌≤◌, length};
 ghost use Rattle.machine_place.specs.Placement.{base_placed, apart_from, apart_from_all, laid_in, frame_placed, placed_in};
 

@@ -1,6 +1,7 @@
 // The run from a state, step after step, with its allowance, over lent arrays. (Document 01, "Machine
 // run".)
 #![tactic(auto)]
+
 ghost use Rattle.std.specs.Prelude.{◌≡◌, ◌≤◌, length};
 ghost use Rattle.v8.specs.Numbers.{most_words};
 ghost use Rattle.step.specs.Control.{go_to};

@@ -1,13 +1,17 @@
 // Text and numbers on standard output, for the programs.
 #![tactic(auto)]
-ghost use Rattle.io.specs.Counts.{IsPrefixLen};
 
-use libc::STDOUT_FILENO;
+ghost use Rattle.io.specs.Counts.{IsPrefixLen};
 
 // A line of three numbers.
 pub mod line;
 
 pub use line::{Line, line_of};
+
+// The descriptors of standard input and output.
+pub const STDIN_FILENO: i32 = 0;
+
+pub const STDOUT_FILENO: i32 = 1;
 
 pub fn print(text: &[u8]) {
     io::write_all(STDOUT_FILENO, text);

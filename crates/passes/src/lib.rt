@@ -2,6 +2,7 @@
 // as, their flow, and the entry row. The listing of kinds shares them.
 // (Document 01, "Order of the check, and its numbers".)
 #![tactic(auto)]
+
 use v8::WordIndex;
 
 // Answers.

@@ -1,5 +1,6 @@
 // The shape of what is handed in: what 21 asks (specs/Shape.antt).
 #![tactic(auto)]
+
 ghost use Rattle.std.specs.Prelude.{◌≡◌, length};
 ghost use Rattle.passes_shape.specs.Shape.{start_ok, shape_ok};
 

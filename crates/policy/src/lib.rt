@@ -1,6 +1,7 @@
 // The policy: regions of memory and their fields, the rules they obey, and the three operations that
 // build one. (Document 01, "Policy".)
 #![tactic(auto)]
+
 use v8::ByteOffset;
 
 // The elements' widths and ranges.

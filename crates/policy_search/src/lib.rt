@@ -1,5 +1,6 @@
 // The search for the field of a region that holds some bytes (document 02, request 3; specs/Find.antt).
 #![tactic(auto)]
+
 ghost use Rattle.std.specs.Prelude.{◌≡◌, ◌+◌, ◌-◌, ◌≤◌, ◌<◌};
 ghost use Rattle.policy_search.specs.Find.{search_in, search_of};
 

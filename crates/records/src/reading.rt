@@ -2,8 +2,8 @@
 ghost use Rattle.std.specs.Prelude.{◌≤◌};
 
 use crate::MOST_NUMBERS;
-use libc::STDIN_FILENO;
 use memory::load;
+use output::STDIN_FILENO;
 use v8::LoadOp;
 
 // Whether there is a record.

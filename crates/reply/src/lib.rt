@@ -1,12 +1,12 @@
 // What the bundle programs say: the line of the answer to a bundle, on a terminal of each edition.
 // (Document 01, "Bundle".)
 #![tactic(auto)]
+
 ghost use Rattle.bundle.specs.Bundle.{bundle_answer};
 ghost use Rattle.reply.specs.Reply.{LineFor};
 
 use bundle::answer;
-use libc::STDIN_FILENO;
-use output::{Line, line_of, print_line};
+use output::{Line, STDIN_FILENO, line_of, print_line};
 use passes::Answer;
 use v8::Edition;
 

@@ -1,6 +1,7 @@
 // Rows: what each register holds at a word, read from bytes; their form, and what fits. (Document 01,
 // "Rows".)
 #![tactic(auto)]
+
 use crate::geometry::ENTRIES;
 use sets::NumberSet;
 

@@ -1,6 +1,7 @@
 // What each word does to a row, the conditions that it may break, and what a branch narrows. (Document
 // 01, "What each word does to a row" and "One word's conditions".)
 #![tactic(auto)]
+
 use rows::{Entry, Note};
 
 // What an instruction makes of its operands.

@@ -2,6 +2,7 @@
 // registers, faults and refusals, and against runs made from one of them, each for one rule. Standard
 // input has a record for each run. Prints each run that is wrong, then counts.
 #![tactic(auto)]
+
 mod judge;
 mod record;
 mod report;

@@ -2,6 +2,7 @@
 // are made for one thing each. Standard input has a record for each list of fields with the searches in
 // it. Prints each list that is wrong, then counts.
 #![tactic(auto)]
+
 mod judge;
 mod record;
 mod report;

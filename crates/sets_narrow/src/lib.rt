@@ -1,6 +1,7 @@
 // What a comparison with a number leaves of a set. (Document 01, "A branch with note 2 narrows a
 // noted number".)
 #![tactic(auto)]
+
 ghost use Rattle.std.specs.Prelude.{◌≡◌};
 ghost use Rattle.sets_narrow.specs.Narrow.{at_most, at_least, less_than, greater_than, is_member, only, without, narrow_set};
 

@@ -1,6 +1,7 @@
 // What arithmetic, logic and shifts make of sets of numbers. (Document 01, "What each word does to a
 // row", rules 3, 5 and 6.)
 #![tactic(auto)]
+
 ghost use Rattle.std.specs.Prelude.{◌≡◌, ◌*◌, ◌%◌, ◌^◌, ◌<◌, min};
 ghost use Rattle.sets_rules.specs.Rules.{within, add_sets, sub_sets, and_sets, alu_sets, shifted_up, sll_set, shifted_down, sra_set, srl_set, shift_set};
 

@@ -3,9 +3,10 @@
 // store too, or 2, 3 and 4 of loads from the first, the eighth and the last of 16 fields, and the
 // allowance as a power of ten. Prints how the run ended, the steps, and r10.
 #![tactic(auto)]
+
 use alu::Codes;
-use libc::{STDIN_FILENO, STDOUT_FILENO};
 use machine_steps::Outcome;
+use output::{STDIN_FILENO, STDOUT_FILENO};
 use policy::{Field, Policy};
 use states::end_number;
 use step::{MARKS, MarkedCodes, Registers};

@@ -1,5 +1,6 @@
 // Ends, registers and codes as data made outside gives them, for the programs that compare.
 #![tactic(auto)]
+
 ghost use Rattle.std.specs.Prelude.{◌≡◌};
 ghost use Rattle.states.specs.Told.{told_number};
 

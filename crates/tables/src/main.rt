@@ -2,6 +2,7 @@
 // that are made for one rule each. Standard input has a record for each case. Prints each case that is
 // wrong, then counts.
 #![tactic(auto)]
+
 mod judge;
 mod record;
 mod report;

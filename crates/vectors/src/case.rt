@@ -7,7 +7,7 @@
 // A place that is not needed names r0 and holds 0. Codes are NZVC, N the highest of four bits.
 ghost use Rattle.std.specs.Prelude.{◌+◌, ◌≤◌, ◌<◌, length};
 
-use hex::{Digits, word_of};
+use hex_words::{Digits, word_of};
 use states::codes_of;
 use step::{MARKS, MarkedCodes, Registers};
 

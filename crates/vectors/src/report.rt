@@ -2,8 +2,7 @@
 ghost use Rattle.std.specs.Prelude.{◌≤◌};
 
 use crate::judge::{Verdict, judge};
-use libc::STDIN_FILENO;
-use output::{print, print_number, print_wrong};
+use output::{STDIN_FILENO, print, print_number, print_wrong};
 
 // The most cases that are read.
 const MOST_CASES: u64 = 1000000;

@@ -1,6 +1,7 @@
 // SPARC instructions of the subset written as 32-bit words. The laws that reading and writing undo each other
 // stand in specs/Laws.antt. (Document 01, "Write an instruction".)
 #![tactic(auto)]
+
 ghost use Rattle.std.specs.Prelude.{◌≡◌, ◌+◌, ◌<◌, ◌≤◌, ◌^◌};
 ghost use Rattle.writer.specs.Write.{write_number, writing_of, signed_bits, five_bits, operand_bits, count_bits, displacement_bits, alu_code, alu_code_cc, shift_code, load_code, store_code, access_code, packed, sethi_word, predicted_bits, branch_bits, branch_word, operation_word, Fits};
 

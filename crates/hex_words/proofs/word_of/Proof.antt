@@ -1,8 +1,8 @@
 -- `word_of` is safe and ends. The measure is how many digits are left. Assumes nothing.
 use Prim.Native.Nat.{◌≤◌, ◌-◌}
 use borrow.Author.Rules.{rules}
-use Rattle.hex.proofs.word_of.Statement.{statement}
-use Rattle.hex.proofs.word_of.Tie as tie
+use Rattle.hex_words.proofs.word_of.Statement.{statement}
+use Rattle.hex_words.proofs.word_of.Tie as tie
 
 abbrev invariant-loop : tie.invariant-loop
 invariant-loop line w₀ i₀ w i = i ≤ 8

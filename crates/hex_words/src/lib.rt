@@ -1,5 +1,6 @@
 // Words spelled in hexadecimal, for the programs that read them.
 #![tactic(auto)]
+
 ghost use Rattle.std.specs.Prelude.{◌≤◌, length};
 
 // A word, or none where a digit is not hexadecimal.
