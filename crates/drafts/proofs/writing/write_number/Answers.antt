@@ -1,0 +1,13 @@
+-- No write changes the slice's length.
+use native.Mathlib.Omega.{arith}
+use lib.ListN.{length-set}
+use Rattle.drafts.proofs.writing.write_number.Goals as goal
+
+pub bounds-bytes-at-2 : goal.bounds-bytes-at-2
+bounds-bytes-at-2 c = simp length-set (omega arith)
+
+pub bounds-bytes-at-3 : goal.bounds-bytes-at-3
+bounds-bytes-at-3 c = simp length-set (omega arith)
+
+pub bounds-bytes-at-4 : goal.bounds-bytes-at-4
+bounds-bytes-at-4 c = simp length-set (omega arith)

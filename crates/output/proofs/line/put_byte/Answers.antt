@@ -1,0 +1,8 @@
+-- The text up to the next place is the text before with the byte after it.
+use mathlib.Core.Path.{refl}
+use Rattle.output.proofs.Pushed.{pushed}
+use Rattle.output.proofs.line.put_byte.Goals as goal
+
+pub returns : goal.returns
+returns c =
+    record { next = refl; text = pushed _ _ _ (slice-write-text c) }

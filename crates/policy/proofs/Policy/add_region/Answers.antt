@@ -1,0 +1,11 @@
+-- A policy that breaks a rule is refused with 20 and given back; one that obeys them all is handed to the add behind that test.
+use mathlib.Core.Path.{sym, ◌∙◌}
+use Rattle.policy.specs.Build.{region_number, built}
+use Rattle.policy.proofs.Policy.add_region.Goals as goal
+
+pub push_region-built-requires : goal.push_region-built-requires
+push_region-built-requires c = sym c.well_formed-2.ensures ∙ c.if-well_formed.true
+
+pub returns-else-well_formed : goal.returns-else-well_formed
+unfolding built region_number
+returns-else-well_formed c = simp (sym c.well_formed-2.ensures ∙ c.if-well_formed.false)

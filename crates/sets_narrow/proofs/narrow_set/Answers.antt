@@ -1,0 +1,23 @@
+-- Each class has its function.
+use Rattle.sets_narrow.proofs.narrow_set.Goals as goal
+
+pub returns-in-Unrelated : goal.returns-in-Unrelated
+returns-in-Unrelated c = rw c.in-Unrelated.is
+
+pub returns-in-EqualTo : goal.returns-in-EqualTo
+returns-in-EqualTo c = rw c.in-EqualTo.is c.only.ensures
+
+pub returns-in-NotEqualTo : goal.returns-in-NotEqualTo
+returns-in-NotEqualTo c = rw c.in-NotEqualTo.is c.without.ensures
+
+pub returns-in-LessThan : goal.returns-in-LessThan
+returns-in-LessThan c = rw c.in-LessThan.is c.less_than.ensures
+
+pub returns-in-AtLeast : goal.returns-in-AtLeast
+returns-in-AtLeast c = rw c.in-AtLeast.is c.at_least.ensures
+
+pub returns-in-AtMost : goal.returns-in-AtMost
+returns-in-AtMost c = rw c.in-AtMost.is c.at_most.ensures
+
+pub returns-in-GreaterThan : goal.returns-in-GreaterThan
+returns-in-GreaterThan c = rw c.in-GreaterThan.is c.greater_than.ensures
