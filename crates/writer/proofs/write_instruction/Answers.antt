@@ -5,20 +5,21 @@ use Rattle.writer.specs.Write.{write_number, writing_of}
 use Rattle.writer.proofs.write_instruction.Goals as goal
 
 -- the same writing has the same number
-with_number : (x y : Writing) → x ≡ y → (x ≡ y) × (write_number x ≡ write_number y)
-with_number x y e = (e, ap write_number e)
+same_number : {x y : Writing} → x ≡ y → write_number x ≡ write_number y
+same_number e = ap write_number e
 
 pub returns-in-Plain : goal.returns-in-Plain
 unfolding writing_of
 returns-in-Plain c =
-    record { writing = (with_number _ _ (rw c.in-Plain.is c.write_operation.ensures)).0; number = (with_number _ _ (rw c.in-Plain.is c.write_operation.ensures)).1 }
+    let e : c.write_operation.result ≡ writing_of c.args.edition c.args.x = rw c.in-Plain.is c.write_operation.ensures in
+    record { writing = e; number = same_number e }
 
 pub returns-in-Branch : goal.returns-in-Branch
 unfolding writing_of
 returns-in-Branch c =
-    record { writing = (with_number _ _ (rw c.in-Branch.is c.write_branch.ensures)).0; number = (with_number _ _ (rw c.in-Branch.is c.write_branch.ensures)).1 }
+    let e : c.write_branch.result ≡ writing_of c.args.edition c.args.x = rw c.in-Branch.is c.write_branch.ensures in
+    record { writing = e; number = same_number e }
 
 pub returns-in-Return : goal.returns-in-Return
 unfolding writing_of
-returns-in-Return c =
-    record { writing = (with_number _ _ (rw c.in-Return.is)).0; number = (with_number _ _ (rw c.in-Return.is)).1 }
+returns-in-Return c = record { writing = rw c.in-Return.is; number = rw c.in-Return.is }

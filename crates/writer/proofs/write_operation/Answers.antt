@@ -4,13 +4,13 @@ use native.Mathlib.Omega.{arith}
 use Rattle.writer.proofs.write_operation.Goals as goal
 
 pub pack-requires : goal.pack-requires
-pack-requires c = let x = c.x-in-Alu-1.given.0 in (omega arith, rw c.alu_code_cc.ensures (alu_cc_small x.0 x.1.0), rw c.operand_bits.ensures (operand_fits x.1.1.1.1.0))
+pack-requires c = (omega arith, rw c.alu_code_cc.ensures (alu_cc_small c.in-Alu.op c.in-Alu.cc), rw c.operand_bits.ensures (operand_fits c.in-Alu.operand))
 
 pub pack-requires-in-Shift : goal.pack-requires-in-Shift
-pack-requires-in-Shift c = let x = c.x-in-Shift-1.given.0 in (omega arith, rw c.shift_code.ensures (shift_small x.0), rw c.count_bits.ensures (count_fits x.1.1.1.0))
+pack-requires-in-Shift c = (omega arith, rw c.shift_code.ensures (shift_small c.in-Shift.op), rw c.count_bits.ensures (count_fits c.in-Shift.count))
 
 pub pack-requires-in-Memory : goal.pack-requires-in-Memory
-pack-requires-in-Memory c = let x = c.x-in-Memory-1.given.0 in (omega arith, rw c.access_code.ensures (access_small x.0), rw c.displacement_bits.ensures (displacement_fits x.1.1.1.0))
+pack-requires-in-Memory c = (omega arith, rw c.access_code.ensures (access_small c.in-Memory.access), rw c.displacement_bits.ensures (displacement_fits c.in-Memory.displacement))
 
 pub returns-in-Sethi : goal.returns-in-Sethi
 returns-in-Sethi c = rw c.in-Sethi.is c.write_sethi.ensures

@@ -1,5 +1,4 @@
 -- `form_fault` meets its contract. The loop's invariant: the search from the present place on gives the answer of the whole search.
-use Prim.Native.Nat.{◌-◌}
 use mathlib.Core.Bool.{not}
 use mathlib.Core.Path.{refl, sym, ap, ◌∙◌}
 use native.Mathlib.Omega.{arith}
@@ -13,12 +12,12 @@ loop-place-init c = (omega arith, refl)
 
 pub returns-then-not-formed_at : goal.returns-then-not-formed_at
 returns-then-not-formed_at c =
-    let broken = ap not (sym c.formed_at.ensures) ∙ c.if-not-formed_at.true in
+    let broken = ap not (sym c.formed_at.ensures ∙ c.if-not-formed_at.true) in
     sym (c.loop-place.invariant.1 ∙ flaw_here _ _ c.loop-place-test.true broken)
 
 pub loop-place-preserved : goal.loop-place-preserved
 loop-place-preserved c =
-    let formed = ap not (sym c.formed_at.ensures) ∙ c.if-not-formed_at.false in
+    let formed = ap not (sym c.formed_at.ensures ∙ c.if-not-formed_at.false) in
     (omega arith, c.loop-place.invariant.1 ∙ flaw_next _ _ c.loop-place-test.true formed)
 
 pub returns : goal.returns
