@@ -1,7 +1,6 @@
 -- The three ways of the definition: a transfer that may not stand there, a word that is not examined, and one whose edges are looked at.
 use mathlib.Core.Path.{◌≡◌, refl, sym}
 use mathlib.Core.Bool.{Bool, true, false, not, ◌&&◌, ◌||◌}
-use borrow.Author.Tests.{not-true, not-false}
 use Rattle.v8.proofs.Choice.{false_true}
 use Rattle.flow.proofs.instruction_flow.Goals as goal
 
@@ -20,7 +19,7 @@ pub returns-then-is_transfer-slot : goal.returns-then-is_transfer-slot
 returns-then-is_transfer-slot c =
     let i = c.inside-slot in
     let t = c.is_transfer in
-    rw (← i.ensures, ← t.ensures) (stops t.result (i.result && not c.args.in-slot) _ c.if-is_transfer-slot.true)
+    rw (← i.ensures, ← t.ensures) (stops t.result (i.result && not c.args.in_slot) _ c.if-is_transfer-slot.true)
 
 pub returns-then-not-ordinary : goal.returns-then-not-ordinary
 returns-then-not-ordinary c =
@@ -29,8 +28,8 @@ returns-then-not-ordinary c =
     rw (
       ← i.ensures,
       ← t.ensures,
-      not-true c.args.ordinary c.if-not-ordinary.true,
-      stands t.result (i.result && not c.args.in-slot) c.if-is_transfer-slot.false,
+      c.if-not-ordinary.true,
+      stands t.result (i.result && not c.args.in_slot) c.if-is_transfer-slot.false,
     )
 
 pub returns : goal.returns
@@ -40,6 +39,6 @@ returns c =
     rw (
       ← i.ensures,
       ← t.ensures,
-      not-false c.args.ordinary c.if-not-ordinary.false,
-      stands t.result (i.result && not c.args.in-slot) c.if-is_transfer-slot.false,
+      c.if-not-ordinary.false,
+      stands t.result (i.result && not c.args.in_slot) c.if-is_transfer-slot.false,
     ) c.edges_flow.ensures

@@ -1,11 +1,10 @@
 -- The run is the run of what is left: after some steps, the whole run is the run from the state that they left, with what is left of
 -- the allowance. That is the measure too. Each way through the loop's body ends a step as the definition says: on to the next state,
 -- returned, or stopped at a fault; an access is done first, or meets a fault.
-use Prim.Native.Nat.{ℕ, ◌-◌}
+use Prim.Native.Nat.{ℕ}
 use mathlib.Core.Path.{◌≡◌, refl, sym, ap, subst, ◌∙◌}
 use mathlib.Core.List.{List}
 use native.Mathlib.Omega.{arith}
-use lib.ListN.{length}
 use Rattle.v8.specs.declared.Reading.{Reading}
 use Rattle.access.specs.Layout.{layout_of}
 use Rattle.flow_code.proofs.Fetched.{array_has, past_array}
@@ -17,81 +16,61 @@ use Rattle.machine_steps.specs.Steps.{run_from, setting_of}
 use Rattle.machine_steps.proofs.Loop.{Turned, Accessed, turn_first, turn_spent, turn_outside, turn_goes, turn_returned, turn_stopped, turn_missed, turn_moved, turn_left}
 use Rattle.machine_steps.proofs.run_steps.Invariants.{setting_read}
 use Rattle.machine_steps.proofs.run_steps.Goals as goal
-use Rattle.machine_steps.proofs.run_steps.Goals.{After-access_to-moved, After-one_step-r, After-read_all-readings, At-loop-steps, In-loop-steps, Start}
+use Rattle.machine_steps.proofs.run_steps.Goals.{After-access_to-moved, After-one_step-r, After-read_all-readings}
 
--- Seen from after the step of a turn: where the turn began, its test, the test of the word's index, and the function's start.
-abbrev Stepped : Type 0
-Stepped = After-one_step-r
-
-abbrev at-loop : Stepped → At-loop-steps
-at-loop o = o.before.before.before.before.before.before.before.before
-
-abbrev at_test : Stepped → In-loop-steps
-at_test o = o.before.before.before.before.before.before.before
-
-abbrev at_read : Stepped → After-read_all-readings
-at_read o = o.before.before.before.before.before.before.before.before.before
-
-abbrev start : After-read_all-readings → Start
-start r = r.before.before.before.before
-
-abbrev at-start : Stepped → Start
-at-start o = start (at_read o)
-
--- the setting of the run, which is that of the words; the state at a turn's begin, and what the turn has shown after its step
-abbrev setting : After-read_all-readings → Setting
-setting r = let a = (start r).args in setting_read a.t2 a.words.now a.bases.now a.returns a.frame r.read_all.result
-
+-- the setting of the run is that of the words
 run-as : (r : After-read_all-readings) (n k : ℕ) (st : State)
-    → run_from (setting r) n k st ≡ run_from (setting_of (start r).args.edition (start r).args.t2 (start r).args.words.now (start r).args.bases.now (start r).args.returns (start r).args.frame) n k st
+    → run_from (setting_read r.args.policy r.args.words.now r.args.bases.now r.args.returns r.args.frame r.read_all-readings.result) n k st
+    ≡ run_from (setting_of r.args.edition r.args.policy r.args.words.now r.args.bases.now r.args.returns r.args.frame) n k st
 run-as r n k st =
-    ap (λ (code : List Reading). run_from (record { layout = layout_of (start r).args.t2 (start r).args.bases.now (start r).args.frame; readings = code; returns = (start r).args.returns }) n k st)
+    ap (λ (code : List Reading). run_from (record { layout = layout_of r.args.policy r.args.bases.now r.args.frame; readings = code; returns = r.args.returns }) n k st)
     r.read_all-readings.ensures.is
 
-abbrev state : At-loop-steps → State
-state b = record { control = b.loop.control; core = core_of b.loop.values b.loop.marks b.loop.flags b.loop.memory }
+-- Seen from after the step of a turn: the setting, the state at the turn's begin, and what the turn has shown.
+abbrev setting : After-one_step-r → Setting
+setting o = setting_read o.args.policy o.args.words.now o.args.bases.now o.args.returns o.args.frame o.read_all-readings.result
 
-turned : (o : Stepped)
-    → Turned (setting (at_read o)) (at-start o).args.allowance (at-loop o).loop.steps (state (at-loop o)) o.one-step.result o.one-step.last.1.1.0 o.one-step.last.1.1.1.0
+abbrev began : After-one_step-r → State
+began o = record { control = o.loop-steps.control; core = core_of o.loop-steps.values o.loop-steps.marks o.loop-steps.flags o.loop-steps.memory }
+
+turned : (o : After-one_step-r) → Turned (setting o) o.args.allowance o.loop-steps.steps (began o) o.one_step-r.result o.one_step-r.new.values o.one_step-r.new.marks
 turned o =
-    let read = (at_read o).read_all in
     record {
-      allowed = (at_test o).loop-test.taken;
+      allowed = o.loop-steps-test.true;
       word = _;
-      fetched = array_has read.result _ read.ensures.formed (at-loop o).loop.control.at.0 _ o.before.before.before.before.if1.left;
-      says = o.one-step.ensures _ _;
+      fetched = array_has o.read_all-readings.result _ o.read_all-readings.ensures.formed o.loop-steps.control.at.0 _ o.if-i-ge-MOST_WORDS.false;
+      says = o.one_step-r.ensures _ _;
     }
 
--- Seen from after an access: the step that asked for it; what the turn has shown; and memory is as long as it was.
-abbrev AfterAccess : Type 0
-AfterAccess = After-access_to-moved
-
-abbrev at-step : AfterAccess → Stepped
-at-step m = m.before.before.before.before.before.before.before.before.before.before.before.before.before.before.before
-
-accessed : (m : AfterAccess)
+-- Seen from after an access: what it has shown, the turn before it having shown t.
+accessed : (m : After-access_to-moved)
+    → Turned
+    (setting_read m.args.policy m.args.words.now m.args.bases.now m.args.returns m.args.frame m.read_all-readings.result)
+    m.args.allowance
+    m.loop-steps.steps
+    (record { control = m.loop-steps.control; core = core_of m.loop-steps.values m.loop-steps.marks m.loop-steps.flags m.loop-steps.memory })
+    m.one_step-r.result
+    m.one_step-r.new.values
+    m.one_step-r.new.marks
     → Accessed
-    (setting (at_read (at-step m)))
-    (at-start (at-step m)).args.allowance
-    (at-loop (at-step m)).loop.steps
-    (state (at-loop (at-step m)))
-    m.access-to.result
-    (core_of m.access-to.last.0 m.access-to.last.1.0 (at-step m).one-step.result.codes m.access-to.last.1.1.0)
-accessed m =
+    (setting_read m.args.policy m.args.words.now m.args.bases.now m.args.returns m.args.frame m.read_all-readings.result)
+    m.args.allowance
+    m.loop-steps.steps
+    (record { control = m.loop-steps.control; core = core_of m.loop-steps.values m.loop-steps.marks m.loop-steps.flags m.loop-steps.memory })
+    m.access_to-moved.result
+    (core_of m.access_to-moved.new.values m.access_to-moved.new.marks m.one_step-r.result.codes m.access_to-moved.new.memory)
+accessed m t =
     record {
-      went = _;
+      went = m.one_step-r.result;
       values = _;
       marks = _;
-      turned = turned (at-step m);
+      turned = t;
       access = _;
       rd = _;
       address = _;
-      asks = m.before.before.before.before.before.before.before.before.before.before.before.before.progress2.given.1;
-      moves = m.access-to.ensures (at-step m).one-step.result.codes;
+      asks = m.in-Accesses.is;
+      moves = m.access_to-moved.ensures m.one_step-r.result.codes;
     }
-
-same_after : (m : AfterAccess) → length m.access-to.last.1.1.0 ≡ length (at-start (at-step m)).args.memory.now
-same_after m = m.access-to.kept.1.1.0 ∙ (at-loop (at-step m)).loop.inv.1
 
 pub read_all-readings-requires : goal.read_all-readings-requires
 read_all-readings-requires c = c.requires.0
@@ -100,67 +79,53 @@ pub loop-steps-init : goal.loop-steps-init
 loop-steps-init c = (omega arith, refl, turn_first _ _ _)
 
 pub returns-then-i-ge-MOST_WORDS : goal.returns-then-i-ge-MOST_WORDS
-returns-then-i-ge-MOST_WORDS c = let outside = past_array c.read_all-readings.result _ c.read_all-readings.ensures.formed c.loop-steps.control.at.0 c.if-i-ge-MOST_WORDS.true in
-    sym (c.loop-steps.invariant.2 ∙ turn_outside (setting c) _ _ (state c) (sym outside) c.loop-steps-test.true) ∙ run-as (goal.at.returns-then-i-ge-MOST_WORDS c).After-read_all-readings _ _ _
-
-pub overflow_add-steps : goal.overflow_add-steps
-overflow_add-steps c = omega (arith, (at_test c).loop-test.true, (at-start c).ranges.allowance)
-
-pub loop-steps-smaller-in-Goes : goal.loop-steps-smaller-in-Goes
-loop-steps-smaller-in-Goes c = omega (arith, (at_test c).loop-test.true)
+returns-then-i-ge-MOST_WORDS c =
+    let r = (goal.at.returns-then-i-ge-MOST_WORDS c).After-read_all-readings in
+    let outside = past_array c.read_all-readings.result _ c.read_all-readings.ensures.formed c.loop-steps.control.at.0 c.if-i-ge-MOST_WORDS.true in
+    let run = turn_outside (setting_read c.args.policy c.args.words.now c.args.bases.now c.args.returns c.args.frame c.read_all-readings.result) _ _ (record { control = c.loop-steps.control; core = core_of c.loop-steps.values c.loop-steps.marks c.loop-steps.flags c.loop-steps.memory }) (sym outside) c.loop-steps-test.true in
+    sym (c.loop-steps.invariant.2 ∙ run) ∙ run-as r _ _ _
 
 pub loop-steps-preserved-in-Goes : goal.loop-steps-preserved-in-Goes
-loop-steps-preserved-in-Goes c = (omega (arith, (at_test c).loop-test.true), (at-loop c).loop.invariant.1, (at-loop c).loop.invariant.2 ∙ turn_goes (turned c) c.in-Goes.is)
-
-pub overflow_add-result : goal.overflow_add-result
-overflow_add-result c = omega (arith, (at_test c).loop-test.true, (at-start c).ranges.allowance)
+loop-steps-preserved-in-Goes c =
+    let t = turned (goal.at.loop-steps-preserved-in-Goes c).After-one_step-r in
+    (omega (arith, c.loop-steps-test.true), c.loop-steps.invariant.1, c.loop-steps.invariant.2 ∙ turn_goes t c.in-Goes.is)
 
 pub returns-in-Returned : goal.returns-in-Returned
-returns-in-Returned c = sym ((at-loop c).loop.invariant.2 ∙ turn_returned (turned c) c.in-Returned.is) ∙ run-as (at_read c) _ _ _
+returns-in-Returned c =
+    let at = goal.at.returns-in-Returned c in
+    sym (c.loop-steps.invariant.2 ∙ turn_returned (turned at.After-one_step-r) c.in-Returned.is) ∙ run-as at.After-read_all-readings _ _ _
 
 pub returns-in-Stopped : goal.returns-in-Stopped
-returns-in-Stopped c = sym ((at-loop c).loop.invariant.2 ∙ turn_stopped (turned c) _ c.in-Stopped.is) ∙ run-as (at_read c) _ _ _
+returns-in-Stopped c =
+    let at = goal.at.returns-in-Stopped c in
+    sym (c.loop-steps.invariant.2 ∙ turn_stopped (turned at.After-one_step-r) _ c.in-Stopped.is) ∙ run-as at.After-read_all-readings _ _ _
 
 pub access_to-moved-requires : goal.access_to-moved-requires
 access_to-moved-requires c =
-    let fits = (at-start c).requires.1 in
-    (fits.few, fits.based, subst (Covers (setting (at_read c)).layout) (sym (at-loop c).loop.invariant.1) fits.covers)
-
-pub shape_of-memory-in-Missed : goal.shape_of-memory-in-Missed
-shape_of-memory-in-Missed c = same_after c
+    let fits = c.requires.1 in
+    (fits.few, fits.based, subst (Covers (layout_of c.args.policy c.args.bases.now c.args.frame)) (sym c.loop-steps.invariant.1) fits.covers)
 
 pub returns-in-Missed : goal.returns-in-Missed
 returns-in-Missed c =
-    sym ((at-loop (at-step c)).loop.inv.2 ∙ turn_missed (accessed c) _ c.in-Missed.is) ∙ run-as (at_read (at-step c)) _ _ _
-
-pub due-to-requires : goal.due-to-requires
-due-to-requires c = c.if-i-ge-MOST_WORDS.false
-
-pub overflow_add-steps-in-To : goal.overflow_add-steps-in-To
-overflow_add-steps-in-To c =
-    omega (arith, (at_test c).loop-test.true, (at-start c).ranges.allowance)
-
-pub loop-steps-smaller : goal.loop-steps-smaller
-loop-steps-smaller c =
-    omega (arith, (at_test c).loop-test.true)
+    let at = goal.at.returns-in-Missed c in
+    let a = accessed at.After-access_to-moved (turned at.After-one_step-r) in
+    sym (c.loop-steps.invariant.2 ∙ turn_missed a _ c.in-Missed.is) ∙ run-as at.After-read_all-readings _ _ _
 
 pub loop-steps-preserved : goal.loop-steps-preserved
 loop-steps-preserved c =
+    let at = goal.at.loop-steps-preserved c in
+    let a = accessed at.After-access_to-moved (turned at.After-one_step-r) in
     let to = sym c.due-to.ensures ∙ c.in-To.is in
-    let run = (at-loop (at-step c)).loop.inv.2 ∙ turn_moved (accessed c) _ c.in-Done.is to in
-    (omega (arith, (at_test (at-step c)).loop-test.taken), same_after c, run)
-
-pub overflow_add-result-in-Caller : goal.overflow_add-result-in-Caller
-overflow_add-result-in-Caller c =
-    omega (arith, (at_test c).loop-test.true, (at-start c).ranges.allowance)
-
-pub shape_of-memory-in-Caller : goal.shape_of-memory-in-Caller
-shape_of-memory-in-Caller c = same_after c
+    (omega (arith, c.loop-steps-test.true), c.access_to-moved.auto.memory ∙ c.loop-steps.invariant.1, c.loop-steps.invariant.2 ∙ turn_moved a _ c.in-Done.is to)
 
 pub returns-in-Caller : goal.returns-in-Caller
 returns-in-Caller c =
+    let at = goal.at.returns-in-Caller c in
+    let a = accessed at.After-access_to-moved (turned at.After-one_step-r) in
     let to = sym c.due-to.ensures ∙ c.in-Caller.is in
-    sym ((at-loop (at-step c)).loop.inv.2 ∙ turn_left (accessed c) c.in-Done.is to) ∙ run-as (at_read (at-step c)) _ _ _
+    sym (c.loop-steps.invariant.2 ∙ turn_left a c.in-Done.is to) ∙ run-as at.After-read_all-readings _ _ _
 
 pub returns : goal.returns
-returns c = sym (c.loop-steps.invariant.2 ∙ turn_spent _ _ _ _ c.loop-steps-test.false) ∙ run-as (goal.at.returns c).After-read_all-readings _ _ _
+returns c =
+    let r = (goal.at.returns c).After-read_all-readings in
+    sym (c.loop-steps.invariant.2 ∙ turn_spent _ _ _ _ c.loop-steps-test.false) ∙ run-as r _ _ _

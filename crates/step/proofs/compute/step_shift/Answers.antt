@@ -1,6 +1,4 @@
 -- A shift stops where an operand is unset, else it writes its register and moves on.
-use mathlib.Core.Bool.{◌&&◌}
-use borrow.Author.Tests.{not-true, not-false}
 use Rattle.step.proofs.Arrived.{arrived}
 use Rattle.step.proofs.compute.step_shift.Goals as goal
 
@@ -8,7 +6,7 @@ pub returns-then-not-ready : goal.returns-then-not-ready
 returns-then-not-ready c = λ l memory.
     let register = c.register-left in
     let operand = c.operand-right in
-    let unset = rw (register.ensures, operand.ensures) at (not-true (register.result.set && operand.result.set) c.if-not-ready.true) in
+    let unset = rw (register.ensures, operand.ensures) at c.if-not-ready.true in
     rw (c.stop.ensures, unset)
 
 pub returns : goal.returns
@@ -16,5 +14,5 @@ returns c = λ l memory.
     let register = c.register-left in
     let operand = c.operand-right in
     let test = c.if-not-ready in
-    let ready = rw (register.ensures, operand.ensures) at (not-false (register.result.set && operand.result.set) test.false) in
+    let ready = rw (register.ensures, operand.ensures) at test.false in
     rw (ready, c.write.ensures.values, c.write.ensures.marks, c.shift.ensures, operand.ensures, register.ensures) (arrived l _ _ _ _ c.move_on.ensures _ _ memory _)
