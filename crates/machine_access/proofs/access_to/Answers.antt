@@ -20,7 +20,7 @@ pub returns-in-Scratch : goal.returns-in-Scratch
 returns-in-Scratch c = λ codes.
     let at = sym c.locate_access-located.ensures ∙ c.in-Scratch.is in
     let did = c.scratch_access in
-    located_moves _ _ _ _ _ _ did.result (core_of did.new.0 did.new.1.0 codes did.new.1.1.0) at (did.ensures codes)
+    located_moves _ _ _ _ _ _ did.result (core_of did.new.values did.new.marks codes did.new.memory) at (did.ensures codes)
 
 pub returns-in-Nowhere : goal.returns-in-Nowhere
 returns-in-Nowhere c = λ codes. located_moves _ _ _ _ _ Nowhere (Missed no_field) _ (sym c.locate_access-located.ensures ∙ c.in-Nowhere.is) refl

@@ -1,7 +1,6 @@
 -- The search is the one that is defined. Invariant: the whole search ends where the rest does, from the present place on, and the places
 -- looked at lie in the arrays. Measure: the places left.
 use Prim.Native.Nat.{ℕ, ◌+◌, ◌*◌, ◌-◌, ◌≤◌, ◌<◌}
-use mathlib.Core.Logic.{⊎_elim}
 use mathlib.Core.List.{List}
 use mathlib.Core.Bool.{Bool, true, cond}
 use mathlib.Core.Path.{◌≡◌, refl, sym, ◌∙◌}
@@ -14,6 +13,7 @@ use Rattle.policy.specs.Policy.{elements_end}
 use Rattle.policy_search.specs.declared.Found.TheVariants.{At, Nothing}
 use Rattle.policy_search.specs.Find.{holds_in, ends_at, stop_of, last_place, find_in, looked_at, search_in}
 use Rattle.policy_search.proofs.find_in.Goals as goal
+use Rattle.policy_search.proofs.find_in.Goals.{then-count-lt16, else-count-lt16}
 
 module _ (fs : List ℕ) (r : ℕ) where
   few : get_or fs r 0 < 16 → 16 * r + get_or fs r 0 ≡ stop_of fs r
@@ -72,13 +72,14 @@ returns-then-region-ge8 c = sym (missing _ _ _ _ _ _ _ c.if-region-ge8.true)
 pub loop-place-init : goal.loop-place-init
 loop-place-init c =
     let a = c.args in
-    let stops = ⊎_elim
-    (λ w. w.1 ∙ few a.fields.now a.region w.0.taken)
-    (λ w. w.1 ∙ many a.fields.now a.region w.0.left)
-    c.if-count-lt16.branch in (
+    let stops : c.if-count-lt16.stop ≡ stop_of a.fields.now a.region =
+    elim c.if-count-lt16.branch [
+      | then-count-lt16 w ↦ w.stop-is ∙ few a.fields.now a.region w.if-count-lt16.true
+      | else-count-lt16 w ↦ w.stop-is ∙ many a.fields.now a.region w.if-count-lt16.false
+    ] in (
       omega arith,
-      ⊎_elim (λ w. omega arith) (λ w. omega arith) c.if-count-lt16.branch,
-      ⊎_elim (λ w. omega arith) (λ w. omega arith) c.if-count-lt16.branch,
+      elim c.if-count-lt16.branch [ then-count-lt16 w ↦ omega arith | else-count-lt16 w ↦ omega arith ],
+      elim c.if-count-lt16.branch [ then-count-lt16 w ↦ omega arith | else-count-lt16 w ↦ omega arith ],
       stops,
       rw stops refl,
     )

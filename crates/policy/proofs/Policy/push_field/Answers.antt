@@ -7,7 +7,7 @@ use mathlib.Core.List.{List}
 use lib.ListN.{set}
 use lib.Dec.{leb}
 use native.Mathlib.Omega.{arith}
-use borrow.Author.Tests.{not-true, not-false, lt-leb, le-leb}
+use borrow.Author.Tests.{lt-leb, le-leb}
 use Rattle.v8.specs.Numbers.{acceptance}
 use Rattle.policy.specs.declared.Field.{Field}
 use Rattle.policy.specs.declared.Policy.{Policy}
@@ -25,7 +25,7 @@ below-8 c = omega (arith, regions_at_most _ c.requires, c.if-self-region.false)
 -- with room in the region, the next field has a place
 place-below : (c : Else-not-field_follows) → place_of c.args.region (count_of c.args.self c.args.region) < 128
 place-below c =
-    omega (arith, below-8 c, c.if-count-ge16.false)
+    omega (arith, regions_at_most _ c.requires, c.if-self-region.false, c.if-count-ge16.false)
 
 -- what the add gives where every test passes
 accepts : (p : Policy) (r : ℕ) (f : Field) → policy_ok p ≡ true → leb p.regions.count r ≡ false → leb 16 (count_of p r) ≡ false

@@ -1,6 +1,6 @@
 -- The tests of the add, one by one; the next policy is the one defined.
 use mathlib.Core.Path.{sym, ◌∙◌}
-use borrow.Author.Tests.{not-true, not-false, lt-leb, le-leb}
+use borrow.Author.Tests.{lt-leb, le-leb}
 use Rattle.policy.specs.Build.{region_number, built}
 use Rattle.policy.proofs.Policy.push_region.Goals as goal
 

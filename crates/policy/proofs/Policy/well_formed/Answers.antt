@@ -1,10 +1,9 @@
 -- The test of a policy is the one that is defined. Invariant: the regions below r obey the rules. Measure: the regions left.
-use Prim.Native.Nat.{◌-◌}
 use mathlib.Core.Bool.{and-false}
 use mathlib.Core.Path.{sym, ◌∙◌}
 use native.Mathlib.Omega.{arith}
 use native.Mathlib.Nat.{le_antisymm}
-use borrow.Author.Tests.{not-true, not-false, lt-leb, le-leb}
+use borrow.Author.Tests.{lt-leb, le-leb}
 use borrow.Author.Rules.{rules}
 use Rattle.v8.proofs.Search.{all_none, all_more, all_not}
 use Rattle.policy.specs.Policy.{region_ok, policy_ok}

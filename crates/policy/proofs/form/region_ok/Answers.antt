@@ -1,11 +1,11 @@
 -- The test of a region is the one that is defined. Invariant: the fields below k obey the rules, and `end` is where they end. Measure: the
 -- fields left.
-use Prim.Native.Nat.{ℕ, ◌≤◌, ◌-◌}
+use Prim.Native.Nat.{ℕ, ◌≤◌}
 use mathlib.Core.Bool.{true, and-false}
 use mathlib.Core.Path.{◌≡◌, refl, sym, ◌∙◌}
 use native.Mathlib.Omega.{arith}
 use native.Mathlib.Nat.{le_antisymm}
-use borrow.Author.Tests.{not-true, not-false, lt-leb, le-leb}
+use borrow.Author.Tests.{lt-leb, le-leb}
 use Rattle.v8.specs.Search.{all}
 use Rattle.v8.proofs.Search.{all_none, all_more, all_not}
 use Rattle.policy.specs.Policy.{size_of, count_of, size_ok, field_at, field_at_ok, region_ok}
@@ -38,17 +38,17 @@ pub returns-then-not-field_follows : goal.returns-then-not-field_follows
 unfolding region_ok field_at
 returns-then-not-field_follows c =
     let a = c.args in
-    let e = sym (follows_is a.t1 a.r c.loop-k.k _ _ c.field_in-f.ensures c.loop-k.invariant.2) ∙ sym c.field_follows.ensures ∙ c.if-not-field_follows.true in
-    simp (all_not (field_at_ok a.t1 a.r) _ _ c.loop-k-test.true e, and-false)
+    let e = sym (follows_is a.p a.r c.loop-k.k _ _ c.field_in-f.ensures c.loop-k.invariant.2) ∙ sym c.field_follows.ensures ∙ c.if-not-field_follows.true in
+    simp (all_not (field_at_ok a.p a.r) _ _ c.loop-k-test.true e, and-false)
 
 pub loop-k-preserved : goal.loop-k-preserved
 unfolding field_at
 loop-k-preserved c =
     let a = c.args in
-    let e = sym (follows_is a.t1 a.r c.loop-k.k _ _ c.field_in-f.ensures c.loop-k.invariant.2) ∙ sym c.field_follows.ensures ∙ c.if-not-field_follows.false in (
+    let e = sym (follows_is a.p a.r c.loop-k.k _ _ c.field_in-f.ensures c.loop-k.invariant.2) ∙ sym c.field_follows.ensures ∙ c.if-not-field_follows.false in (
       omega (arith, c.loop-k-test.true),
       all_more _ _ c.loop-k.invariant.1 e,
-      end_next a.t1 a.r c.loop-k.k _ _ c.field_in-f.ensures c.elements_end-end.ensures,
+      end_next a.p a.r c.loop-k.k _ _ c.field_in-f.ensures c.elements_end-end.ensures,
     )
 
 pub returns : goal.returns
