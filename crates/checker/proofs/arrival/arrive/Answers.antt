@@ -7,11 +7,11 @@ misfit-flaw-requires c =
 
 pub returns-then-fits : goal.returns-then-fits
 returns-then-fits c =
-    rw (c.in-Caller.is, ← c.read_entry-asked.ensures, ← c.entry_at.ensures, ← c.before.before.fits2.ensures, c.if-fits.true) c.accept.ensures
+    rw (c.in-Caller.is, ← c.read_entry-asked.ensures, ← c.entry_at.ensures, ← c.fits.ensures, c.if-fits.true) c.accept.ensures
 
 pub returns-in-To : goal.returns-in-To
 returns-in-To c = rw (c.in-To.is, ← c.misfit-flaw.ensures) c.unless_fault.ensures
 
 pub returns-else-fits : goal.returns-else-fits
 returns-else-fits c =
-    rw (c.in-Caller.is, ← c.read_entry-asked.ensures, ← c.entry_at.ensures, ← c.before.before.fits2.ensures, c.if-fits.false) c.refuse.ensures
+    rw (c.in-Caller.is, ← c.read_entry-asked.ensures, ← c.entry_at.ensures, ← c.fits.ensures, c.if-fits.false) c.refuse.ensures

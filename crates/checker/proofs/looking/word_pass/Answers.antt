@@ -1,7 +1,6 @@
 -- The loop's invariant: the pass from the present word on gives the answer of the whole pass.
 use Prim.Native.Nat.{ℕ, ◌+◌, ◌*◌, ◌-◌}
 use mathlib.Core.Path.{◌≡◌, sym, ap, ◌∙◌}
-use mathlib.Core.Logic.{⊎_elim}
 use native.Mathlib.Omega.{arith}
 use Rattle.v8.specs.declared.Operation.TheVariants.{Sethi}
 use Rattle.v8.specs.declared.Instruction.TheVariants.{Plain}
@@ -16,17 +15,17 @@ use Rattle.checker.specs.Passes.{word_pass}
 use Rattle.passes.proofs.Passing.{pass_start, pass_here, pass_next, pass_end}
 use Rattle.checker.proofs.Passing.{word_here, rows_here}
 use Rattle.checker.proofs.looking.word_pass.Goals as goal
-use Rattle.checker.proofs.looking.word_pass.Goals.{After-word_in-found, Joined-i-lt-MOST_WORDS}
+use Rattle.checker.proofs.looking.word_pass.Goals.{After-word_in-found, else-i-lt-MOST_WORDS, then-i-lt-MOST_WORDS}
 
 -- the slot is read as the next word is; from the array's end on no word is read
-slot_read : (c : Joined-i-lt-MOST_WORDS)
+slot_read : (c : After-word_in-found)
     → c.if-i-lt-MOST_WORDS.slot ≡ reading_at (code_of c.args.readings c.args.count) (c.loop-i.i + 1)
 slot_read c =
     let next = c.loop-i.i + 1 in
-    ⊎_elim
-    (λ w. w.2 ∙ array_has c.args.readings c.args.count c.requires.0 next (Read (Plain (Sethi 0 0))) w.0.taken)
-    (λ w. w.1 ∙ past_array c.args.readings c.args.count c.requires.0 next w.0.left)
-    c.if-i-lt-MOST_WORDS.branch
+    elim c.if-i-lt-MOST_WORDS.branch [
+      then-i-lt-MOST_WORDS w ↦ w.slot-is ∙ array_has c.args.readings c.args.count c.requires.0 next (Read (Plain (Sethi 0 0))) w.if-i-lt-MOST_WORDS.true
+      | else-i-lt-MOST_WORDS w ↦ w.slot-is ∙ past_array c.args.readings c.args.count c.requires.0 next w.if-i-lt-MOST_WORDS.false
+    ]
 
 -- what the loop finds at a word is what the pass answers there
 found : (c : After-word_in-found)
