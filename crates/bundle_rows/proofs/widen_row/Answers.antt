@@ -8,4 +8,4 @@ returns c =
     let zeros = c.zeros_on in
     let last = c.copy_on-2 in
     let a = c.args in
-    row_written a.bytes.now a.to.now first.new.1.1.1.0 zeros.new.1.0 last.new.1.1.1.0 a.at a.place first.ensures zeros.ensures last.ensures
+    row_written a.bytes.now a.to.now first.new.to zeros.new.to last.new.to a.at a.place first.ensures zeros.ensures last.ensures

@@ -12,9 +12,9 @@ returns-then-count-w c =
 pub returns-then-raise_at : goal.returns-then-raise_at
 returns-then-raise_at c =
     let r = c.raise_at in
-    record { table = rw (lt-ltb _ _ c.if-count-w.false) r.ensures.0; worked = worked_raised _ _ _ _ _ (omega (arith, c.if-count-w.false, c.requires.0)) r.ensures.0 c.requires.1 (ltb-true _ _ (sym r.ensures.1 ∙ c.if-raise_at.true)) }
+    record { table = rw (lt-ltb _ _ c.if-count-w.false) r.ensures.table; worked = worked_raised _ _ _ _ _ (omega (arith, c.if-count-w.false, c.requires.0)) r.ensures.table c.requires.1 (ltb-true _ _ (sym r.ensures.changed ∙ c.if-raise_at.true)) }
 
 pub returns : goal.returns
 returns c =
     let r = c.raise_at in
-    record { table = rw (lt-ltb _ _ c.if-count-w.false) r.ensures.0; worked = worked_same _ _ _ _ _ r.ensures.0 c.requires.1 (sym r.ensures.1 ∙ c.if-raise_at.false) }
+    record { table = rw (lt-ltb _ _ c.if-count-w.false) r.ensures.table; worked = worked_same _ _ _ _ _ r.ensures.table c.requires.1 (sym r.ensures.changed ∙ c.if-raise_at.false) }
