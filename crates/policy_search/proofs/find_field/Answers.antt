@@ -4,7 +4,6 @@ use mathlib.Core.Path.{◌≡◌, ap}
 use mathlib.Core.Bool.{Bool, true, false, ◌&&◌, and-eq-true_iff}
 use lib.Dec.{ltb}
 use borrow.Author.Tests.{ltb-true}
-use borrow.Author.Rules.{rules}
 use Rattle.policy.specs.declared.Policy.{Policy}
 use Rattle.policy_search.specs.declared.Search.{Search}
 use Rattle.policy_search.specs.declared.FieldSearch.{FieldSearch}
