@@ -125,7 +125,7 @@ returns-then-flows-ne-ACCEPTED c =
     let g = given2 k in
     let is = c.read_all-readings.ensures.is in
     let l = left4 g _ is _ c.read_pass-read.ensures c.if-read-ne-ACCEPTED.false
-      (left3 g _ c.row_pass-formed.ensures c.if-formed-ne-ACCEPTED.false (left2 k)) in
+    (left3 g _ c.row_pass-formed.ensures c.if-formed-ne-ACCEPTED.false (left2 k)) in
     sym (l ∙ stops _ _ _ (c.flow_pass-flows.ensures ∙ over_read g flow_pass _ is) c.if-flows-ne-ACCEPTED.true)
 
 pub entry_pass-entered-requires : goal.entry_pass-entered-requires
@@ -139,8 +139,8 @@ returns-then-entered-ne-ACCEPTED c =
     let g = given2 k in
     let is = c.read_all-readings.ensures.is in
     let l = left5 g _ is _ c.flow_pass-flows.ensures c.if-flows-ne-ACCEPTED.false
-      (left4 g _ is _ c.read_pass-read.ensures c.if-read-ne-ACCEPTED.false
-      (left3 g _ c.row_pass-formed.ensures c.if-formed-ne-ACCEPTED.false (left2 k))) in
+    (left4 g _ is _ c.read_pass-read.ensures c.if-read-ne-ACCEPTED.false
+    (left3 g _ c.row_pass-formed.ensures c.if-formed-ne-ACCEPTED.false (left2 k))) in
     sym (l ∙ stops _ _ _ c.entry_pass-entered.ensures c.if-entered-ne-ACCEPTED.true)
 
 pub word_pass-requires : goal.word_pass-requires
@@ -155,7 +155,7 @@ returns c =
     let g = given2 k in
     let is = c.read_all-readings.ensures.is in
     let l = left6 g _ c.entry_pass-entered.ensures c.if-entered-ne-ACCEPTED.false
-      (left5 g _ is _ c.flow_pass-flows.ensures c.if-flows-ne-ACCEPTED.false
-      (left4 g _ is _ c.read_pass-read.ensures c.if-read-ne-ACCEPTED.false
-      (left3 g _ c.row_pass-formed.ensures c.if-formed-ne-ACCEPTED.false (left2 k)))) in
+    (left5 g _ is _ c.flow_pass-flows.ensures c.if-flows-ne-ACCEPTED.false
+    (left4 g _ is _ c.read_pass-read.ensures c.if-read-ne-ACCEPTED.false
+    (left3 g _ c.row_pass-formed.ensures c.if-formed-ne-ACCEPTED.false (left2 k)))) in
     c.word_pass.ensures ∙ over_read g (λ (code : List Reading). word_pass g.policy code g.rows g.result) _ is ∙ sym l

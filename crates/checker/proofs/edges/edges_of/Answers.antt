@@ -45,7 +45,7 @@ rest : (c : After-edge_of-other)
     → and_then (cond (edge c true).exists (along c (edge c true)) accepted) (cond (edge c false).exists (along c (edge c false)) accepted)
     ≡ cond (edge c false).exists (along c (edge c false)) accepted
 rest c = elim c.if-taken.branch [
-  then-taken+else-first-ne-ACCEPTED w ↦ goes _ _ _ (w.narrowed_edge-first.ensures ∙ there (along c) _ _ c.edge_of-taken.ensures w.if-taken.true) w.if-first-ne-ACCEPTED.false
+  | then-taken+else-first-ne-ACCEPTED w ↦ goes _ _ _ (w.narrowed_edge-first.ensures ∙ there (along c) _ _ c.edge_of-taken.ensures w.if-taken.true) w.if-first-ne-ACCEPTED.false
   | else-taken w ↦ goes accepted _ _ (gone (along c) _ _ c.edge_of-taken.ensures w.if-taken.false) refl
 ]
 

@@ -17,7 +17,7 @@ returns c =
     let rest = λ (r : Row). edges c.args.policy c.args.rows.now c.args.res.now c.args.at.0 (Read c.args.instruction) c.args.x r in
     let goes_on : made c.args.at.0 row rest (change_of c.args.policy row c.args.instruction) ≡ rest c.match-change_of.row =
     elim c.match-change_of.branch [
-      in-Writes w ↦ rw (← c.change_of.ensures, w.in-Writes.is) (ap rest (sym (w.row-is ∙ w.row_with-row.ensures)))
+      | in-Writes w ↦ rw (← c.change_of.ensures, w.in-Writes.is) (ap rest (sym (w.row-is ∙ w.row_with-row.ensures)))
       | in-Keeps w ↦ rw (← c.change_of.ensures, w.in-Keeps.is) (ap rest (sym w.row-is))
     ] in
     rw (← c.row_at-row.ensures) (c.edges_of.ensures ∙ sym goes_on)

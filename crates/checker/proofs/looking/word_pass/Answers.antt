@@ -23,7 +23,7 @@ slot_read : (c : After-word_in-found)
 slot_read c =
     let next = c.loop-i.i + 1 in
     elim c.if-i-lt-MOST_WORDS.branch [
-      then-i-lt-MOST_WORDS w ↦ w.slot-is ∙ array_has c.args.readings c.args.count c.requires.0 next (Read (Plain (Sethi 0 0))) w.if-i-lt-MOST_WORDS.true
+      | then-i-lt-MOST_WORDS w ↦ w.slot-is ∙ array_has c.args.readings c.args.count c.requires.0 next (Read (Plain (Sethi 0 0))) w.if-i-lt-MOST_WORDS.true
       | else-i-lt-MOST_WORDS w ↦ w.slot-is ∙ past_array c.args.readings c.args.count c.requires.0 next w.if-i-lt-MOST_WORDS.false
     ]
 

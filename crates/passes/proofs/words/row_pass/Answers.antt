@@ -35,11 +35,11 @@ returns-then-at-count c =
     let a = c.args in
     c.refuse.ensures
     ∙ elim c.rows-test.branch [
-      else-rows-test w ↦ absurd (omega arith)
+      | else-rows-test w ↦ absurd (omega arith)
       | then-rows-test+then-loop-place-test+then-not-formed_at w ↦
-        let lowest = w.loop-place.invariant.1 ∙ flaw_here _ _ w.loop-place-test.true (ap not (sym w.formed_at.ensures ∙ w.if-not-formed_at.true)) in
-        let broken = row_broken a.policy a.rows.now _ _ lowest in
-        ap (refuse bad_row c.rows.at.0) w.place-is ∙ sym (c.rows.invariant.1 ∙ pass_here _ _ _ _ broken w.rows-test.true (λ z. absurd (omega (arith, z))))
+          let lowest = w.loop-place.invariant.1 ∙ flaw_here _ _ w.loop-place-test.true (ap not (sym w.formed_at.ensures ∙ w.if-not-formed_at.true)) in
+          let broken = row_broken a.policy a.rows.now _ _ lowest in
+          ap (refuse bad_row c.rows.at.0) w.place-is ∙ sym (c.rows.invariant.1 ∙ pass_here _ _ _ _ broken w.rows-test.true (λ z. absurd (omega (arith, z))))
     ]
 
 pub returns : goal.returns
