@@ -43,3 +43,9 @@ holds_to e p words rows entry result bases returns frame g allowance memory c q 
     subst (λ (x : Run). Guaranteed p (entry_of result 0) (setting_of e p words bases returns frame) (host_of bases returns frame) (start_state g memory) allowance x
     (trace_from (setting_of e p words bases returns frame) allowance (start_state g memory)))
     (sym r) (running_guarantee e p words rows entry result accepts bases returns frame g memory start allowance)
+
+pub given_checked : (e : Edition) (p : Policy) (words rows entry result bases : List ℕ) (returns frame : ℕ) (g : Registers) (allowance : ℕ) (memory : List ℕ) (c : Checked)
+    → c ≡ checked_run_of e p words rows entry result bases returns frame g allowance memory
+    → (c ≡ checked_run_of e p words rows entry result bases returns frame g allowance memory) × HoldsTo e p words entry result bases returns frame g allowance memory c
+given_checked e p words rows entry result bases returns frame g allowance memory c q =
+    (q, holds_to e p words rows entry result bases returns frame g allowance memory c q)
