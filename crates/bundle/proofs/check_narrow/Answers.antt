@@ -29,10 +29,10 @@ pub slice_bounds-check-end-2 : goal.slice_bounds-check-end-2
 slice_bounds-check-end-2 c = let opened = c.args.opened in
     let places = c.requires.1 in
     let written = c.widen-2 in
-    sym (length-take-le (row_bytes * opened.count) written.new.1.1.1.0 (omega (arith, written.auto.1.1.1.0, places.1)))
+    sym (length-take-le (row_bytes * opened.count) written.new.room (omega (arith, places.1)))
 
 pub returns : goal.returns
 returns c = let pre = c.requires in
     let entry = c.widen in
     let rows = c.widen-2 in
-    narrow_is _ _ _ _ _ _ pre.0 pre.2 rows.ensures (sym (take_all row_bytes entry.new.1.1.1.0 (omega (arith, entry.auto.1.1.1.0))) ∙ entry.ensures) c.check.ensures
+    narrow_is _ _ _ _ _ _ pre.0 pre.2 rows.ensures (sym (take_all row_bytes entry.new.room (omega arith)) ∙ entry.ensures) c.check.ensures

@@ -3,5 +3,5 @@ use mathlib.Core.Path.{sym, ◌∙◌}
 use Rattle.about.proofs.refusals.show_answer.Goals as goal
 
 pub show_narrow-requires : goal.show_narrow-requires
-show_narrow-requires c = let opened = c.«open».ensures in
-    ((opened.0, c.if-opened-ne-ACCEPTED.false), opened.1, sym c.is_narrow.ensures ∙ c.if-is_narrow.true)
+show_narrow-requires c = let opened = c.open-opened.ensures in
+    ((opened.opened, c.if-opened-ne-ACCEPTED.false), opened.places, sym c.is_narrow.ensures ∙ c.if-is_narrow.true)

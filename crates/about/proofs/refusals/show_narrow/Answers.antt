@@ -23,4 +23,4 @@ pub slice_bounds-show_refusal-end : goal.slice_bounds-show_refusal-end
 slice_bounds-show_refusal-end c = let opened = c.args.opened in
     let places = c.requires.1 in
     let written = c.widen-2 in
-    sym (length-take-le (row_bytes * opened.count) written.new.1.1.1.0 (omega (arith, written.auto.1.1.1.0, places.1)))
+    sym (length-take-le (row_bytes * opened.count) written.new.room (omega (arith, places.1)))

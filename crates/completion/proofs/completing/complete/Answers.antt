@@ -9,25 +9,25 @@ returns-then-opened-ne-ACCEPTED c =
     record { answered = c.answer.ensures; kept = all_kept _ }
 
 pub complete_narrow-requires : goal.complete_narrow-requires
-complete_narrow-requires c = let opened = c.«open».ensures in
-    ((opened.0, c.if-opened-ne-ACCEPTED.false), opened.1, sym c.is_narrow.ensures ∙ c.if-is_narrow.true)
+complete_narrow-requires c = let opened = c.open-opened.ensures in
+    ((opened.opened, c.if-opened-ne-ACCEPTED.false), opened.places, sym c.is_narrow.ensures ∙ c.if-is_narrow.true)
 
 pub returns-then-is_narrow : goal.returns-then-is_narrow
 returns-then-is_narrow c =
     record {
       answered = c.answer-then-is_narrow.ensures;
-      kept = narrow_kept _ _ _ (c.«open».ensures.0, c.if-opened-ne-ACCEPTED.false) (sym c.is_narrow.ensures ∙ c.if-is_narrow.true)
+      kept = narrow_kept _ _ _ (c.open-opened.ensures.opened, c.if-opened-ne-ACCEPTED.false) (sym c.is_narrow.ensures ∙ c.if-is_narrow.true)
           c.complete_narrow.ensures;
     }
 
 pub complete_wide-requires : goal.complete_wide-requires
-complete_wide-requires c = let opened = c.«open».ensures in
-    ((opened.0, c.if-opened-ne-ACCEPTED.false), opened.1, sym c.is_narrow.ensures ∙ c.if-is_narrow.false)
+complete_wide-requires c = let opened = c.open-opened.ensures in
+    ((opened.opened, c.if-opened-ne-ACCEPTED.false), opened.places, sym c.is_narrow.ensures ∙ c.if-is_narrow.false)
 
 pub returns : goal.returns
 returns c =
     record {
       answered = c.answer-2.ensures;
-      kept = wide_kept _ _ _ (c.«open».ensures.0, c.if-opened-ne-ACCEPTED.false) (sym c.is_narrow.ensures ∙ c.if-is_narrow.false)
+      kept = wide_kept _ _ _ (c.open-opened.ensures.opened, c.if-opened-ne-ACCEPTED.false) (sym c.is_narrow.ensures ∙ c.if-is_narrow.false)
           c.complete_wide.ensures;
     }

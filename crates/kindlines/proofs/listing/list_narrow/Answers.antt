@@ -21,5 +21,5 @@ slice_bounds-list_kinds-end c = let opened = c.args.opened in
 pub returns : goal.returns
 returns c = let pre = c.requires in
     let row = c.widen in
-    let written = sym (take_all row_bytes row.new.1.1.1.0 (omega (arith, row.auto.1.1.1.0))) ∙ row.ensures in
+    let written = sym (take_all row_bytes row.new.room (omega arith)) ∙ row.ensures in
     narrow_is _ _ _ _ _ _ pre.0 pre.2 written c.list_kinds.ensures
