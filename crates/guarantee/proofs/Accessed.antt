@@ -22,7 +22,6 @@ use Rattle.alu.specs.Result.{add32}
 use Rattle.flow_writes.specs.Written.{access_writes}
 use Rattle.policy.specs.declared.Policy.{Policy}
 use Rattle.policy.specs.declared.Field.{Field}
-use Rattle.policy_search.specs.declared.Found.TheVariants as Found·
 use Rattle.policy.specs.Policy.{size_of, field_at, field_end}
 use Rattle.policy.specs.Laws.{WellFormed}
 use Rattle.memory.specs.Frame.{scratch_count, scratch_offset}

@@ -1,6 +1,6 @@
 -- The guarantee from any state that satisfies the invariant, by induction on the allowance: with none left the run stands where it is; one step
 -- leads to such a state or returns, and what is claimed of the rest of the run is, with that step before it, claimed of the whole.
-use Prim.Native.Nat.{ℕ, zero, suc, ◌+◌, ◌-◌, ◌%◌}
+use Prim.Native.Nat.{ℕ, zero, suc, ◌+◌, ◌%◌}
 use mathlib.Core.Path.{◌≡◌, refl, ◌∙◌}
 use mathlib.Core.List.{List}
 use native.Mathlib.Nat.{zero-add}

@@ -1,7 +1,7 @@
 -- The numbers of a run's end. A step that stops does so with one of 101 to 105, by cases of the instruction and of each test that stops it; a run
 -- that stops has its last step's number; and each refusal is 20, 21 or 22.
 use Prim.Native.Nat.{ℕ, zero, suc, ◌+◌, ◌%◌, ◌≤◌}
-use mathlib.Core.Bool.{Bool, true, cond, not, ◌&&◌}
+use mathlib.Core.Bool.{Bool, true, not, ◌&&◌}
 use mathlib.Core.List.{List}
 use native.Mathlib.Omega.{arith}
 use lib.Dec.{ltb, eqb}

@@ -14,7 +14,7 @@ use Rattle.v8.proofs.Search.{needed}
 use Rattle.v8.proofs.Table.{at}
 use Rattle.v8.proofs.Choice.{cond_went, cond_both, or_went, and_went}
 use Rattle.policy.specs.Element.{mosts, most_of}
-use Rattle.sets.specs.Sets.{set_ok, s1, numbers}
+use Rattle.sets.specs.Sets.{set_ok, s1}
 use Rattle.sets.proofs.Formed.{obeys}
 use Rattle.sets.proofs.Ends.{ended_formed, single_formed}
 use Rattle.rows.specs.declared.Entry.{Entry}

@@ -2,13 +2,12 @@
 use Prim.Native.Nat.{ℕ, ◌+◌, ◌-◌, ◌%◌, ◌≤◌, ◌<◌}
 use mathlib.Core.Path.{◌≡◌, refl, sym, ◌∙◌}
 use mathlib.Core.Bool.{Bool, true, false, ◌||◌, true≢false}
-use mathlib.Core.Logic.{◌≢◌}
 use native.Mathlib.Omega.{arith}
 use lib.Dec.{ltb, leb}
 use borrow.Author.Tests.{ltb-false, leb-false, le-ltb, lt-leb}
 use Rattle.v8.proofs.Choice.{cond_both}
 use Rattle.v8.specs.Signed.{excess, bias}
-use Rattle.sets.specs.Sets.{modulus, numbers, single, full, Step, SetRules, Member}
+use Rattle.sets.specs.Sets.{modulus, numbers, full, Step, SetRules, Member}
 use Rattle.sets_rules.specs.Rules.{lowest, beyond, within}
 use Rattle.sets.specs.declared.NumberSet.{NumberSet}
 use Rattle.sets.proofs.Ends.{full_formed, full_holds}

@@ -1,6 +1,6 @@
 -- A refused word is numbered by whether it is privileged: no opcode of an instruction that is read is privileged, and a word that is refused
 -- for its opcode carries the number of that opcode.
-use Prim.Native.Nat.{ℕ, ◌-◌}
+use Prim.Native.Nat.{ℕ}
 use mathlib.Core.Path.{◌≡◌, refl, sym, ap, subst, ◌∙◌}
 use mathlib.Core.Bool.{Bool, true, false, cond, ◌||◌}
 use native.Mathlib.Omega.{arith}

@@ -1,6 +1,6 @@
 -- In an instruction that is read a register is five bits of the word, and the number is a word: sign extension gives one, and a shift's count is
 -- below 32. A word that is not read has its number.
-use Prim.Native.Nat.{ℕ, ◌-◌, ◌^◌, ◌<◌}
+use Prim.Native.Nat.{ℕ, ◌^◌, ◌<◌}
 use mathlib.Core.Path.{refl}
 use mathlib.Core.Bool.{Bool, true, false}
 use native.Mathlib.Omega.{arith}

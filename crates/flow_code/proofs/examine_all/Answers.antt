@@ -1,5 +1,4 @@
 -- The words outside slots are marked, and then, word by word, those that a taken edge lands on (Examined).
-use Prim.Native.Nat.{◌-◌}
 use mathlib.Core.Path.{◌∙◌}
 use native.Mathlib.Omega.{arith}
 use Rattle.v8.specs.declared.Operation.TheVariants.{Sethi}

@@ -1,10 +1,8 @@
 -- `all_laid` meets its contract. The loop's invariant: every region passed so far has a right base and shares no byte with a lower one.
-use Prim.Native.Nat.{◌-◌}
 use mathlib.Core.Path.{sym, ◌∙◌}
 use mathlib.Core.Bool.{and-false}
 use native.Mathlib.Nat.{le_antisymm}
 use borrow.Author.Rules.{rules}
-use borrow.Author.Tests.{not-true, not-false}
 use Rattle.v8.proofs.Search.{all_none, all_more, all_not}
 use Rattle.machine_place.specs.Placement.{base_placed_at, disjoint_in}
 use Rattle.machine_place.proofs.all_laid.Goals as goal

@@ -1,9 +1,7 @@
 -- `apart_from_all` meets its contract. The loop's invariant: the bytes are none of the regions passed so far.
-use Prim.Native.Nat.{◌-◌}
 use mathlib.Core.Path.{sym, ap, ◌∙◌}
 use native.Mathlib.Nat.{le_antisymm}
 use borrow.Author.Rules.{rules}
-use borrow.Author.Tests.{not-true, not-false}
 use Rattle.v8.specs.Search.{all}
 use Rattle.v8.proofs.Search.{all_none, all_more, all_not}
 use Rattle.machine_place.specs.Placement.{apart_from_region}

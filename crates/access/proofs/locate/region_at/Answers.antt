@@ -5,7 +5,6 @@ use Rattle.access.specs.Locate.{inside_region, region_in}
 use Rattle.v8.proofs.Search.{first_here, first_next, first_end}
 use native.Mathlib.Omega.{arith}
 use mathlib.Core.Path.{refl, sym, ◌∙◌}
-use Prim.Native.Nat.{◌-◌}
 use Rattle.access.proofs.locate.region_at.Goals as goal
 
 pub loop-r-init : goal.loop-r-init

@@ -1,5 +1,5 @@
 -- The loop's invariant: the pass from the present word on gives the answer of the whole pass.
-use Prim.Native.Nat.{ℕ, ◌+◌, ◌*◌, ◌-◌}
+use Prim.Native.Nat.{ℕ, ◌+◌, ◌*◌}
 use mathlib.Core.Path.{◌≡◌, sym, ap, ◌∙◌}
 use native.Mathlib.Omega.{arith}
 use Rattle.v8.specs.declared.Operation.TheVariants.{Sethi}

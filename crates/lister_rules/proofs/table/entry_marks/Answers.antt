@@ -1,5 +1,4 @@
 -- The loop's invariant: the marks so far are those of the entries' kinds.
-use Prim.Native.Nat.{◌-◌}
 use mathlib.Core.Path.{refl, ap, ◌∙◌}
 use native.Mathlib.Nat.{not-suc-le-zero}
 use native.Mathlib.Omega.{arith}

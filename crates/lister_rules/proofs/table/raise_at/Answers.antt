@@ -1,5 +1,5 @@
 -- The marks are raised register by register (Stored).
-use Prim.Native.Nat.{◌-◌, ◌<◌}
+use Prim.Native.Nat.{◌<◌}
 use native.Mathlib.Omega.{arith}
 use lib.ListN.{length}
 use Rattle.lister_rules.specs.Table.{place_of}

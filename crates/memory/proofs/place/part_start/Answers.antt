@@ -1,5 +1,4 @@
 -- `part_start` meets its contract. The loop's invariant: the sum is the start of the region reached.
-use Prim.Native.Nat.{◌-◌}
 use mathlib.Core.Path.{sym, ap, ◌∙◌}
 use native.Mathlib.Nat.{le_antisymm}
 use borrow.Author.Rules.{rules}

@@ -1,6 +1,5 @@
 -- By whether the flow is right; then by the register that the word writes.
 use mathlib.Core.Path.{sym, ◌∙◌}
-use borrow.Author.Tests.{not-true, not-false}
 use Rattle.passes.proofs.words.flow_at.Goals as goal
 
 pub returns-then-not-flows : goal.returns-then-not-flows

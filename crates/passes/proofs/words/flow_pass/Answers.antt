@@ -1,5 +1,4 @@
 -- The loop's invariant: the pass from the present word on gives the answer of the whole pass, and whether the word is a slot is known.
-use Prim.Native.Nat.{◌-◌}
 use mathlib.Core.Path.{sym, ◌∙◌}
 use native.Mathlib.Omega.{arith}
 use Rattle.v8.specs.declared.Operation.TheVariants.{Sethi}

@@ -1,5 +1,4 @@
 -- `scratch_unset` meets its contract. Invariant: the scratch words below k are unset. Measure: those left.
-use Prim.Native.Nat.{◌-◌}
 use mathlib.Core.Path.{sym, ap, ◌∙◌}
 use native.Mathlib.Nat.{le_antisymm}
 use borrow.Author.Rules.{rules}

@@ -1,5 +1,4 @@
 -- `read_row` meets its contract. The loop's invariant: the entries so far are those at their places.
-use Prim.Native.Nat.{◌-◌}
 use mathlib.Core.Path.{refl, ◌∙◌}
 use native.Mathlib.Nat.{not-suc-le-zero}
 use native.Mathlib.Omega.{arith}

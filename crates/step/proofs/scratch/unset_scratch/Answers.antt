@@ -1,5 +1,4 @@
 -- The marks below i are unset already: what is left is to make those from i on unset. The measure is how many these are.
-use Prim.Native.Nat.{◌-◌}
 use mathlib.Core.Path.{refl, sym, ◌∙◌}
 use native.Mathlib.Omega.{arith}
 use borrow.Author.Rules.{rules}

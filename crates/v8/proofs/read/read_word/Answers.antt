@@ -1,6 +1,5 @@
 -- The format chooses: each key of the match is a case of the definition, the default has failed every test.
 use mathlib.Core.Path.{◌≡◌, ap}
-use Rattle.v8.specs.declared.Reading.{Reading}
 use Rattle.v8.specs.declared.Reading.TheVariants.{Unread}
 use Rattle.v8.specs.Numbers.{not_read}
 use Rattle.v8.specs.Read.{read_number, reading_of}
