@@ -206,7 +206,7 @@ fn put_form(buf: &mut [u8; 64], at: usize, form: BranchForm) -> usize {
     }
 }
 
-// A branch, whose distance is in bytes from the branch itself, as `bne,a.+16` or `be,pn %icc,.-8`.
+// A branch, whose distance is in bytes from the branch itself, as `bne,a .+16` or `be,pn %icc,.-8`.
 fn put_branch(buf: &mut [u8; 64], x: Bicc) -> usize {
     let form = x.form;
     let a = put_condition(buf, x.cond);
