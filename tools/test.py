@@ -12,8 +12,8 @@ Holds what pace.py says of a gate against a log that is made here, and tries log
 Sees that every crate, definition, edit and file that the documents name is there, and that every edit is named.
 Sees that each script says what it does when asked for help, and does nothing else.
 
-What needs GNU binutils for SPARC, gcc or a program (target/bin/answer, explain, infer or kinds, or those with a 9) is left
-out where that is not here, and this is said. The last line is `N passed, 0 failed`, with the number of those left out if there are any; the status is 0 if
+What needs GNU binutils for SPARC, gcc or a program (crates/answer/out/answer, that of explain, infer or kinds, or those with a
+9) is left out where that is not here, and this is said. The last line is `N passed, 0 failed`, with the number of those left out if there are any; the status is 0 if
 none failed.
 """
 import contextlib
@@ -54,8 +54,8 @@ TOOLS = os.path.dirname(os.path.abspath(__file__))
 ROOT = os.path.dirname(TOOLS)
 EXAMPLES = os.path.join(ROOT, "examples")
 NAMES = sorted(name for name in os.listdir(EXAMPLES) if os.path.isdir(os.path.join(EXAMPLES, name)))
-ANSWER, EXPLAIN, INFER, KINDS = (os.path.join(programs.FOLDER, program) for program in ("answer", "explain", "infer", "kinds"))
-ANSWER_9, EXPLAIN_9, INFER_9, KINDS_9 = (program + "9" for program in (ANSWER, EXPLAIN, INFER, KINDS))
+ANSWER, EXPLAIN, INFER, KINDS = (programs.path_of(program) for program in ("answer", "explain", "infer", "kinds"))
+ANSWER_9, EXPLAIN_9, INFER_9, KINDS_9 = (programs.path_of(program) for program in ("answer9", "explain9", "infer9", "kinds9"))
 WITHOUT_ROWS = ["tare", "tare-one-past"]  # examples whose rows are found
 PATH = os.environ.get("PATH", "")
 AS, OBJDUMP = (assembly.BINUTILS + tool for tool in ("as", "objdump"))
@@ -129,12 +129,14 @@ def assembler_giving(data):
 def only_program(name, printed):
     """With no program but this one, which prints these bytes and keeps what it is given in the file that is yielded."""
     with tempfile.TemporaryDirectory() as scratch:
-        path, cat, before = os.path.join(scratch, name), shutil.which("cat", path=PATH), programs.FOLDER
-        write(printed, path + ".prints")
-        write(f"#!/bin/sh\n{cat} > '{path}.given'\n{cat} '{path}.prints'\n".encode(), path)
-        os.chmod(path, 0o755)
+        cat, before = shutil.which("cat", path=PATH), programs.FOLDER
         programs.FOLDER = scratch
         try:
+            path = programs.path_of(name)
+            os.makedirs(os.path.dirname(path))
+            write(printed, path + ".prints")
+            write(f"#!/bin/sh\n{cat} > '{path}.given'\n{cat} '{path}.prints'\n".encode(), path)
+            os.chmod(path, 0o755)
             yield path + ".given"
         finally:
             programs.FOLDER = before
@@ -566,7 +568,7 @@ def mistakes_of_assemblers():
             yield name, said.startswith(expected) and "bundle.bin" not in os.listdir(folder), said
 
 
-SOURCES = [
+MISTAKEN = [
     (b" .data\nx: .word 5\n", "routine.s, line 2: 4 bytes in .data"),
     (b' .section ".rodata"\n .byte 5\n', "routine.s, line 2: 1 bytes in .rodata"),
     (b" .section .bss\n .skip 8\n", "routine.s, line 2: 8 bytes in .bss"),
@@ -582,7 +584,7 @@ SOURCES = [
 
 @cases(AS)
 def mistakes_that_the_assembler_finds():
-    for text, expected in SOURCES:
+    for text, expected in MISTAKEN:
         with routine() as folder:
             write(b" retl; nop\n" + text, folder, ROUTINE)
             said = problem_of(folder)
@@ -639,12 +641,12 @@ def rows_that_are_missing():
     for what, line, second in [("accepted", b"0 0 0\n", "0 0 0: accepted\n"),
                                ("refused", b"7 6 10\n", "7 6 10: refused; `tools/explain.py FOLDER` says why\n")]:
         given = found_by(line + whole)
-        yield f"rows that are found, and {what}", given == ("", f"{LACKING}: found by target/bin/infer\n{second}", whole, blank), repr(given[:2])
+        yield f"rows that are found, and {what}", given == ("", f"{LACKING}: found by crates/infer/out/infer\n{second}", whole, blank), repr(given[:2])
     given = found_by(b"20 0 0\n")
     second = "not looked for, since the bundle does not open\n20 0 0: refused; `tools/explain.py FOLDER` says why\n"
     yield "a bundle that does not open", given == ("", f"{LACKING}: {second}", blank, blank), repr(given[:2])
     said, out, held, given = found_by(b"7 6 10\n" + whole, SOME, "infer9", "--edition", "9")
-    right = (said, held, given) == ("", whole, blank) and "found by target/bin/infer9" in out and "explain.py --edition 9 FOLDER`" in out
+    right = (said, held, given) == ("", whole, blank) and "found by crates/infer9/out/infer9" in out and "explain.py --edition 9 FOLDER`" in out
     yield "rows that are found for the newer terminal", right, said + out
     said, out, held, given = found_by(b"0 0 0\n" + whole, START)
     right = held == whole and given == layout.without_rows(whole) and "no row for 9 of the 9 words, from word 0 on: found" in out
@@ -659,7 +661,7 @@ def mistakes_of_the_program():
     begin, _ = row_at(whole, 4)
     for options, name in ((), "infer"), (("--edition", "9"), "infer9"):
         given = found_by(b"", SOME, "other", *options)
-        expected = f"{LACKING}, and target/bin/{name} is not built: `rt check {name}` proves and builds it"
+        expected = f"{LACKING}, and crates/{name}/out/{name} is not built: `rt run </dev/null` in crates/{name} proves and builds it"
         yield f"{name} is not built", given == (expected, "", None, None), repr(given)
     for what, printed in [
             ("nothing", b""), ("no answer", b"x\n"), ("two numbers", b"0 0\n"), ("an answer that is no ASCII", b"\xff\n"),
@@ -669,7 +671,7 @@ def mistakes_of_the_program():
             ("another row in the place of one that is given", b"0 0 0\n" + whole[:begin + 24] + b"\0" + whole[begin + 25:]),
             ("a row that is still to be found", b"0 0 0\n" + with_row(whole, 6, bytes(464)))]:
         said, out, held, _ = found_by(printed)
-        right = said.endswith("target/bin/infer does not say what is known here: `rt check infer` builds it anew") and (out, held) == ("", None)
+        right = said.endswith("crates/infer/out/infer does not say what is known here: `rt run </dev/null` in crates/infer builds it anew") and (out, held) == ("", None)
         yield f"a program that prints {what}", right, said + out
 
 
@@ -1928,49 +1930,49 @@ def logs_that_are_none():
 
 # A product that is made here, with the names that its files declare.
 SOURCES = {
-    "crates/one/specs/Read.antt": {"readingOf", "formatOf"}, "crates/one/specs/Laws.antt": {"ReadsSound"},
-    "crates/one/src/lib.rt": {"read_word"}, "crates/two/specs/Step.antt": {"stepOf"}, "crates/two/proofs/Steps.antt": {"step-sound"},
+    "crates/one/specs/Read.antt": {"reading_of", "format_of"}, "crates/one/specs/Laws.antt": {"ReadsSound"},
+    "crates/one/src/lib.rt": {"read_word"}, "crates/two/specs/Step.antt": {"step_of"}, "crates/two/proofs/Steps.antt": {"step_sound"},
     "crates/two/src/step.rt": {"one_step"}, "tools/read.py": {"read_all"},
 }
 NAMED = naming.Product(["one", "two"], {"one/wide", "two/short"}, {"read-twice"}, {*SOURCES, "docs/PAGE.md", "examples/sum", "examples/sum/rows.txt"}, SOURCES)
 # Text in which every name is right, and what is reported where a part of it is replaced by another, with the line in which that stands.
 PAGE = """# A page
 
-Reading is `one` Read: `readingOf`, `formatOf`; Laws: `ReadsSound`, and a step is `two` Step, `stepOf`. It rests
-on `one`'s `read_word`, on `two`: `one_step` and on the law `ReadsSound`; see `step-sound` of `two`, `sum` and `cmp`.
+Reading is `one` Read: `reading_of`, `format_of`; Laws: `ReadsSound`, and a step is `two` Step, `step_of`. It rests
+on `one`'s `read_word`, on `two`: `one_step` and on the law `ReadsSound`; see `step_sound` of `two`, `sum` and `cmp`.
 
     `nothing` is read here
 
-1. In `one` is `specs/Read.antt` (`formatOf`), in `two` is `one_step` of `src/step.rt`,
-   and in `crates/two/specs/Step.antt`: `stepOf`. `Read.antt`, `specs/`, `two/proofs/Steps.antt`, `tools/read.py`,
-   `read.py`, `docs/PAGE.md` and `rows.txt` are files; `stepOf (readingOf w)` and `read_all` are names.
+1. In `one` is `specs/Read.antt` (`format_of`), in `two` is `one_step` of `src/step.rt`,
+   and in `crates/two/specs/Step.antt`: `step_of`. `Read.antt`, `specs/`, `two/proofs/Steps.antt`, `tools/read.py`,
+   `read.py`, `docs/PAGE.md` and `rows.txt` are files; `step_of (reading_of w)` and `read_all` are names.
 
 | sentence | definition | wrong versions that are told apart |
 |---|---|---|
 | "Read" | `one` Read; Laws | read-twice, and so on |
-| edit `one/wide` | `two` Step: `stepOf`; `one` Read: `readingOf` | |
+| edit `one/wide` | `two` Step: `step_of`; `one` Read: `reading_of` | |
 """
 WRONG_NAMES = [
-    ("a crate", "`one` Read: `readingOf`, `f", "`ten` Read: `readingOf`, `f", 3, "`ten` is no crate of crates.txt"),
-    ("a crate of a definition", "`two` Step: `stepOf`; `one`", "`ten` Step: `stepOf`; `one`", 15, "`ten` is no crate of crates.txt"),
-    ("a module", "`one` Read: `readingOf`, `f", "`one` Reed: `readingOf`, `f", 3, "there is no crates/one/specs/Reed.antt"),
-    ("a module of another crate", "; `one` Read: `readingOf` |", "; Read: `readingOf` |", 15, "there is no crates/two/specs/Read.antt"),
+    ("a crate", "`one` Read: `reading_of`, `f", "`ten` Read: `reading_of`, `f", 3, "`ten` is no crate of crates.txt"),
+    ("a crate of a definition", "`two` Step: `step_of`; `one`", "`ten` Step: `step_of`; `one`", 15, "`ten` is no crate of crates.txt"),
+    ("a module", "`one` Read: `reading_of`, `f", "`one` Reed: `reading_of`, `f", 3, "there is no crates/one/specs/Reed.antt"),
+    ("a module of another crate", "; `one` Read: `reading_of` |", "; Read: `reading_of` |", 15, "there is no crates/two/specs/Read.antt"),
     ("a module after a semicolon", "; Laws: `ReadsSound`", "; Law: `ReadsSound`", 3, "there is no crates/one/specs/Law.antt"),
     ("a module without names", "`one` Read; Laws |", "`one` Read; Step |", 14, "there is no crates/one/specs/Step.antt"),
-    ("a definition", "`readingOf`, `formatOf`;", "`readingOf`, `formOf`;", 3, "`formOf` is not declared in crates/one/specs/Read.antt"),
-    ("a definition of another module", "`readingOf`, `formatOf`;", "`ReadsSound`, `formatOf`;", 3, "`ReadsSound` is not declared in crates/one/specs/Read.antt"),
-    ("a definition after a comma", "Step, `stepOf`", "Step, `readingOf`", 3, "`readingOf` is not declared in crates/two/specs/Step.antt"),
-    ("a definition in a table", "Step: `stepOf`;", "Step: `one_step`;", 15, "`one_step` is not declared in crates/two/specs/Step.antt"),
+    ("a definition", "`reading_of`, `format_of`;", "`reading_of`, `form_of`;", 3, "`form_of` is not declared in crates/one/specs/Read.antt"),
+    ("a definition of another module", "`reading_of`, `format_of`;", "`ReadsSound`, `format_of`;", 3, "`ReadsSound` is not declared in crates/one/specs/Read.antt"),
+    ("a definition after a comma", "Step, `step_of`", "Step, `reading_of`", 3, "`reading_of` is not declared in crates/two/specs/Step.antt"),
+    ("a definition in a table", "Step: `step_of`;", "Step: `one_step`;", 15, "`one_step` is not declared in crates/two/specs/Step.antt"),
     ("a name of another crate", "`one`'s `read_word`", "`two`'s `read_word`", 4, "`read_word` is not declared in two"),
     ("a name after a crate and a colon", "`two`: `one_step`", "`two`: `read_word`", 4, "`read_word` is not declared in two"),
-    ("a name of a crate that is named after it", "`step-sound` of `two`", "`step-sound` of `one`", 4, "`step-sound` is not declared in one"),
-    ("a law", "law `ReadsSound`", "law `readingOf`", 4, "`readingOf` is not declared in the specs/Laws.antt of any crate"),
-    ("a name of a file", "(`formatOf`)", "(`stepOf`)", 8, "`stepOf` is not declared in crates/one/specs/Read.antt"),
-    ("a name before its file", "`one_step` of `src", "`stepOf` of `src", 8, "`stepOf` is not declared in crates/two/src/step.rt"),
-    ("a name after its file", "antt`: `stepOf`", "antt`: `one_step`", 9, "`one_step` is not declared in crates/two/specs/Step.antt"),
+    ("a name of a crate that is named after it", "`step_sound` of `two`", "`step_sound` of `one`", 4, "`step_sound` is not declared in one"),
+    ("a law", "law `ReadsSound`", "law `reading_of`", 4, "`reading_of` is not declared in the specs/Laws.antt of any crate"),
+    ("a name of a file", "(`format_of`)", "(`step_of`)", 8, "`step_of` is not declared in crates/one/specs/Read.antt"),
+    ("a name before its file", "`one_step` of `src", "`step_of` of `src", 8, "`step_of` is not declared in crates/two/src/step.rt"),
+    ("a name after its file", "antt`: `step_of`", "antt`: `one_step`", 9, "`one_step` is not declared in crates/two/specs/Step.antt"),
     ("a name of nothing", "`read_all`", "`read_none`", 10, "`read_none` is declared nowhere"),
     ("a word of nothing", "`sum`", "`total`", 4, "`total` is declared nowhere"),
-    ("a name among others", "`stepOf (readingOf w)`", "`stepOf (readOf w)`", 10, "`readOf` is declared nowhere"),
+    ("a name among others", "`step_of (reading_of w)`", "`step_of (read_of w)`", 10, "`read_of` is declared nowhere"),
     ("an edit", "`one/wide`", "`one/narrow`", 15, "there is no edit `one/narrow`"),
     ("an edit of another crate", "`one/wide`", "`two/wide`", 15, "there is no edit `two/wide`"),
     ("an edit of no crate", "`one/wide`", "`ten/wide`", 15, "`ten/wide`: `ten` is no crate of crates.txt"),
@@ -2012,24 +2014,24 @@ def names_that_are_wrong():
 @cases()
 def names_that_are_declared():
     for what, reader, text, expected in [
-            ("definitions", naming.names_of_antt, "-- a : b\npub mod Read\nuse Read.{x}\nabbrev pub isR : ℕ → Bool\nisR n = y\n  unfoldable pub at : ℕ\n"
-             "pub record Row (n : ℕ) : Type 0 where\n  pub lo hi : ℕ\nstep-sound :\n    (a : ℕ) → b\n", "Read isR at Row lo hi step-sound"),
+            ("definitions", naming.names_of_antt, "-- a : b\npub mod Read\nuse Read.{x}\nabbrev pub is_r : ℕ → Bool\nis_r n = y\n  unfoldable pub at : ℕ\n"
+             "pub record Row (n : ℕ) : Type 0 where\n  pub lo hi : ℕ\nstep_sound :\n    (a : ℕ) → b\n", "Read is_r at Row lo hi step_sound"),
             ("code", naming.names_of_rt, "// fn no\nuse a::b;\npub const MOST: u8 = 1;\npub struct Row {\n    pub at: u8,\n}\npub enum End {\n    Spent,\n    Fault(u8),\n}\n"
              "fn one_step(x: u8) -> u8 {\n    let y = x;\n}\nmod edges;\n", "MOST Row at End Spent Fault one_step edges"),
             ("a script", naming.names_of_py, "import os\nMOST = 1\nA, B = 1, 2\nclass Row:\n    def read(self):\n        x = 1\n", "MOST A Row read")]:
         given = reader(text)
         yield f"the names that are declared in {what}", given == set(expected.split()), " ".join(sorted(given))
     with tempfile.TemporaryDirectory() as root:
-        for path, text in [("crates.txt", "# Words.\nv8:\nalu: v8\n"), ("README.md", "`v8` Read: `readOf`\n"), ("docs/TRACE.md", "`v8`\n"), ("docs/ARCHITECTURE.md", "`v8`\n"),
-                           ("crates/v8/specs/Read.antt", "readingOf : ℕ\n"), ("crates/v8/must-fail/wide.edit", ""), ("tools/plain/mutants.txt", "The versions.\n\nread-twice\n- x\n"),
-                           ("target/x.py", "def read(): 1\n")]:
+        for path, text in [("crates.txt", "# Words.\nv8:\nalu: v8\n"), ("README.md", "`v8` Read: `read_of`\n"), ("docs/TRACE.md", "`v8`\n"), ("docs/ARCHITECTURE.md", "`v8`\n"),
+                           ("crates/v8/specs/Read.antt", "reading_of : ℕ\n"), ("crates/v8/must-fail/wide.edit", ""), ("tools/plain/mutants.txt", "The versions.\n\nread-twice\n- x\n"),
+                           ("crates/v8/out/x.py", "def read(): 1\n"), ("crates/v8/proofs/read/Answers.antt", "read_lem : ℕ\n")]:
             os.makedirs(os.path.join(root, os.path.dirname(path)), exist_ok=True)
             write(text.encode(), root, path)
         product, given = naming.product_of(root), naming.findings(root)
-    right = (product.crates, product.edits, product.versions, product.declared) == (["v8", "alu"], {"v8/wide"}, {"read-twice"}, {"crates/v8/specs/Read.antt": {"readingOf"}})
-    yield "a product that is read", right and "target/x.py" not in product.paths, str(product)
+    right = (product.crates, product.edits, product.versions, product.declared) == (["v8", "alu"], {"v8/wide"}, {"read-twice"}, {"crates/v8/specs/Read.antt": {"reading_of"}, "crates/v8/proofs/read/Answers.antt": {"read_lem"}})
+    yield "a product that is read", right and "crates/v8/out/x.py" not in product.paths, str(product)
     yield "a product and its documents", given == [
-        "README.md, line 1: `readOf` is not declared in crates/v8/specs/Read.antt", "docs/TRACE.md does not name the edit v8/wide",
+        "README.md, line 1: `read_of` is not declared in crates/v8/specs/Read.antt", "docs/TRACE.md does not name the edit v8/wide",
         "docs/ARCHITECTURE.md does not name the crate alu"], "\n".join(given)
 
 
