@@ -8,7 +8,7 @@ assembler, a program, an answer or the place where they run: each must be said i
 Sees that rows are found, kept, printed and read again as they were.
 Holds the words and the data of both terminals against what they must be, and the examples and routines that use the frame
 against the answers of the plain checker too.
-Holds what pace.py says of a gate against a log that is made here, and tries logs that are none.
+Holds what pace.py says of a gate against a log that is made here, runs one that is made, and tries logs that are none.
 Sees that every crate, definition, edit and file that the documents name is there, and that every edit is named.
 Sees that each script says what it does when asked for help, and does nothing else.
 
@@ -1799,17 +1799,28 @@ def kinds_with_a_frame():
 # The pace of a gate
 
 GATE = """\
-gate: temporary files are in memory, in a folder
 fn v8::read::read_word: proved
-rt: v8 proved (21 s)
-rt: rules proved (33 s)
-rt: answer proved (12 s)
-rt: must-fail v8/short_range: refused, as it must be (first at proofs/read.antt:3:5; 19 s)
-rt: must-fail rules/no_bound: refused, as it must be (25 s)
-rt: must-fail rules/wide: refused, as it must be (first at specs/Rules (old; new).antt:1:1; 1190 s)
-rt: answer ran as nobody, and wrote what its file 'stdout' has (1 s)
-rt: ok, 3 crates proved, 3 must-fail edits refused
+rt: v8 proved
+pace: v8 proved in 21 s
+pace: v8/short_range tried in 19 s
+rt: rules: trying its must-fail edits (2)
+pace: rules proved in 30 s
+pace: rules proved in 3 s
+rt: rules proved
+rt: answer proved
+pace: answer proved in 12 s
+pace: rules/wide tried in 1190 s
+pace: rules/no_bound tried in 25 s
+rt: must-fail v8/short_range.edit: refused, as it must be: proofs/read/Answers.antt:3:5: error: no (2 s)
+rt: must-fail rules/no_bound.edit: refused, as it must be
+rt: must-fail rules/wide.edit: refused, as it must be (only by a limit of the prover): specs/Rules.antt:1:1: error: old; new
+rt: answer ran, and wrote what its file stdout has
+pace: answer ran in 1 s
+rt: answer ran (built by Rattle's own compiler), and wrote what its file stdout has
+pace: answer ran in 0 s
+rt: ok; handles allowed: none; must-fail edits: 3 refused, 1 of them only by a limit; every proof and must-fail edit was done in this run
 6 passed, 0 failed
+pace: the gate took 660 s
 """
 GATE_SHOWN = """\
 crate   proved  edits  tried  longest  total
@@ -1821,15 +1832,21 @@ crates: 3, 66 s
 edits: 3, 1,234 s
 programs run: 1, 1 s
 sum: 1,301 s; shared by 2 jobs 10.8 minutes
+the gate took 11.0 minutes
 """
 # Later: results is new and has rules/wide, answer is gone, v8/short_range too
 LATER = """\
-rt: v8 proved (20 s)
-rt: rules proved (11 s)
-rt: results proved (41 s)
-rt: must-fail rules/no_bound: refused, as it must be (9 s)
-rt: must-fail results/wide: refused, as it must be (20 s)
-rt: ok, 3 crates proved, 2 must-fail edits refused
+rt: v8 proved
+pace: v8 proved in 20 s
+rt: rules proved
+pace: rules proved in 11 s
+pace: results proved in 41 s
+rt: results proved
+pace: rules/no_bound tried in 9 s
+pace: results/wide tried in 20 s
+rt: must-fail rules/no_bound.edit: refused, as it must be
+rt: must-fail results/wide.edit: refused, as it must be
+rt: ok; handles allowed: none; must-fail edits: 2 refused; every proof and must-fail edit was done in this run
 5 passed, 0 failed
 """
 LATER_SHOWN = """\
@@ -1837,6 +1854,29 @@ crate    proved  edits     tried   longest      total
 results  41 +41   1 +1    20 +20    20 +20     61 +61
 rules    11 -22   1 -1  9 -1,206  9 -1,181  20 -1,228
 v8        20 -1   0 -1     0 -19     0 -19     20 -20
+"""
+# A gate of which an earlier run proved v8, and tried its edit
+PARTLY = """\
+rt: v8 is kept: an earlier run on this machine proved the same files over the same libraries
+pace: rules proved in 12 s
+rt: rules proved
+pace: rules proved for its edits in 8 s
+pace: rules/wide tried in 9 s
+rt: v8: 1 of its 1 must-fail edits were tried by an earlier run on this machine, and nothing that they stand on has changed
+rt: must-fail v8/short_range.edit: refused, as it must be
+rt: must-fail rules/wide.edit: refused, as it must be
+rt: rules and the crates below passed, and that is kept. This is not the gate: run rt ci with no names
+4 passed, 0 failed (rules and the crates below alone: not the gate)
+"""
+PARTLY_SHOWN = """\
+crate  proved  edits  tried  longest  total
+rules      12      1     17        9     29
+
+crates: 1, 12 s
+edits: 2, 17 s
+programs run: 0, 0 s
+sum: 29 s; shared by 2 jobs 0.2 minutes
+proved by an earlier run: 1 crates
 """
 
 
@@ -1865,21 +1905,24 @@ def times_of_a_gate():
         yield f"the estimate for {jobs} jobs", f"; shared by {jobs} jobs {expected} minutes\n" in given, given
     given = paced(GATE, "--bars")
     yield "what is over the bars", given == GATE_SHOWN + "gate over 40.0 minutes: none\ncrates over 40 s: none\nedits over 20 s: rules/wide 1190 s, rules/no_bound 25 s\n", given
-    given = paced(LATER.replace("(20 s)", "(5000 s)"), "--bars")
+    given = paced(LATER.replace(" in 20 s", " in 5000 s"), "--bars")
     yield "a gate that is over the bar", "gate over 40.0 minutes: 83.8 minutes\ncrates over 40 s: v8 5000 s, results 41 s\nedits over 20 s: results/wide 5000 s\n" in given, given
     for what, line, expected in [
-            ("a crate that is not proved", "rt: policy NOT PROVED (exit 1, 7 s)\nrt: FAILED: policy", "crates: 4, 73 s"),
-            ("an edit that is not refused", "rt: must-fail v8/x: NOT REFUSED: the crate is still proved with this edit (7 s)\nrt: FAILED: v8/x", "edits: 4, 1,241 s"),
-            ("an edit that is none", "rt: must-fail v8/x: BAD EDIT: it has no 'old:' and 'new:' pair\nrt: FAILED: v8/x", "edits: 3, 1,234 s"),
-            ("a program that failed", "rt: rules proved, and its run FAILED (7 s)\nrt: FAILED: rules", "programs run: 2, 8 s"),
-            ("a program of another user", "rt: rules ran, and wrote what its file 'stdout' has (7 s)\nrt: FAILED: y z", "programs run: 2, 8 s")]:
+            ("a crate that is not proved", "rt: policy NOT PROVED\npace: policy proved in 7 s\nrt: FAILED: policy", "crates: 4, 73 s"),
+            ("a crate whose library failed", "rt: policy NOT PROVED: its library v8 failed\nrt: FAILED: policy", "crates: 4, 66 s"),
+            ("an edit that is not refused", "pace: v8/x tried in 7 s\nrt: must-fail v8/x.edit: NOT REFUSED: the crate is still proved with this edit\nrt: FAILED: v8/x.edit", "edits: 4, 1,241 s"),
+            ("an edit that is none", "rt: must-fail v8/x.edit: BAD EDIT: it has no 'old:' and 'new:' pair\nrt: FAILED: v8/y.edit", "edits: 4, 1,234 s"),
+            ("a program that failed", "rt: rules: what the program wrote, out/stdout, is less than its file stdout\npace: rules ran in 7 s\nrt: FAILED: rules (run)", "programs run: 2, 8 s"),
+            ("two that failed", "rt: rules ran, and wrote what its file stdout has\npace: rules ran in 7 s\nrt: FAILED: y (tests) z", "programs run: 2, 8 s")]:
         given = paced(re.sub("rt: ok.*", line, GATE))
-        failed = line.rpartition(": ")[2].replace(" ", ", ")
+        failed = line.rpartition("FAILED: ")[2].replace(" z", ", z")
         yield f"a log with {what}", f"\n{expected}\n" in given and given.endswith(f"\nfailed: {failed}\n"), given
     given = paced(GATE[:GATE.index("rt: answer ran")])
     yield "a log that is cut off", given.endswith("\nthe log has no end: what the gate did then is not counted\n"), given
-    given = paced("rt: v8 proved (2 s)\nrt: ok, 1 crates proved, no program run\n")
-    yield "a log of rt prove", "sum: 2 s; shared by 2 jobs 0.0 minutes\n" in given and "the log has no end" not in given, given
+    given = paced("rt: v8 proved\npace: v8 proved in 2 s\nrt: v8 and the crates below passed, and that is kept.\n1 passed, 0 failed (v8 and the crates below alone: not the gate)\n")
+    yield "a log of some crates", "sum: 2 s; shared by 2 jobs 0.0 minutes\n" in given and "the log has no end" not in given, given
+    given = paced(PARTLY)
+    yield "a log of what an earlier run has not proved", given == PARTLY_SHOWN, given
 
 
 @cases()
@@ -1898,25 +1941,31 @@ edits gone: v8/short_range
 """ in given, given
     given = paced(GATE, old=GATE)
     yield "no difference", given.endswith("\nnew crates: none\ncrates gone: none\nedits moved: none\nedits gone: none\n"), given
+    yield "the time that two gates took", "\nthe gate took 11.0 minutes, 11.0 minutes before\n" in given, given
     yield "bars after differences", paced(LATER, "--bars", old=GATE).endswith("short_range\ngate over 40.0 minutes: none\ncrates over 40 s: results 41 s\nedits over 20 s: none\n"), ""
+    given = paced(GATE, old=PARTLY)
+    right = "\nrules   33 +21   2 +1  1,215 +1,198  1,190 +1,181  1,248 +1,219\nv8          21      1            19            19            40\n" in given
+    yield "a crate that the old gate did not prove", right and "new crates: answer\ncrates gone: none\n" in given, given
     for what, names, old, expected in [
             ("two of a label, one moved", ["c/x"], ["a/x", "b/x"], ({"a/x": "c/x"}, ["b/x"])), ("two of a label, one stays", ["a/x"], ["a/x", "b/x"], ({}, ["b/x"])),
             ("one that moved, and one more", ["b/x", "c/x"], ["a/x"], ({"a/x": "b/x"}, [])), ("another label in the crate", ["a/y"], ["a/x"], ({}, ["a/x"]))]:
-        given = pace.moved(*(pace.Gate({}, dict.fromkeys(edits, 1), {}, []) for edits in (names, old)))
+        given = pace.moved(*(pace.Gate({}, dict.fromkeys(edits, 1), {}, {}, {}, {}, None, []) for edits in (names, old)))
         yield f"edits: {what}", given == expected, repr(given)
 
 
 @cases()
 def logs_that_are_none():
     for what, log, expected in [
-            ("no bytes", b"", "log is empty"), ("no UTF-8", b"rt: v8 proved (2 s)\n\xff", "log, line 2: byte FF "), ("no line of rt", "v8 proved (2 s)\n", "log tells of no crate"),
-            ("an end alone", "rt: ok, 0 crates proved\n", "log tells of no crate"), ("a form that is not known", GATE.replace("v8 proved (21", "v8 is proved (21"), "log, line 3: `rt: v8 is proved (21 s)` is no line of rt"),
-            ("seconds that are none", GATE.replace("(21 s)", "(2,1 s)"), "log, line 3: `rt: v8 proved (2,1 s)` is no line of rt"),
-            ("a crate that was proved before", GATE.replace("(21 s)", "(unchanged since it was last proved)"), "log, line 3: v8 was not proved in this run"),
-            ("no beginning", GATE[GATE.index("rt: must-fail"):], "log, line 1: v8 has not been proved before this line"), ("a gate twice", GATE * 2, "log, line 14: the log goes on after its end"),
-            ("a crate twice", "rt: v8 proved (2 s)\n" * 2, "log, line 2: v8 is told a second time"),
-            ("a crate that is missing", GATE.replace("rt: answer proved (12 s)\n", ""), "log, line 8: answer has not been proved before this line"),
-            ("an edit that is missing", re.sub("rt: must-fail v8.*\n", "", GATE), "log, line 9: the log's end tells 3 crates and 3 edits, and its lines 3 and 2")]:
+            ("no bytes", b"", "log is empty"), ("no UTF-8", b"rt: v8 proved\n\xff", "log, line 2: byte FF "), ("no line of rt", "v8 proved\n", "log tells of no crate"),
+            ("an end alone", "rt: ok; handles allowed: none\n", "log tells of no crate"),
+            ("a form that is not known", GATE.replace("v8 proved in", "v8 is proved in"), "log, line 3: `pace: v8 is proved in 21 s` is no line of pace.py"),
+            ("seconds that are none", GATE.replace(" 21 s", " 2,1 s"), "log, line 3: `pace: v8 proved in 2,1 s` is no line of pace.py"),
+            ("no times", re.sub("pace: .*\n", "", GATE), "log tells no times: `pace.py --run LOG` writes a log that does"),
+            ("no beginning", GATE[GATE.index("rt: must-fail"):], "log, line 9: the log's end tells 6 crates and edits, and its lines 3"), ("a gate twice", GATE * 2, "log, line 24: the log goes on after its end"),
+            ("a crate twice", "rt: v8 proved\n" * 2, "log, line 2: v8 is told a second time"),
+            ("an edit twice", GATE.replace("rules/no_bound.edit", "v8/short_range.edit"), "log, line 14: v8/short_range is told a second time"),
+            ("a crate that is missing", GATE.replace("rt: answer proved\n", ""), "log, line 20: the log's end tells 6 crates and edits, and its lines 5"),
+            ("an edit that is missing", re.sub("rt: must-fail v8.*\n", "", GATE), "log, line 20: the log's end tells 6 crates and edits, and its lines 5")]:
         given = paced(log)
         yield f"a log with {what}", given.startswith(expected), given
         if what != "no bytes":
@@ -1924,6 +1973,51 @@ def logs_that_are_none():
             yield f"an old log with {what}", given.startswith(expected.replace("log", "old", 1)), given
     for options in ["--bar"], ["--jobs", "x"], ["--jobs", "-1"], ["--jobs"]:
         yield f"pace.py {' '.join(options)} LOG", refused(pace.main, [*options, os.path.join(ROOT, "README.md")]), ""
+
+
+@cases()
+def processes_of_a_gate():
+    check, labels = "/kit/rattle check --crate-name v8 src/lib.rt", ["no_bound", "wide"]
+    for what, words, place, known, expected in [
+            ("a crate", f"{check} --jobs 2", "/x/crates/v8", labels, ("crates", "v8")),
+            ("a crate over what was kept", f"{check} --incremental out/incremental", "/x/crates/v8", labels, ("crates", "v8")),
+            ("a library", "rattle build --crate-name v8 src/lib.rt -o out/rlib/v8.rlib", "/x/crates/v8", labels, ("crates", "v8")),
+            ("an edit", f"{check} --incremental /tmp/rt-edits-7-x/1", "/tmp/rt-edit-7-y", labels, ("edits", "v8/wide")),
+            ("an edit that is gone", f"{check} --incremental /tmp/rt-edits-7-x/2", "/tmp/rt-edit-7-y", labels, ("bases", "v8")),
+            ("what edits begin with", f"{check} --incremental /tmp/rt-edits-7-x/seed", "/tmp/rt-edit-7-y", labels, ("bases", "v8")),
+            ("the one edit, from nothing", check, "/tmp/rt-edit-7-y", labels[1:], ("edits", "v8/wide")),
+            ("one of two edits, from nothing", check, "/tmp/rt-edit-7-y", labels, ("bases", "v8")),
+            ("rt", "python3 rt check v8", "/x", labels, None), ("another program", check.replace("rattle", "rattling"), "/x", labels, None),
+            ("a command without a crate", "rattle fmt src/lib.rt --check", "/x", labels, None), ("one that has ended", "", "", labels, None)]:
+        given = pace.check_of(words.split(), place, lambda crate: known)
+        yield f"a process that checks {what}", given == expected, repr(given)
+    with tempfile.TemporaryDirectory() as folder:
+        os.makedirs(os.path.join(folder, "v8", "must-fail"))
+        for name in ("wide.edit", "no_bound.edit", "notes.md"):
+            write(b"", folder, "v8", "must-fail", name)
+        given = pace.edits_of("v8", folder), pace.edits_of("alu", folder)
+        yield "the edits of a crate", given == (labels, []), repr(given)
+    given = sorted(pace.below(1, {(2, "a"): 1, (3, "b"): 2, (4, "c"): 9, (5, "d"): 4}))
+    yield "the processes below one", given == [(2, "a"), (3, "b")], repr(given)
+
+
+@cases("sleep")
+def gates_that_are_run():
+    lines = "rt: v8 proved\nrt: ok; handles allowed: none\n1 passed, 0 failed\n"
+    with tempfile.TemporaryDirectory() as folder:
+        log, rattle = os.path.join(folder, "log"), os.path.join(folder, "rattle")
+        os.symlink(sys.executable, rattle)
+        command = f"'{rattle}' check --crate-name v8; printf '%s' '{lines}'; exit 3"
+        write(b"import time; time.sleep(2)\n", folder, "check")
+        status, out, said = called("pace.py", "--run", log, "sh", "-c", f"cd '{folder}'; {command}")
+        held = read(log).decode()
+        yield "a gate's lines and its status", (status, out, said) == (3, lines, ""), f"{status} {out} {said}"
+        told = re.sub(r"pace: v8 proved in [123] s\n", "", held, count=1)
+        yield "a gate's log", told != held and re.fullmatch(rf"{re.escape(lines)}pace: the gate took [234] s\n", told), held
+        given = paced(held)
+        yield "the times of a gate that was run", re.match(r"crate  proved .*\nv8          [123] ", given), given
+    status, out, said = called("pace.py", "--run", os.path.join(folder, "none", "log"))
+    yield "a log in no folder", one_line("pace.py", status, out, said), said
 
 
 # Names in the documents
@@ -2055,7 +2149,7 @@ def wrong_calls():
             ("found.py", ["7", os.path.join(name, "bundle.bin"), os.path.join(name, "answer.txt")]),
             ("bundle.py", ["--rows"]), ("bundle.py", ["--rows", EXAMPLES]), ("bundle.py", ["--rows", "--version", "1", name]),
             ("searches.py", ["x", "y"]), ("searches.py", ["none"]), ("searches.py", [os.path.join(ROOT, "README.md")]),
-            ("pace.py", []), ("pace.py", ["none"]), ("pace.py", ["x", "y"]), ("pace.py", ["--bars"]), ("pace.py", ["--before", "none"]), ("pace.py", ["--jobs", "0", "none"]),
+            ("pace.py", []), ("pace.py", ["none"]), ("pace.py", ["x", "y"]), ("pace.py", ["--bars"]), ("pace.py", ["--before", "none"]), ("pace.py", ["--jobs", "0", "none"]), ("pace.py", ["--run"]), ("pace.py", ["--run", "--bars"]),
             ("pace.py", [os.path.join(ROOT, "README.md")]), ("naming.py", ["x"])]:
         status, out, said = called(tool, *arguments)
         yield f"{tool} {' '.join(arguments)[:60]}", one_line(tool, status, out, said), f"{status} {out} {said}"
