@@ -39,10 +39,9 @@ OUTSIDE = {
     "instructions of SPARC, and a part of one": "be bg bge bl ble bn bne brz cmp imm22 lda ldda ldsba ldsha ldstuba lduba lduha mov "
                                                 "restore ret retl rett save sta stba stda stha swapa wr",
     "commands": "qemu-sparc qemu-sparc32plus rt time",
-    "of the prover, its library and its stages": "cc getD refl rw session simp",
-    "a type and a crate of the toolchain": "i32 libc",
+    "of the prover, its library and its stages": "cc get_or refl rw session simp",
+    "a type and a crate of the toolchain": "i32 io",
     "what a program prints, in a file of its crate": "stdout",
-    "stands for any name": "X X.decls",
 }
 OUTSIDE_NAMES = set(" ".join(OUTSIDE.values()).split())
 
