@@ -42,6 +42,7 @@ OUTSIDE = {
     "of the prover, its library and its stages": "cc get_or refl rw session simp",
     "a type and a crate of the toolchain": "i32 io",
     "what a program prints, in a file of its crate": "stdout",
+    "files of a function's proof": "Answers.antt Invariants.antt",
 }
 OUTSIDE_NAMES = set(" ".join(OUTSIDE.values()).split())
 
