@@ -1,7 +1,7 @@
 #!/usr/bin/env python3
 """pace.py: shows where a gate's time goes, by its log.
 
-    tools/pace.py --run LOG           runs `.ci/run`, prints what it prints, and writes that with the times to LOG
+    tools/pace.py --run LOG           runs `.ci/run`, prints what it prints, and writes the lines of rt with the times to LOG
     tools/pace.py --run LOG COMMAND   the same with another command, as `rt ci --anew` or `rt ci NAME`
     tools/pace.py LOG                 the crates, the dearest first, and the totals
     tools/pace.py --before OLD LOG    the same, with the difference from an earlier log and what has come and gone since
@@ -168,7 +168,8 @@ def run_gate(path, command):
             for line in gate.stdout:
                 text, now = line.decode("utf-8", "replace").rstrip("\r\n"), time.monotonic()
                 print(text, flush=True)
-                note(text)
+                if text.startswith("rt: ") or COUNTED.fullmatch(text):
+                    note(text)
                 ran = RAN.fullmatch(text)
                 if ran:
                     say("runs", ran[1] or ran[2], now - last)
