@@ -40,7 +40,7 @@ OUTSIDE = {
                                                 "restore ret retl rett save sta stba stda stha swapa wr",
     "commands": "qemu-sparc qemu-sparc32plus rt time",
     "of the prover, its library and its stages": "cc get_or refl rw session simp",
-    "a type and a crate of the toolchain": "i32 io",
+    "a type and a crate of the toolchain": "i32 libc",
     "what a program prints, in a file of its crate": "stdout",
     "files of a function's proof": "Answers.antt Invariants.antt",
 }
