@@ -50,11 +50,10 @@ PASSED = re.compile(r"rt: ok; .*|rt: .* and the crates below passed.*")
 FAILED = re.compile(r"rt: FAILED: (.*)")
 COUNTED = re.compile(r"(\d+) passed, \d+ failed.*")
 NAMES = re.compile(r"\S+(?: \((?:run|tests)\))?")  # of what failed
-# The lines of --run, by the part of a gate whose time they tell: a name and its seconds.
-FORMS = [(part, re.compile(f"pace: {form}")) for part, form in [
-    ("crates", r"(\w+) proved in (\d+) s"), ("edits", r"(\w+/\S+) tried in (\d+) s"), ("bases", r"(\w+) proved for its edits in (\d+) s"),
-    ("runs", r"(\w+) ran in (\d+) s"), ("took", r"(the gate) took (\d+) s")]]
-TEXTS = {"crates": "{} proved in {} s", "edits": "{} tried in {} s", "bases": "{} proved for its edits in {} s", "runs": "{} ran in {} s", "took": "{} took {} s"}
+# The lines of --run, by the part of a gate whose time they tell: how a name is spelled there, and the text with the name and its seconds.
+TEXTS = {"crates": (r"\w+", "pace: {} proved in {} s"), "edits": (r"\w+/\S+", "pace: {} tried in {} s"),
+         "bases": (r"\w+", "pace: {} proved for its edits in {} s"), "runs": (r"\w+", "pace: {} ran in {} s"), "took": ("the gate", "pace: {} took {} s")}
+FORMS = [(part, re.compile(text.format(f"({name})", r"(\d+)"))) for part, (name, text) in TEXTS.items()]
 
 
 # Running
@@ -143,13 +142,13 @@ def run_gate(path, command):
         raise Problem("--run looks at processes in /proc, which is not here")
     lock, done, begun = threading.Lock(), threading.Event(), time.monotonic()
     with open(path, "w", encoding="utf-8") as log:
-        def note(line):
+        def keep(line):
             with lock:
                 log.write(line + "\n")
                 log.flush()
 
         def say(part, name, seconds):
-            note("pace: " + TEXTS[part].format(name, round(seconds)))
+            keep(TEXTS[part][1].format(name, round(seconds)))
 
         try:
             gate = subprocess.Popen(command, cwd=programs.ROOT, stdout=subprocess.PIPE, stderr=subprocess.STDOUT)
@@ -169,7 +168,7 @@ def run_gate(path, command):
                 text, now = line.decode("utf-8", "replace").rstrip("\r\n"), time.monotonic()
                 print(text, flush=True)
                 if text.startswith("rt: ") or COUNTED.fullmatch(text):
-                    note(text)
+                    keep(text)
                 ran = RAN.fullmatch(text)
                 if ran:
                     say("runs", ran[1] or ran[2], now - last)
