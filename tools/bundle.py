@@ -15,8 +15,8 @@ the disassembly, which is left out otherwise. It writes down what the files say 
 accept or refuse a bundle is the bundle program's task. On a file that cannot be written down it prints the
 file, the line and the reason, and ends with status 1; there is then no bundle.bin, also none of before.
 
-Rows that rows.txt does not have are found by the program `infer` (target/bin/infer, made by `rt check infer`) or, for
-edition 9, `infer9`; those that it has are kept. Then two lines are printed: how many rows were found, and the answer to the
+Rows that rows.txt does not have are found by the program `infer` (crates/infer/out/infer, made by `rt run </dev/null` in
+crates/infer) or, for edition 9, `infer9`; those that it has are kept. Then two lines are printed: how many rows were found, and the answer to the
 bundle with them. A refused one is written too, so that `explain.py FOLDER` says what is wrong. If rows.txt has them all,
 nothing is found and nothing printed.
 
@@ -469,7 +469,7 @@ def is_filled(filled, data):
 
 def found_lines(folder, edition, lacking, answer, found):
     """How many rows were found, and what becomes of the bundle with them."""
-    done = f"found by target/bin/{programs.program_of('infer', edition)}" if found else "not looked for, since the bundle does not open"
+    done = f"found by {programs.place_of(programs.program_of('infer', edition))}" if found else "not looked for, since the bundle does not open"
     told = "" if script.edition_of(folder) == edition else f"--edition {edition} "
     more = "" if answer == ACCEPTED else f"; `tools/explain.py {told}{folder}` says why"
     return [f"rows.txt has {lacking}: {done}", f"{answer}: {'accepted' if answer == ACCEPTED else 'refused'}{more}"]

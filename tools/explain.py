@@ -14,8 +14,8 @@ scratch word and what it does not fit; for 1 and 18 to 23 the bytes that are bad
 branch or return hands on; or with its own, if a branch lands on it and it is refused with that. Where rows.txt does not have
 all rows, the row is shown whole.
 
-All this is found by the program `explain` (target/bin/explain, made by `rt check explain`) or, for edition 9, `explain9`, which
-calls the functions of the check; this script has the names and the words.
+All this is found by the program `explain` (crates/explain/out/explain, made by `rt run </dev/null` in crates/explain) or, for
+edition 9, `explain9`, which calls the functions of the check; this script has the names and the words.
 """
 import os
 import re

@@ -5,8 +5,8 @@
     tools/found.py --every N EDITION BUNDLES ANSWERS ..   one of N of these
 
 EDITION, BUNDLES and ANSWERS are those of corpus.py (see `corpus.py --help`). Each bundle that ANSWERS accepts is handed to the program
-`infer` (target/bin/infer, made by `rt check infer`) or, for edition 9, `infer9`: first as it is, and one that is not accepted any
-more is counted and passed over; then with all its rows to be found. The rows are found again if that is accepted too.
+`infer` (crates/infer/out/infer, made by `rt run </dev/null` in crates/infer) or, for edition 9, `infer9`: first as it is, and one that
+is not accepted any more is counted and passed over; then with all its rows to be found. The rows are found again if that is accepted too.
 
 Printed is a line for each BUNDLES, and then the misses, counted by the number of the answer and by whether anything reaches the word
 that is named: a word that nothing reaches needs a row too, and none may be found. Last is the bundle that took the longest. It takes

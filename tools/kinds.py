@@ -26,9 +26,9 @@ reached, `n` number, `a` address, `z` address or null, `r` return, `-` unset.
 
 A routine that cannot be listed (23, 18 to 21, 2, 24, 3 and 25, as in the check) is explained as by explain.py.
 
-The kinds are found by the program `kinds` (target/bin/kinds, made by `rt check kinds`), the reason of a refusal by the
-program `explain` (made by `rt check explain`), or by `kinds9` and `explain9` for edition 9; this script has the names and the
-words.
+The kinds are found by the program `kinds` (crates/kinds/out/kinds, made by `rt run </dev/null` in crates/kinds), the reason of
+a refusal by the program `explain` (made so in crates/explain), or by `kinds9` and `explain9` for edition 9; this script has
+the names and the words.
 """
 import os
 import re
@@ -105,7 +105,7 @@ def refusal_lines(answer, data, names, edition):
     """A refusal: the card's entry, and what it is about. The check refuses with the same where there is nothing in the rows."""
     program = programs.program_of("explain", edition)
     if not programs.is_built(program):
-        return [answer, explain.card_entry(int(answer.split()[0])), "", f"(`rt check {program}` builds the program that says more)"]
+        return [answer, explain.card_entry(int(answer.split()[0])), "", f"({programs.builder_of(program)} builds the program that says more)"]
     lines = explain.explained(without_rows(data), names, [], edition)
     if lines[0] != answer:
         raise programs.unknown("kinds")

@@ -39,10 +39,10 @@ OUTSIDE = {
     "instructions of SPARC, and a part of one": "be bg bge bl ble bn bne brz cmp imm22 lda ldda ldsba ldsha ldstuba lduba lduha mov "
                                                 "restore ret retl rett save sta stba stda stha swapa wr",
     "commands": "qemu-sparc qemu-sparc32plus rt time",
-    "of the prover, its library and its stages": "cc getD refl rw session simp",
+    "of the prover, its library and its stages": "cc get_or refl rw session simp",
     "a type and a crate of the toolchain": "i32 libc",
     "what a program prints, in a file of its crate": "stdout",
-    "stands for any name": "X X.decls",
+    "files of a function's proof": "Answers.antt Invariants.antt",
 }
 OUTSIDE_NAMES = set(" ".join(OUTSIDE.values()).split())
 
@@ -103,7 +103,7 @@ def read_text(*path):
 def paths_in(root):
     """The files and folders in a folder, but for what is built there."""
     for place, folders, files in os.walk(root):
-        folders[:] = [folder for folder in folders if folder not in (".git", "target", "__pycache__")]
+        folders[:] = [folder for folder in folders if folder not in (".git", "out", "__pycache__")]
         for name in folders + files:
             yield os.path.relpath(os.path.join(place, name), root).replace(os.sep, "/")
 
@@ -246,7 +246,7 @@ class Document:
             if not any(path.endswith(f"/specs/{span}") for path in product.paths):
                 self.say(unit, at, span, f"there is no specs/{span} in any crate")
         elif PATH.fullmatch(word):
-            if not word.startswith("target/") and self.path_of(unit, at, word) is None:
+            if "/out/" not in word and self.path_of(unit, at, word) is None:
                 place = f" in `{self.crate_before(unit, at)}`, the crate named before it" if folder else ""
                 self.say(unit, at, word, f"there is no `{word}`{place}")
         else:

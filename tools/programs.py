@@ -1,4 +1,4 @@
-"""programs.py: the programs that scripts call. They stand in target/bin, where `rt check` puts what it has proved and built."""
+"""programs.py: the programs that scripts call. Each stands in its crate, as crates/NAME/out/NAME, where `rt run` leaves what it has proved and built."""
 import os
 import subprocess
 
@@ -6,7 +6,7 @@ import script
 from script import Problem
 
 ROOT = os.path.dirname(os.path.dirname(os.path.abspath(__file__)))
-FOLDER = os.path.join(ROOT, "target", "bin")
+FOLDER = os.path.join(ROOT, "crates")
 SECONDS = 60  # for a program to end
 
 
@@ -15,20 +15,35 @@ def program_of(name, edition):
     return name if edition == script.OLDER else f"{name}{edition}"
 
 
+def path_of(name):
+    """The file of a program."""
+    return os.path.join(FOLDER, name, "out", name)
+
+
+def place_of(name):
+    """The same as it is said: from the top of the repository."""
+    return f"crates/{name}/out/{name}"
+
+
+def builder_of(name):
+    """The command that proves and builds a program, and where it is given. What it runs then has nothing to read."""
+    return f"`rt run </dev/null` in crates/{name}"
+
+
 def is_built(name):
-    return os.path.exists(os.path.join(FOLDER, name))
+    return os.path.exists(path_of(name))
 
 
 def not_built(name):
     """What is said of a program that is not there."""
-    return f"target/bin/{name} is not built: `rt check {name}` proves and builds it"
+    return f"{place_of(name)} is not built: {builder_of(name)} proves and builds it"
 
 
 def run(name, data):
     """The bytes that a program prints for a bundle."""
     if not is_built(name):
         raise Problem(not_built(name))
-    return subprocess.run([os.path.join(FOLDER, name)], input=data, capture_output=True, timeout=SECONDS).stdout
+    return subprocess.run([path_of(name)], input=data, capture_output=True, timeout=SECONDS).stdout
 
 
 def lines_of(printed):
@@ -38,4 +53,4 @@ def lines_of(printed):
 
 def unknown(name):
     """The problem that a program prints something else than is known here."""
-    return Problem(f"target/bin/{name} does not say what is known here: `rt check {name}` builds it anew")
+    return Problem(f"{place_of(name)} does not say what is known here: {builder_of(name)} builds it anew")

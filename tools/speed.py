@@ -3,8 +3,8 @@
 
     tools/speed.py
 
-Needs target/bin/answer, corpus, tables and speed (rt check answer corpus tables speed), gcc, which builds tools/plain with -O2,
-and valgrind and size for the memory. Each time is the best of five runs of the whole program, start and reading
+Needs the programs answer, corpus, tables and speed (crates/answer/out/answer and so on, made by `rt run </dev/null` in the
+folder of each), gcc, which builds tools/plain with -O2, and valgrind and size for the memory. Each time is the best of five runs of the whole program, start and reading
 included. The memory of a program is the most that its stack and heap take (valgrind's massif) and its static data.
 """
 import os
@@ -20,6 +20,7 @@ import kindcases
 import layout
 import mutants
 import parts
+import programs
 import script
 import tables
 
@@ -59,7 +60,7 @@ def expect(right, program):
 
 
 def answers(name, bundle, count, plain):
-    ours, wrote = best([f"{ROOT}/target/bin/corpus"], (mutants.HEAD.pack(script.OLDER, 0, 0, 0, len(bundle)) + bundle) * count)
+    ours, wrote = best([programs.path_of("corpus")], (mutants.HEAD.pack(script.OLDER, 0, 0, 0, len(bundle)) + bundle) * count)
     expect(wrote[-2:-1] == [f"{count} bundles, 0 wrong"], "corpus")
     theirs, lines = best([plain, "-s"], (struct.pack(">I", len(bundle)) + bundle) * count)
     expect(lines[:-1] == ["0 0 0"] * count, "the plain answer")
@@ -70,7 +71,7 @@ def listings(name, case, count, plain):
     """The listing of a routine that is accepted; the proved program reads the record each time, and compares."""
     (_, marks), = tables.tables(plain, [tables.record(case._replace(expected=(kindcases.ACCEPTED, b"")))])
     record = tables.record(case._replace(expected=(kindcases.ACCEPTED, bytes(map(int, marks)))))
-    ours, wrote = best([f"{ROOT}/target/bin/tables"], record * count)
+    ours, wrote = best([programs.path_of("tables")], record * count)
     expect(wrote[-2:-1] == [f"{count} cases, 0 wrong"], "tables")
     theirs, lines = best([plain, "-n", str(count)], record)
     expect(lines[0] == kindcases.ACCEPTED, "the plain listing")
@@ -79,7 +80,7 @@ def listings(name, case, count, plain):
 
 def steps(name, routine, plain):
     count = 10 ** 7
-    ours, _ = best([f"{ROOT}/target/bin/speed"], f"{routine}7".encode())
+    ours, _ = best([programs.path_of("speed")], f"{routine}7".encode())
     theirs, _ = best([plain, str(routine), str(count)], b"")
     print(f"{name}: {count / ours / 1e6:.0f} million steps a second, plain {count / theirs / 1e6:.0f}, time ratio {ours / theirs:.2f}")
 
@@ -97,7 +98,7 @@ def most_memory(command, data, folder):
 
 
 def memory(name, bundle, plain, folder):
-    ours = most_memory(f"{ROOT}/target/bin/answer", bundle, folder)
+    ours = most_memory(programs.path_of("answer"), bundle, folder)
     theirs = most_memory(plain, bundle, folder)
     print(f"{name}: {ours:,} bytes of memory, plain {theirs:,}, ratio {ours / theirs:.2f}")
 

@@ -1,7 +1,7 @@
 #!/usr/bin/env python3
-"""Respells the names of definitions and lemmas as today's Rattle does: words in snake case.
+"""spelling.py: respells the names of definitions and lemmas as today's Rattle does: words in snake case.
 
-usage: tools/spelling.py [FOLDER]    respells the repository in FOLDER (the current one if left out), once, right after port.py
+    tools/spelling.py FOLDER    respells the repository in FOLDER (the current one if left out), once: here it is done
 
 `registerWritten` becomes `register_written`, and a lemma, a record's field or a constructor `by-least` becomes `by_least`.
 Names of types, modules and facts, names of the library, names that Rattle makes, and all that is Rattle code, strings or
@@ -10,6 +10,9 @@ data stay. The script stops before it writes if two names would fall together.
 import os
 import re
 import sys
+
+sys.dont_write_bytecode = True
+import script
 
 NAME = r"[^\s(){}\[\];,.:`\"|\\]+"
 CAMEL = re.compile(r"(?<![\w'])[a-z][a-z0-9]*(?:[A-Z][a-z0-9]*)+'*(?![\w'])")
@@ -117,8 +120,8 @@ def clashes(root, dashed, library):
     return {name: new for new, names in turned.items() for name in names if new in seen or len(names) > 1}
 
 
-def main():
-    root = sys.argv[1] if len(sys.argv) > 1 else "."
+def main(arguments):
+    root = arguments[0] if arguments else "."
     dashed, library = declared(root)
     # A lemma whose name would be that of another word keeps its dash.
     dashed -= clashes(root, dashed, library).keys()
@@ -134,4 +137,5 @@ def main():
                 file.write(new)
 
 
-main()
+if __name__ == "__main__":
+    script.run(main, __doc__)

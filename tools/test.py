@@ -8,12 +8,12 @@ assembler, a program, an answer or the place where they run: each must be said i
 Sees that rows are found, kept, printed and read again as they were.
 Holds the words and the data of both terminals against what they must be, and the examples and routines that use the frame
 against the answers of the plain checker too.
-Holds what pace.py says of a gate against a log that is made here, and tries logs that are none.
+Holds what pace.py says of a gate against a log that is made here, runs one that is made, and tries logs that are none.
 Sees that every crate, definition, edit and file that the documents name is there, and that every edit is named.
 Sees that each script says what it does when asked for help, and does nothing else.
 
-What needs GNU binutils for SPARC, gcc or a program (target/bin/answer, explain, infer or kinds, or those with a 9) is left
-out where that is not here, and this is said. The last line is `N passed, 0 failed`, with the number of those left out if there are any; the status is 0 if
+What needs GNU binutils for SPARC, gcc or a program (crates/answer/out/answer, that of explain, infer or kinds, or those with a
+9) is left out where that is not here, and this is said. The last line is `N passed, 0 failed`, with the number of those left out if there are any; the status is 0 if
 none failed.
 """
 import contextlib
@@ -54,8 +54,8 @@ TOOLS = os.path.dirname(os.path.abspath(__file__))
 ROOT = os.path.dirname(TOOLS)
 EXAMPLES = os.path.join(ROOT, "examples")
 NAMES = sorted(name for name in os.listdir(EXAMPLES) if os.path.isdir(os.path.join(EXAMPLES, name)))
-ANSWER, EXPLAIN, INFER, KINDS = (os.path.join(programs.FOLDER, program) for program in ("answer", "explain", "infer", "kinds"))
-ANSWER_9, EXPLAIN_9, INFER_9, KINDS_9 = (program + "9" for program in (ANSWER, EXPLAIN, INFER, KINDS))
+ANSWER, EXPLAIN, INFER, KINDS = (programs.path_of(program) for program in ("answer", "explain", "infer", "kinds"))
+ANSWER_9, EXPLAIN_9, INFER_9, KINDS_9 = (programs.path_of(program) for program in ("answer9", "explain9", "infer9", "kinds9"))
 WITHOUT_ROWS = ["tare", "tare-one-past"]  # examples whose rows are found
 PATH = os.environ.get("PATH", "")
 AS, OBJDUMP = (assembly.BINUTILS + tool for tool in ("as", "objdump"))
@@ -129,12 +129,14 @@ def assembler_giving(data):
 def only_program(name, printed):
     """With no program but this one, which prints these bytes and keeps what it is given in the file that is yielded."""
     with tempfile.TemporaryDirectory() as scratch:
-        path, cat, before = os.path.join(scratch, name), shutil.which("cat", path=PATH), programs.FOLDER
-        write(printed, path + ".prints")
-        write(f"#!/bin/sh\n{cat} > '{path}.given'\n{cat} '{path}.prints'\n".encode(), path)
-        os.chmod(path, 0o755)
+        cat, before = shutil.which("cat", path=PATH), programs.FOLDER
         programs.FOLDER = scratch
         try:
+            path = programs.path_of(name)
+            os.makedirs(os.path.dirname(path))
+            write(printed, path + ".prints")
+            write(f"#!/bin/sh\n{cat} > '{path}.given'\n{cat} '{path}.prints'\n".encode(), path)
+            os.chmod(path, 0o755)
             yield path + ".given"
         finally:
             programs.FOLDER = before
@@ -566,7 +568,7 @@ def mistakes_of_assemblers():
             yield name, said.startswith(expected) and "bundle.bin" not in os.listdir(folder), said
 
 
-SOURCES = [
+MISTAKEN = [
     (b" .data\nx: .word 5\n", "routine.s, line 2: 4 bytes in .data"),
     (b' .section ".rodata"\n .byte 5\n', "routine.s, line 2: 1 bytes in .rodata"),
     (b" .section .bss\n .skip 8\n", "routine.s, line 2: 8 bytes in .bss"),
@@ -582,7 +584,7 @@ SOURCES = [
 
 @cases(AS)
 def mistakes_that_the_assembler_finds():
-    for text, expected in SOURCES:
+    for text, expected in MISTAKEN:
         with routine() as folder:
             write(b" retl; nop\n" + text, folder, ROUTINE)
             said = problem_of(folder)
@@ -639,12 +641,12 @@ def rows_that_are_missing():
     for what, line, second in [("accepted", b"0 0 0\n", "0 0 0: accepted\n"),
                                ("refused", b"7 6 10\n", "7 6 10: refused; `tools/explain.py FOLDER` says why\n")]:
         given = found_by(line + whole)
-        yield f"rows that are found, and {what}", given == ("", f"{LACKING}: found by target/bin/infer\n{second}", whole, blank), repr(given[:2])
+        yield f"rows that are found, and {what}", given == ("", f"{LACKING}: found by crates/infer/out/infer\n{second}", whole, blank), repr(given[:2])
     given = found_by(b"20 0 0\n")
     second = "not looked for, since the bundle does not open\n20 0 0: refused; `tools/explain.py FOLDER` says why\n"
     yield "a bundle that does not open", given == ("", f"{LACKING}: {second}", blank, blank), repr(given[:2])
     said, out, held, given = found_by(b"7 6 10\n" + whole, SOME, "infer9", "--edition", "9")
-    right = (said, held, given) == ("", whole, blank) and "found by target/bin/infer9" in out and "explain.py --edition 9 FOLDER`" in out
+    right = (said, held, given) == ("", whole, blank) and "found by crates/infer9/out/infer9" in out and "explain.py --edition 9 FOLDER`" in out
     yield "rows that are found for the newer terminal", right, said + out
     said, out, held, given = found_by(b"0 0 0\n" + whole, START)
     right = held == whole and given == layout.without_rows(whole) and "no row for 9 of the 9 words, from word 0 on: found" in out
@@ -659,7 +661,7 @@ def mistakes_of_the_program():
     begin, _ = row_at(whole, 4)
     for options, name in ((), "infer"), (("--edition", "9"), "infer9"):
         given = found_by(b"", SOME, "other", *options)
-        expected = f"{LACKING}, and target/bin/{name} is not built: `rt check {name}` proves and builds it"
+        expected = f"{LACKING}, and crates/{name}/out/{name} is not built: `rt run </dev/null` in crates/{name} proves and builds it"
         yield f"{name} is not built", given == (expected, "", None, None), repr(given)
     for what, printed in [
             ("nothing", b""), ("no answer", b"x\n"), ("two numbers", b"0 0\n"), ("an answer that is no ASCII", b"\xff\n"),
@@ -669,7 +671,7 @@ def mistakes_of_the_program():
             ("another row in the place of one that is given", b"0 0 0\n" + whole[:begin + 24] + b"\0" + whole[begin + 25:]),
             ("a row that is still to be found", b"0 0 0\n" + with_row(whole, 6, bytes(464)))]:
         said, out, held, _ = found_by(printed)
-        right = said.endswith("target/bin/infer does not say what is known here: `rt check infer` builds it anew") and (out, held) == ("", None)
+        right = said.endswith("crates/infer/out/infer does not say what is known here: `rt run </dev/null` in crates/infer builds it anew") and (out, held) == ("", None)
         yield f"a program that prints {what}", right, said + out
 
 
@@ -1797,17 +1799,28 @@ def kinds_with_a_frame():
 # The pace of a gate
 
 GATE = """\
-gate: temporary files are in memory, in a folder
 fn v8::read::read_word: proved
-rt: v8 proved (21 s)
-rt: rules proved (33 s)
-rt: answer proved (12 s)
-rt: must-fail v8/short_range: refused, as it must be (first at proofs/read.antt:3:5; 19 s)
-rt: must-fail rules/no_bound: refused, as it must be (25 s)
-rt: must-fail rules/wide: refused, as it must be (first at specs/Rules (old; new).antt:1:1; 1190 s)
-rt: answer ran as nobody, and wrote what its file 'stdout' has (1 s)
-rt: ok, 3 crates proved, 3 must-fail edits refused
+rt: v8 proved
+pace: v8 proved in 21 s
+pace: v8/short_range tried in 19 s
+rt: rules: trying its must-fail edits (2)
+pace: rules proved in 30 s
+pace: rules proved in 3 s
+rt: rules proved
+rt: answer proved
+pace: answer proved in 12 s
+pace: rules/wide tried in 1190 s
+pace: rules/no_bound tried in 25 s
+rt: must-fail v8/short_range.edit: refused, as it must be: proofs/read/Answers.antt:3:5: error: no (2 s)
+rt: must-fail rules/no_bound.edit: refused, as it must be
+rt: must-fail rules/wide.edit: refused, as it must be (only by a limit of the prover): specs/Rules.antt:1:1: error: old; new
+rt: answer ran, and wrote what its file stdout has
+pace: answer ran in 1 s
+rt: answer ran (built by Rattle's own compiler), and wrote what its file stdout has
+pace: answer ran in 0 s
+rt: ok; handles allowed: none; must-fail edits: 3 refused, 1 of them only by a limit; every proof and must-fail edit was done in this run
 6 passed, 0 failed
+pace: the gate took 660 s
 """
 GATE_SHOWN = """\
 crate   proved  edits  tried  longest  total
@@ -1819,15 +1832,21 @@ crates: 3, 66 s
 edits: 3, 1,234 s
 programs run: 1, 1 s
 sum: 1,301 s; shared by 2 jobs 10.8 minutes
+the gate took 11.0 minutes
 """
 # Later: results is new and has rules/wide, answer is gone, v8/short_range too
 LATER = """\
-rt: v8 proved (20 s)
-rt: rules proved (11 s)
-rt: results proved (41 s)
-rt: must-fail rules/no_bound: refused, as it must be (9 s)
-rt: must-fail results/wide: refused, as it must be (20 s)
-rt: ok, 3 crates proved, 2 must-fail edits refused
+rt: v8 proved
+pace: v8 proved in 20 s
+rt: rules proved
+pace: rules proved in 11 s
+pace: results proved in 41 s
+rt: results proved
+pace: rules/no_bound tried in 9 s
+pace: results/wide tried in 20 s
+rt: must-fail rules/no_bound.edit: refused, as it must be
+rt: must-fail results/wide.edit: refused, as it must be
+rt: ok; handles allowed: none; must-fail edits: 2 refused; every proof and must-fail edit was done in this run
 5 passed, 0 failed
 """
 LATER_SHOWN = """\
@@ -1835,6 +1854,29 @@ crate    proved  edits     tried   longest      total
 results  41 +41   1 +1    20 +20    20 +20     61 +61
 rules    11 -22   1 -1  9 -1,206  9 -1,181  20 -1,228
 v8        20 -1   0 -1     0 -19     0 -19     20 -20
+"""
+# A gate of which an earlier run proved v8, and tried its edit
+PARTLY = """\
+rt: v8 is kept: an earlier run on this machine proved the same files over the same libraries
+pace: rules proved in 12 s
+rt: rules proved
+pace: rules proved for its edits in 8 s
+pace: rules/wide tried in 9 s
+rt: v8: 1 of its 1 must-fail edits were tried by an earlier run on this machine, and nothing that they stand on has changed
+rt: must-fail v8/short_range.edit: refused, as it must be
+rt: must-fail rules/wide.edit: refused, as it must be
+rt: rules and the crates below passed, and that is kept. This is not the gate: run rt ci with no names
+4 passed, 0 failed (rules and the crates below alone: not the gate)
+"""
+PARTLY_SHOWN = """\
+crate  proved  edits  tried  longest  total
+rules      12      1     17        9     29
+
+crates: 1, 12 s
+edits: 2, 17 s
+programs run: 0, 0 s
+sum: 29 s; shared by 2 jobs 0.2 minutes
+proved by an earlier run: 1 crates
 """
 
 
@@ -1863,21 +1905,24 @@ def times_of_a_gate():
         yield f"the estimate for {jobs} jobs", f"; shared by {jobs} jobs {expected} minutes\n" in given, given
     given = paced(GATE, "--bars")
     yield "what is over the bars", given == GATE_SHOWN + "gate over 40.0 minutes: none\ncrates over 40 s: none\nedits over 20 s: rules/wide 1190 s, rules/no_bound 25 s\n", given
-    given = paced(LATER.replace("(20 s)", "(5000 s)"), "--bars")
+    given = paced(LATER.replace(" in 20 s", " in 5000 s"), "--bars")
     yield "a gate that is over the bar", "gate over 40.0 minutes: 83.8 minutes\ncrates over 40 s: v8 5000 s, results 41 s\nedits over 20 s: results/wide 5000 s\n" in given, given
     for what, line, expected in [
-            ("a crate that is not proved", "rt: policy NOT PROVED (exit 1, 7 s)\nrt: FAILED: policy", "crates: 4, 73 s"),
-            ("an edit that is not refused", "rt: must-fail v8/x: NOT REFUSED: the crate is still proved with this edit (7 s)\nrt: FAILED: v8/x", "edits: 4, 1,241 s"),
-            ("an edit that is none", "rt: must-fail v8/x: BAD EDIT: it has no 'old:' and 'new:' pair\nrt: FAILED: v8/x", "edits: 3, 1,234 s"),
-            ("a program that failed", "rt: rules proved, and its run FAILED (7 s)\nrt: FAILED: rules", "programs run: 2, 8 s"),
-            ("a program of another user", "rt: rules ran, and wrote what its file 'stdout' has (7 s)\nrt: FAILED: y z", "programs run: 2, 8 s")]:
+            ("a crate that is not proved", "rt: policy NOT PROVED\npace: policy proved in 7 s\nrt: FAILED: policy", "crates: 4, 73 s"),
+            ("a crate whose library failed", "rt: policy NOT PROVED: its library v8 failed\nrt: FAILED: policy", "crates: 4, 66 s"),
+            ("an edit that is not refused", "pace: v8/x tried in 7 s\nrt: must-fail v8/x.edit: NOT REFUSED: the crate is still proved with this edit\nrt: FAILED: v8/x.edit", "edits: 4, 1,241 s"),
+            ("an edit that is none", "rt: must-fail v8/x.edit: BAD EDIT: it has no 'old:' and 'new:' pair\nrt: FAILED: v8/y.edit", "edits: 4, 1,234 s"),
+            ("a program that failed", "rt: rules: what the program wrote, out/stdout, is less than its file stdout\npace: rules ran in 7 s\nrt: FAILED: rules (run)", "programs run: 2, 8 s"),
+            ("two that failed", "rt: rules ran, and wrote what its file stdout has\npace: rules ran in 7 s\nrt: FAILED: y (tests) z", "programs run: 2, 8 s")]:
         given = paced(re.sub("rt: ok.*", line, GATE))
-        failed = line.rpartition(": ")[2].replace(" ", ", ")
+        failed = line.rpartition("FAILED: ")[2].replace(" z", ", z")
         yield f"a log with {what}", f"\n{expected}\n" in given and given.endswith(f"\nfailed: {failed}\n"), given
     given = paced(GATE[:GATE.index("rt: answer ran")])
     yield "a log that is cut off", given.endswith("\nthe log has no end: what the gate did then is not counted\n"), given
-    given = paced("rt: v8 proved (2 s)\nrt: ok, 1 crates proved, no program run\n")
-    yield "a log of rt prove", "sum: 2 s; shared by 2 jobs 0.0 minutes\n" in given and "the log has no end" not in given, given
+    given = paced("rt: v8 proved\npace: v8 proved in 2 s\nrt: v8 and the crates below passed, and that is kept.\n1 passed, 0 failed (v8 and the crates below alone: not the gate)\n")
+    yield "a log of some crates", "sum: 2 s; shared by 2 jobs 0.0 minutes\n" in given and "the log has no end" not in given, given
+    given = paced(PARTLY)
+    yield "a log of what an earlier run has not proved", given == PARTLY_SHOWN, given
 
 
 @cases()
@@ -1896,25 +1941,31 @@ edits gone: v8/short_range
 """ in given, given
     given = paced(GATE, old=GATE)
     yield "no difference", given.endswith("\nnew crates: none\ncrates gone: none\nedits moved: none\nedits gone: none\n"), given
+    yield "the time that two gates took", "\nthe gate took 11.0 minutes, 11.0 minutes before\n" in given, given
     yield "bars after differences", paced(LATER, "--bars", old=GATE).endswith("short_range\ngate over 40.0 minutes: none\ncrates over 40 s: results 41 s\nedits over 20 s: none\n"), ""
+    given = paced(GATE, old=PARTLY)
+    right = "\nrules   33 +21   2 +1  1,215 +1,198  1,190 +1,181  1,248 +1,219\nv8          21      1            19            19            40\n" in given
+    yield "a crate that the old gate did not prove", right and "new crates: answer\ncrates gone: none\n" in given, given
     for what, names, old, expected in [
             ("two of a label, one moved", ["c/x"], ["a/x", "b/x"], ({"a/x": "c/x"}, ["b/x"])), ("two of a label, one stays", ["a/x"], ["a/x", "b/x"], ({}, ["b/x"])),
             ("one that moved, and one more", ["b/x", "c/x"], ["a/x"], ({"a/x": "b/x"}, [])), ("another label in the crate", ["a/y"], ["a/x"], ({}, ["a/x"]))]:
-        given = pace.moved(*(pace.Gate({}, dict.fromkeys(edits, 1), {}, []) for edits in (names, old)))
+        given = pace.moved(*(pace.Gate({}, dict.fromkeys(edits, 1), {}, {}, {}, {}, None, []) for edits in (names, old)))
         yield f"edits: {what}", given == expected, repr(given)
 
 
 @cases()
 def logs_that_are_none():
     for what, log, expected in [
-            ("no bytes", b"", "log is empty"), ("no UTF-8", b"rt: v8 proved (2 s)\n\xff", "log, line 2: byte FF "), ("no line of rt", "v8 proved (2 s)\n", "log tells of no crate"),
-            ("an end alone", "rt: ok, 0 crates proved\n", "log tells of no crate"), ("a form that is not known", GATE.replace("v8 proved (21", "v8 is proved (21"), "log, line 3: `rt: v8 is proved (21 s)` is no line of rt"),
-            ("seconds that are none", GATE.replace("(21 s)", "(2,1 s)"), "log, line 3: `rt: v8 proved (2,1 s)` is no line of rt"),
-            ("a crate that was proved before", GATE.replace("(21 s)", "(unchanged since it was last proved)"), "log, line 3: v8 was not proved in this run"),
-            ("no beginning", GATE[GATE.index("rt: must-fail"):], "log, line 1: v8 has not been proved before this line"), ("a gate twice", GATE * 2, "log, line 14: the log goes on after its end"),
-            ("a crate twice", "rt: v8 proved (2 s)\n" * 2, "log, line 2: v8 is told a second time"),
-            ("a crate that is missing", GATE.replace("rt: answer proved (12 s)\n", ""), "log, line 8: answer has not been proved before this line"),
-            ("an edit that is missing", re.sub("rt: must-fail v8.*\n", "", GATE), "log, line 9: the log's end tells 3 crates and 3 edits, and its lines 3 and 2")]:
+            ("no bytes", b"", "log is empty"), ("no UTF-8", b"rt: v8 proved\n\xff", "log, line 2: byte FF "), ("no line of rt", "v8 proved\n", "log tells of no crate"),
+            ("an end alone", "rt: ok; handles allowed: none\n", "log tells of no crate"),
+            ("a form that is not known", GATE.replace("v8 proved in", "v8 is proved in"), "log, line 3: `pace: v8 is proved in 21 s` is no line of pace.py"),
+            ("seconds that are none", GATE.replace(" 21 s", " 2,1 s"), "log, line 3: `pace: v8 proved in 2,1 s` is no line of pace.py"),
+            ("no times", re.sub("pace: .*\n", "", GATE), "log tells no times: `pace.py --run LOG` writes a log that does"),
+            ("no beginning", GATE[GATE.index("rt: must-fail"):], "log, line 9: the log's end tells 6 crates and edits, and its lines 3"), ("a gate twice", GATE * 2, "log, line 24: the log goes on after its end"),
+            ("a crate twice", "rt: v8 proved\n" * 2, "log, line 2: v8 is told a second time"),
+            ("an edit twice", GATE.replace("rules/no_bound.edit", "v8/short_range.edit"), "log, line 14: v8/short_range is told a second time"),
+            ("a crate that is missing", GATE.replace("rt: answer proved\n", ""), "log, line 20: the log's end tells 6 crates and edits, and its lines 5"),
+            ("an edit that is missing", re.sub("rt: must-fail v8.*\n", "", GATE), "log, line 20: the log's end tells 6 crates and edits, and its lines 5")]:
         given = paced(log)
         yield f"a log with {what}", given.startswith(expected), given
         if what != "no bytes":
@@ -1924,53 +1975,99 @@ def logs_that_are_none():
         yield f"pace.py {' '.join(options)} LOG", refused(pace.main, [*options, os.path.join(ROOT, "README.md")]), ""
 
 
+@cases()
+def processes_of_a_gate():
+    check, labels = "/kit/rattle check --crate-name v8 src/lib.rt", ["no_bound", "wide"]
+    for what, words, place, known, expected in [
+            ("a crate", f"{check} --jobs 2", "/x/crates/v8", labels, ("crates", "v8")),
+            ("a crate over what was kept", f"{check} --incremental out/incremental", "/x/crates/v8", labels, ("crates", "v8")),
+            ("a library", "rattle build --crate-name v8 src/lib.rt -o out/rlib/v8.rlib", "/x/crates/v8", labels, ("crates", "v8")),
+            ("an edit", f"{check} --incremental /tmp/rt-edits-7-x/1", "/tmp/rt-edit-7-y", labels, ("edits", "v8/wide")),
+            ("an edit that is gone", f"{check} --incremental /tmp/rt-edits-7-x/2", "/tmp/rt-edit-7-y", labels, ("bases", "v8")),
+            ("what edits begin with", f"{check} --incremental /tmp/rt-edits-7-x/seed", "/tmp/rt-edit-7-y", labels, ("bases", "v8")),
+            ("the one edit, from nothing", check, "/tmp/rt-edit-7-y", labels[1:], ("edits", "v8/wide")),
+            ("one of two edits, from nothing", check, "/tmp/rt-edit-7-y", labels, ("bases", "v8")),
+            ("rt", "python3 rt check v8", "/x", labels, None), ("another program", check.replace("rattle", "rattling"), "/x", labels, None),
+            ("a command without a crate", "rattle fmt src/lib.rt --check", "/x", labels, None), ("one that has ended", "", "", labels, None)]:
+        given = pace.check_of(words.split(), place, lambda crate: known)
+        yield f"a process that checks {what}", given == expected, repr(given)
+    with tempfile.TemporaryDirectory() as folder:
+        os.makedirs(os.path.join(folder, "v8", "must-fail"))
+        for name in ("wide.edit", "no_bound.edit", "notes.md"):
+            write(b"", folder, "v8", "must-fail", name)
+        given = pace.edits_of("v8", folder), pace.edits_of("alu", folder)
+        yield "the edits of a crate", given == (labels, []), repr(given)
+    given = sorted(pace.below(1, {(2, "a"): 1, (3, "b"): 2, (4, "c"): 9, (5, "d"): 4}))
+    yield "the processes below one", given == [(2, "a"), (3, "b")], repr(given)
+
+
+@cases("sleep")
+def gates_that_are_run():
+    lines = "rt: v8 proved\nrt: ok; handles allowed: none\n1 passed, 0 failed\n"
+    printed = "fn v8::read::read_word: proved\n" + lines
+    with tempfile.TemporaryDirectory() as folder:
+        log, rattle = os.path.join(folder, "log"), os.path.join(folder, "rattle")
+        os.symlink(sys.executable, rattle)
+        command = f"'{rattle}' check --crate-name v8; printf '%s' '{printed}'; exit 3"
+        write(b"import time; time.sleep(2)\n", folder, "check")
+        status, out, said = called("pace.py", "--run", log, "sh", "-c", f"cd '{folder}'; {command}")
+        held = read(log).decode()
+        yield "a gate's lines and its status", (status, out, said) == (3, printed, ""), f"{status} {out} {said}"
+        told = re.sub(r"pace: v8 proved in [123] s\n", "", held, count=1)
+        yield "a gate's log", told != held and re.fullmatch(rf"{re.escape(lines)}pace: the gate took [234] s\n", told), held
+        given = paced(held)
+        yield "the times of a gate that was run", re.match(r"crate  proved .*\nv8          [123] ", given), given
+    status, out, said = called("pace.py", "--run", os.path.join(folder, "none", "log"))
+    yield "a log in no folder", one_line("pace.py", status, out, said), said
+
+
 # Names in the documents
 
 # A product that is made here, with the names that its files declare.
 SOURCES = {
-    "crates/one/specs/Read.antt": {"readingOf", "formatOf"}, "crates/one/specs/Laws.antt": {"ReadsSound"},
-    "crates/one/src/lib.rt": {"read_word"}, "crates/two/specs/Step.antt": {"stepOf"}, "crates/two/proofs/Steps.antt": {"step-sound"},
+    "crates/one/specs/Read.antt": {"reading_of", "format_of"}, "crates/one/specs/Laws.antt": {"ReadsSound"},
+    "crates/one/src/lib.rt": {"read_word"}, "crates/two/specs/Step.antt": {"step_of"}, "crates/two/proofs/Steps.antt": {"step_sound"},
     "crates/two/src/step.rt": {"one_step"}, "tools/read.py": {"read_all"},
 }
 NAMED = naming.Product(["one", "two"], {"one/wide", "two/short"}, {"read-twice"}, {*SOURCES, "docs/PAGE.md", "examples/sum", "examples/sum/rows.txt"}, SOURCES)
 # Text in which every name is right, and what is reported where a part of it is replaced by another, with the line in which that stands.
 PAGE = """# A page
 
-Reading is `one` Read: `readingOf`, `formatOf`; Laws: `ReadsSound`, and a step is `two` Step, `stepOf`. It rests
-on `one`'s `read_word`, on `two`: `one_step` and on the law `ReadsSound`; see `step-sound` of `two`, `sum` and `cmp`.
+Reading is `one` Read: `reading_of`, `format_of`; Laws: `ReadsSound`, and a step is `two` Step, `step_of`. It rests
+on `one`'s `read_word`, on `two`: `one_step` and on the law `ReadsSound`; see `step_sound` of `two`, `sum` and `cmp`.
 
     `nothing` is read here
 
-1. In `one` is `specs/Read.antt` (`formatOf`), in `two` is `one_step` of `src/step.rt`,
-   and in `crates/two/specs/Step.antt`: `stepOf`. `Read.antt`, `specs/`, `two/proofs/Steps.antt`, `tools/read.py`,
-   `read.py`, `docs/PAGE.md` and `rows.txt` are files; `stepOf (readingOf w)` and `read_all` are names.
+1. In `one` is `specs/Read.antt` (`format_of`), in `two` is `one_step` of `src/step.rt`,
+   and in `crates/two/specs/Step.antt`: `step_of`. `Read.antt`, `specs/`, `two/proofs/Steps.antt`, `tools/read.py`,
+   `read.py`, `docs/PAGE.md` and `rows.txt` are files; `step_of (reading_of w)` and `read_all` are names.
 
 | sentence | definition | wrong versions that are told apart |
 |---|---|---|
 | "Read" | `one` Read; Laws | read-twice, and so on |
-| edit `one/wide` | `two` Step: `stepOf`; `one` Read: `readingOf` | |
+| edit `one/wide` | `two` Step: `step_of`; `one` Read: `reading_of` | |
 """
 WRONG_NAMES = [
-    ("a crate", "`one` Read: `readingOf`, `f", "`ten` Read: `readingOf`, `f", 3, "`ten` is no crate of crates.txt"),
-    ("a crate of a definition", "`two` Step: `stepOf`; `one`", "`ten` Step: `stepOf`; `one`", 15, "`ten` is no crate of crates.txt"),
-    ("a module", "`one` Read: `readingOf`, `f", "`one` Reed: `readingOf`, `f", 3, "there is no crates/one/specs/Reed.antt"),
-    ("a module of another crate", "; `one` Read: `readingOf` |", "; Read: `readingOf` |", 15, "there is no crates/two/specs/Read.antt"),
+    ("a crate", "`one` Read: `reading_of`, `f", "`ten` Read: `reading_of`, `f", 3, "`ten` is no crate of crates.txt"),
+    ("a crate of a definition", "`two` Step: `step_of`; `one`", "`ten` Step: `step_of`; `one`", 15, "`ten` is no crate of crates.txt"),
+    ("a module", "`one` Read: `reading_of`, `f", "`one` Reed: `reading_of`, `f", 3, "there is no crates/one/specs/Reed.antt"),
+    ("a module of another crate", "; `one` Read: `reading_of` |", "; Read: `reading_of` |", 15, "there is no crates/two/specs/Read.antt"),
     ("a module after a semicolon", "; Laws: `ReadsSound`", "; Law: `ReadsSound`", 3, "there is no crates/one/specs/Law.antt"),
     ("a module without names", "`one` Read; Laws |", "`one` Read; Step |", 14, "there is no crates/one/specs/Step.antt"),
-    ("a definition", "`readingOf`, `formatOf`;", "`readingOf`, `formOf`;", 3, "`formOf` is not declared in crates/one/specs/Read.antt"),
-    ("a definition of another module", "`readingOf`, `formatOf`;", "`ReadsSound`, `formatOf`;", 3, "`ReadsSound` is not declared in crates/one/specs/Read.antt"),
-    ("a definition after a comma", "Step, `stepOf`", "Step, `readingOf`", 3, "`readingOf` is not declared in crates/two/specs/Step.antt"),
-    ("a definition in a table", "Step: `stepOf`;", "Step: `one_step`;", 15, "`one_step` is not declared in crates/two/specs/Step.antt"),
+    ("a definition", "`reading_of`, `format_of`;", "`reading_of`, `form_of`;", 3, "`form_of` is not declared in crates/one/specs/Read.antt"),
+    ("a definition of another module", "`reading_of`, `format_of`;", "`ReadsSound`, `format_of`;", 3, "`ReadsSound` is not declared in crates/one/specs/Read.antt"),
+    ("a definition after a comma", "Step, `step_of`", "Step, `reading_of`", 3, "`reading_of` is not declared in crates/two/specs/Step.antt"),
+    ("a definition in a table", "Step: `step_of`;", "Step: `one_step`;", 15, "`one_step` is not declared in crates/two/specs/Step.antt"),
     ("a name of another crate", "`one`'s `read_word`", "`two`'s `read_word`", 4, "`read_word` is not declared in two"),
     ("a name after a crate and a colon", "`two`: `one_step`", "`two`: `read_word`", 4, "`read_word` is not declared in two"),
-    ("a name of a crate that is named after it", "`step-sound` of `two`", "`step-sound` of `one`", 4, "`step-sound` is not declared in one"),
-    ("a law", "law `ReadsSound`", "law `readingOf`", 4, "`readingOf` is not declared in the specs/Laws.antt of any crate"),
-    ("a name of a file", "(`formatOf`)", "(`stepOf`)", 8, "`stepOf` is not declared in crates/one/specs/Read.antt"),
-    ("a name before its file", "`one_step` of `src", "`stepOf` of `src", 8, "`stepOf` is not declared in crates/two/src/step.rt"),
-    ("a name after its file", "antt`: `stepOf`", "antt`: `one_step`", 9, "`one_step` is not declared in crates/two/specs/Step.antt"),
+    ("a name of a crate that is named after it", "`step_sound` of `two`", "`step_sound` of `one`", 4, "`step_sound` is not declared in one"),
+    ("a law", "law `ReadsSound`", "law `reading_of`", 4, "`reading_of` is not declared in the specs/Laws.antt of any crate"),
+    ("a name of a file", "(`format_of`)", "(`step_of`)", 8, "`step_of` is not declared in crates/one/specs/Read.antt"),
+    ("a name before its file", "`one_step` of `src", "`step_of` of `src", 8, "`step_of` is not declared in crates/two/src/step.rt"),
+    ("a name after its file", "antt`: `step_of`", "antt`: `one_step`", 9, "`one_step` is not declared in crates/two/specs/Step.antt"),
     ("a name of nothing", "`read_all`", "`read_none`", 10, "`read_none` is declared nowhere"),
     ("a word of nothing", "`sum`", "`total`", 4, "`total` is declared nowhere"),
-    ("a name among others", "`stepOf (readingOf w)`", "`stepOf (readOf w)`", 10, "`readOf` is declared nowhere"),
+    ("a name among others", "`step_of (reading_of w)`", "`step_of (read_of w)`", 10, "`read_of` is declared nowhere"),
     ("an edit", "`one/wide`", "`one/narrow`", 15, "there is no edit `one/narrow`"),
     ("an edit of another crate", "`one/wide`", "`two/wide`", 15, "there is no edit `two/wide`"),
     ("an edit of no crate", "`one/wide`", "`ten/wide`", 15, "`ten/wide`: `ten` is no crate of crates.txt"),
@@ -2012,24 +2109,24 @@ def names_that_are_wrong():
 @cases()
 def names_that_are_declared():
     for what, reader, text, expected in [
-            ("definitions", naming.names_of_antt, "-- a : b\npub mod Read\nuse Read.{x}\nabbrev pub isR : ℕ → Bool\nisR n = y\n  unfoldable pub at : ℕ\n"
-             "pub record Row (n : ℕ) : Type 0 where\n  pub lo hi : ℕ\nstep-sound :\n    (a : ℕ) → b\n", "Read isR at Row lo hi step-sound"),
+            ("definitions", naming.names_of_antt, "-- a : b\npub mod Read\nuse Read.{x}\nabbrev pub is_r : ℕ → Bool\nis_r n = y\n  unfoldable pub at : ℕ\n"
+             "pub record Row (n : ℕ) : Type 0 where\n  pub lo hi : ℕ\nstep_sound :\n    (a : ℕ) → b\n", "Read is_r at Row lo hi step_sound"),
             ("code", naming.names_of_rt, "// fn no\nuse a::b;\npub const MOST: u8 = 1;\npub struct Row {\n    pub at: u8,\n}\npub enum End {\n    Spent,\n    Fault(u8),\n}\n"
              "fn one_step(x: u8) -> u8 {\n    let y = x;\n}\nmod edges;\n", "MOST Row at End Spent Fault one_step edges"),
             ("a script", naming.names_of_py, "import os\nMOST = 1\nA, B = 1, 2\nclass Row:\n    def read(self):\n        x = 1\n", "MOST A Row read")]:
         given = reader(text)
         yield f"the names that are declared in {what}", given == set(expected.split()), " ".join(sorted(given))
     with tempfile.TemporaryDirectory() as root:
-        for path, text in [("crates.txt", "# Words.\nv8:\nalu: v8\n"), ("README.md", "`v8` Read: `readOf`\n"), ("docs/TRACE.md", "`v8`\n"), ("docs/ARCHITECTURE.md", "`v8`\n"),
-                           ("crates/v8/specs/Read.antt", "readingOf : ℕ\n"), ("crates/v8/must-fail/wide.edit", ""), ("tools/plain/mutants.txt", "The versions.\n\nread-twice\n- x\n"),
-                           ("target/x.py", "def read(): 1\n")]:
+        for path, text in [("crates.txt", "# Words.\nv8:\nalu: v8\n"), ("README.md", "`v8` Read: `read_of`\n"), ("docs/TRACE.md", "`v8`\n"), ("docs/ARCHITECTURE.md", "`v8`\n"),
+                           ("crates/v8/specs/Read.antt", "reading_of : ℕ\n"), ("crates/v8/must-fail/wide.edit", ""), ("tools/plain/mutants.txt", "The versions.\n\nread-twice\n- x\n"),
+                           ("crates/v8/out/x.py", "def read(): 1\n"), ("crates/v8/proofs/read/Answers.antt", "read_lem : ℕ\n")]:
             os.makedirs(os.path.join(root, os.path.dirname(path)), exist_ok=True)
             write(text.encode(), root, path)
         product, given = naming.product_of(root), naming.findings(root)
-    right = (product.crates, product.edits, product.versions, product.declared) == (["v8", "alu"], {"v8/wide"}, {"read-twice"}, {"crates/v8/specs/Read.antt": {"readingOf"}})
-    yield "a product that is read", right and "target/x.py" not in product.paths, str(product)
+    right = (product.crates, product.edits, product.versions, product.declared) == (["v8", "alu"], {"v8/wide"}, {"read-twice"}, {"crates/v8/specs/Read.antt": {"reading_of"}, "crates/v8/proofs/read/Answers.antt": {"read_lem"}})
+    yield "a product that is read", right and "crates/v8/out/x.py" not in product.paths, str(product)
     yield "a product and its documents", given == [
-        "README.md, line 1: `readOf` is not declared in crates/v8/specs/Read.antt", "docs/TRACE.md does not name the edit v8/wide",
+        "README.md, line 1: `read_of` is not declared in crates/v8/specs/Read.antt", "docs/TRACE.md does not name the edit v8/wide",
         "docs/ARCHITECTURE.md does not name the crate alu"], "\n".join(given)
 
 
@@ -2053,7 +2150,7 @@ def wrong_calls():
             ("found.py", ["7", os.path.join(name, "bundle.bin"), os.path.join(name, "answer.txt")]),
             ("bundle.py", ["--rows"]), ("bundle.py", ["--rows", EXAMPLES]), ("bundle.py", ["--rows", "--version", "1", name]),
             ("searches.py", ["x", "y"]), ("searches.py", ["none"]), ("searches.py", [os.path.join(ROOT, "README.md")]),
-            ("pace.py", []), ("pace.py", ["none"]), ("pace.py", ["x", "y"]), ("pace.py", ["--bars"]), ("pace.py", ["--before", "none"]), ("pace.py", ["--jobs", "0", "none"]),
+            ("pace.py", []), ("pace.py", ["none"]), ("pace.py", ["x", "y"]), ("pace.py", ["--bars"]), ("pace.py", ["--before", "none"]), ("pace.py", ["--jobs", "0", "none"]), ("pace.py", ["--run"]), ("pace.py", ["--run", "--bars"]),
             ("pace.py", [os.path.join(ROOT, "README.md")]), ("naming.py", ["x"])]:
         status, out, said = called(tool, *arguments)
         yield f"{tool} {' '.join(arguments)[:60]}", one_line(tool, status, out, said), f"{status} {out} {said}"
