@@ -11,11 +11,11 @@ head third version regions words = 0x57 ∷ 0x54 ∷ third ∷ 0 ∷ version ∷
 
 -- a region of 16 bytes: how many fields, and its zero
 abbrev pub region_bytes : ℕ → ℕ → List ℕ
-region_bytes fields zero = 0 ∷ 16 ∷ fields ∷ zero ∷ []
+region_bytes fields nought = 0 ∷ 16 ∷ fields ∷ nought ∷ []
 
 -- one unsigned byte from 0 to 9 to be read and written: its zero, and its permission
 abbrev pub field_bytes : ℕ → ℕ → List ℕ
-field_bytes zero permission = 1 ∷ permission ∷ 0 ∷ zero ∷ 0 ∷ 0 ∷ 0 ∷ 1 ∷ word_then 0 (word_then 9 [])
+field_bytes nought permission = 1 ∷ permission ∷ 0 ∷ nought ∷ 0 ∷ 0 ∷ 0 ∷ 1 ∷ word_then 0 (word_then 9 [])
 
 -- the row at a call: r15 is the return address, all else is unset
 abbrev pub called : Rows·.Row
