@@ -1982,11 +1982,11 @@ def processes_of_a_gate():
             ("a crate", f"{check} --jobs 2", "/x/crates/v8", labels, ("crates", "v8")),
             ("a crate over what was kept", f"{check} --incremental out/incremental", "/x/crates/v8", labels, ("crates", "v8")),
             ("a library", "rattle build --crate-name v8 src/lib.rt -o out/rlib/v8.rlib", "/x/crates/v8", labels, ("crates", "v8")),
-            ("an edit", f"{check} --incremental /tmp/rt-edits-7-x/1", "/tmp/rt-edit-7-y", labels, ("edits", "v8/wide")),
-            ("an edit that is gone", f"{check} --incremental /tmp/rt-edits-7-x/2", "/tmp/rt-edit-7-y", labels, ("bases", "v8")),
-            ("what edits begin with", f"{check} --incremental /tmp/rt-edits-7-x/seed", "/tmp/rt-edit-7-y", labels, ("bases", "v8")),
-            ("the one edit, from nothing", check, "/tmp/rt-edit-7-y", labels[1:], ("edits", "v8/wide")),
-            ("one of two edits, from nothing", check, "/tmp/rt-edit-7-y", labels, ("bases", "v8")),
+            ("an edit", f"{check} --incremental /x/rt-edits-7-x/1", "/x/rt-edit-7-y", labels, ("edits", "v8/wide")),
+            ("an edit that is gone", f"{check} --incremental /x/rt-edits-7-x/2", "/x/rt-edit-7-y", labels, ("bases", "v8")),
+            ("what edits begin with", f"{check} --incremental /x/rt-edits-7-x/seed", "/x/rt-edit-7-y", labels, ("bases", "v8")),
+            ("the one edit, from nothing", check, "/x/rt-edit-7-y", labels[1:], ("edits", "v8/wide")),
+            ("one of two edits, from nothing", check, "/x/rt-edit-7-y", labels, ("bases", "v8")),
             ("rt", "python3 rt check v8", "/x", labels, None), ("another program", check.replace("rattle", "rattling"), "/x", labels, None),
             ("a command without a crate", "rattle fmt src/lib.rt --check", "/x", labels, None), ("one that has ended", "", "", labels, None)]:
         given = pace.check_of(words.split(), place, lambda crate: known)
