@@ -1,17 +1,11 @@
 // The edition that a number of a record tells.
 use v8::Edition;
 
-#[derive(Clone, Copy)]
-pub enum Told {
-    As(Edition),
-    // The number is neither 8 nor 9.
-    Not,
-}
-
-pub fn edition_of(number: u32) -> Told {
+// The edition, or none where the number is neither 8 nor 9.
+pub fn edition_of(number: u32) -> Option<Edition> {
     match number {
-        8 => Told::As(Edition::V8),
-        9 => Told::As(Edition::V9),
-        _ => Told::Not,
+        8 => Some(Edition::V8),
+        9 => Some(Edition::V9),
+        _ => None,
     }
 }
