@@ -4,16 +4,16 @@
 ghost use Rattle.std.specs.Prelude.{◌≡◌, length};
 ghost use Rattle.passes_shape.specs.Shape.{start_ok, shape_ok};
 
-use policy::Policy;
+use policy::{Policy, Regions};
 use rows::entries::FRAME_ADDRESS;
 use rows::geometry::{ENTRY_BYTES, ROW_BYTES};
-use rows::{entry_formed, flawless, form_fault, read_entry, scratch_unset};
+use rows::{entry_formed, form_fault, read_entry, scratch_unset};
 use v8::numbers::MOST_WORDS;
 
 // Whether the words are as many as they may be, and the entry row is one that is well formed, its
 // scratch words unset.
-pub fn start_ok(regions: u8, sizes: &[u16; 8], words: &[u32], entry: &[u8]) -> bool
-    ensures { result ≡ start_ok regions sizes.now (length words.now) entry.now }
+pub fn start_ok(regions: &Regions, words: &[u32], entry: &[u8]) -> bool
+    ensures { result ≡ start_ok regions.now.count regions.now.sizes (length words.now) entry.now }
 {
     let count = words.len();
     if count < 1 {
@@ -25,16 +25,16 @@ pub fn start_ok(regions: u8, sizes: &[u16; 8], words: &[u32], entry: &[u8]) -> b
     if entry.len() != ROW_BYTES {
         return false;
     }
-    let flaw = form_fault(regions, sizes, entry, 0);
-    flawless(flaw) & scratch_unset(entry, 0)
+    let flaw = form_fault(regions, entry, 0);
+    flaw.is_none() & scratch_unset(entry, 0)
 }
 
 // Whether words, rows, entry row and result entry are as many as they must be, and the last two
 // well formed; the result entry is r8's, which is not the frame address.
-pub fn shape_ok(policy: Policy, words: &[u32], rows: &[u8], entry: &[u8], res: &[u8]) -> bool
-    ensures { result ≡ shape_ok policy (length words.now) rows.now entry.now res.now }
+pub fn shape_ok(policy: &Policy, words: &[u32], rows: &[u8], entry: &[u8], res: &[u8]) -> bool
+    ensures { result ≡ shape_ok policy.now (length words.now) rows.now entry.now res.now }
 {
-    if !start_ok(policy.regions.count, &policy.regions.sizes, words, entry) {
+    if !start_ok(&policy.regions, words, entry) {
         return false;
     }
     if rows.len() != ROW_BYTES * words.len() {
@@ -44,6 +44,6 @@ pub fn shape_ok(policy: Policy, words: &[u32], rows: &[u8], entry: &[u8], res: &
         return false;
     }
     let e = read_entry(res, 0);
-    let formed = entry_formed(policy.regions.count, &policy.regions.sizes, res, 0);
+    let formed = entry_formed(&policy.regions, res, 0);
     formed & !(e.kind == FRAME_ADDRESS)
 }

@@ -1,4 +1,5 @@
 -- The search for the lowest place that has a flaw: how it goes on from a place, and that it finds none just where there is none.
+use Rattle.std.specs.Prelude.{Option, Some, None}
 use Prim.Native.Nat.{ℕ, ◌+◌, ◌≤◌, ◌<◌}
 use mathlib.Core.Path.{◌≡◌, refl, sym, ap, ◌∙◌}
 use mathlib.Core.Bool.{Bool, true, false, cond}
@@ -8,19 +9,17 @@ use borrow.Author.Tests.{lt-ltb, le-ltb, ltb-false}
 use Rattle.v8.specs.Search.{first}
 use Rattle.v8.proofs.Search.{first_here, first_next, first_end, first_passes, first_least}
 use Rattle.v8.proofs.Choice.{false_true}
-use Rattle.rows.specs.declared.Flaw.{Flaw}
-use Rattle.rows.specs.declared.Flaw.TheVariants.{None, At}
 use Rattle.rows.specs.Geometry.{places}
 use Rattle.rows.specs.Flaw.{flaw_from, flawless}
 
 -- what says that there is none
-pub flawless_none : (f : Flaw) → flawless f ≡ true → f ≡ None
+pub flawless_none : (f : Option ℕ) → flawless f ≡ true → f ≡ None
 flawless_none None e = refl
-flawless_none (At place) e = false_true e
+flawless_none (Some place) e = false_true e
 
 module _ (broken : ℕ → Bool) where
   -- the search ends at a place that has a flaw
-  pub flaw_here : (place : ℕ) → place < places → broken place ≡ true → flaw_from broken place ≡ At place
+  pub flaw_here : (place : ℕ) → place < places → broken place ≡ true → flaw_from broken place ≡ Some place
   unfolding flaw_from
   flaw_here place l e = rw (first_here broken place places l e, lt-ltb place places l)
 
@@ -42,7 +41,7 @@ module _ (broken : ℕ → Bool) where
       lowest : ℕ
       lowest = first broken 0 places
 
-      by : (t : Bool) → ltb lowest places ≡ t → flawless (cond t (At lowest) None) ≡ true → broken place ≡ false
+      by : (t : Bool) → ltb lowest places ≡ t → flawless (cond t (Some lowest) None) ≡ true → broken place ≡ false
       by true t e = false_true e
       by false t e = first_least broken 0 places place (omega arith) (omega (arith, ltb-false lowest places t))
 

@@ -1,5 +1,6 @@
 -- What the form of entries and rows says. An entry that passes has one of the six kinds, and the rules of its kind; a row in which the
 -- search for a fault finds none has only such entries.
+use Rattle.std.specs.Prelude.{None}
 use Prim.Native.Nat.{ℕ, ◌+◌, ◌-◌, ◌≤◌, ◌<◌}
 use mathlib.Core.Path.{◌≡◌, refl, sym, subst}
 use mathlib.Core.Bool.{Bool, true, false, cond, ◌&&◌, ◌||◌, and-false}
@@ -18,7 +19,6 @@ use Rattle.sets.specs.Sets.{set_ok, s1}
 use Rattle.sets.proofs.Formed.{obeys}
 use Rattle.sets.proofs.Ends.{ended_formed, single_formed}
 use Rattle.rows.specs.declared.Entry.{Entry}
-use Rattle.rows.specs.declared.Flaw.TheVariants.{None}
 use Rattle.rows.specs.Entry.{is_unset, is_number, is_address, is_start_or_null, is_return, is_frame, is_blank, size_in, entry_ok, field_entry}
 use Rattle.rows.specs.Geometry.{entry_count, entry_start, places, entry_name}
 use Rattle.rows.specs.Row.{entry_at, entry_of, note_of, row_of, formed_at, broken_at, form_fault}

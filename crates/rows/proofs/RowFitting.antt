@@ -1,5 +1,6 @@
 -- A row that fits another matches what it matches: register by register, and the note. The search for the lowest that does not fit has
 -- found none, so each does.
+use Rattle.std.specs.Prelude.{None}
 use Prim.Native.Nat.{ℕ, ◌≤◌, ◌<◌}
 use mathlib.Core.Path.{◌≡◌, refl, sym, ap, ◌∙◌, subst}
 use mathlib.Core.Bool.{Bool, true, false, not, ◌&&◌, ◌||◌}
@@ -8,7 +9,6 @@ use lib.Dec.{eqb, ltb}
 use borrow.Author.Tests.{eqb-true, ltb-true, ltb-false, le-ltb, not-true, not-false}
 use Rattle.v8.proofs.Choice.{or_went, and_went, false_true}
 use Rattle.rows.specs.declared.Entry.{Entry}
-use Rattle.rows.specs.declared.Flaw.TheVariants.{None}
 use Rattle.rows.specs.declared.Row.{Row}
 use Rattle.rows.specs.Entry.{no_entry, fits, fits_note}
 use Rattle.rows.specs.Geometry.{entry_count, note_name, places, entry_name}

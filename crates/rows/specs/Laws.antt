@@ -1,11 +1,10 @@
 -- What later parts rest on: what the form of a row says in plain facts, and that what fits matches (document 01, "Rows"). The proofs are in
 -- proofs/.
-use Rattle.std.specs.Prelude.{ℕ, ◌+◌, ◌≤◌, ◌<◌, ◌≡◌, Bool, true, List}
+use Rattle.std.specs.Prelude.{ℕ, ◌+◌, ◌≤◌, ◌<◌, ◌≡◌, Bool, true, List, None}
 use Rattle.policy.specs.declared.Field.{Field}
 use Rattle.policy.specs.Laws.{FieldRules}
 use Rattle.sets.specs.Sets.{SetRules}
 use Rattle.rows.specs.declared.Entry.{Entry}
-use Rattle.rows.specs.declared.Flaw.TheVariants.{None}
 use Rattle.rows.specs.declared.Note.{Note}
 use Rattle.rows.specs.declared.Row.{Row}
 use Rattle.rows.specs.Kind.{Kind, unset, number, address, start, return_address, frame_address, none, kind_of}

@@ -1,13 +1,12 @@
 -- Rows, read from bytes (document 01, "Rows"; request 7): "An entry: kind, region, step, zero (a byte each), lo, hi (signed 32-bit)." "Note: kind,
 -- register, two zero bytes, a signed number." Numbers are big-endian. How many bytes each takes, and where it stands, is in Geometry.
-use Rattle.std.specs.Prelude.{ℕ, zero, suc, ◌+◌, Bool, cond, not, ◌&&◌, ◌||◌, List, [], ◌∷◌, ltb, eqb, get_or, set}
+use Rattle.std.specs.Prelude.{ℕ, zero, suc, ◌+◌, Bool, cond, not, ◌&&◌, ◌||◌, List, [], ◌∷◌, ltb, eqb, get_or, set, Option}
 use Rattle.v8.specs.Search.{all}
 use Rattle.v8.specs.Signed.{excess}
 use Rattle.memory.specs.Frame.{scratch_count}
 use Rattle.memory.specs.Memory.{byte_at, word_at}
 use Rattle.sets.specs.Sets.{numbers}
 use Rattle.rows.specs.declared.Entry.{Entry}
-use Rattle.rows.specs.declared.Flaw.{Flaw}
 use Rattle.rows.specs.declared.Note.{Note}
 use Rattle.rows.specs.declared.Row.{Row}
 use Rattle.rows.specs.Entry.{no_entry, is_unset, is_frame, is_zero, entry_ok, fits, note_ok, fits_note}
@@ -82,7 +81,7 @@ abbrev pub broken_at : ℕ → List ℕ → List ℕ → ℕ → ℕ → Bool
 broken_at regions sizes bytes at place = not (formed_at regions sizes bytes at place)
 
 -- the lowest badly formed place of the row that begins at a byte
-unfoldable pub form_fault : ℕ → List ℕ → List ℕ → ℕ → Flaw
+unfoldable pub form_fault : ℕ → List ℕ → List ℕ → ℕ → Option ℕ
 form_fault regions sizes bytes at = flaw_from (broken_at regions sizes bytes at) 0
 
 -- request 7: "in a well-formed entry row, the six are unset": so they are in the row that begins at a byte
@@ -101,5 +100,5 @@ abbrev pub misfits_at : Row → Row → ℕ → Bool
 misfits_at a b place = not (fits_at a b place)
 
 -- the lowest place of row a that does not fit row b
-unfoldable pub misfit : Row → Row → Flaw
+unfoldable pub misfit : Row → Row → Option ℕ
 misfit a b = flaw_from (misfits_at a b) 0

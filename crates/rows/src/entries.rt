@@ -3,7 +3,7 @@ ghost use Rattle.std.specs.Prelude.{◌≡◌, ◌≤◌};
 ghost use Rattle.rows.specs.Entry.{no_entry, number_in, address_in, start_or_null, constant, region_start, is_blank, is_constant, only_zero, is_zero, is_region_start, size_in, entry_ok, fits, field_entry};
 
 use crate::Entry;
-use policy::Field;
+use policy::{Field, Regions};
 use sets::{NumberSet, ended, fits_set, set_ok, single};
 use v8::signed::{BIAS, excess};
 
@@ -117,11 +117,11 @@ fn is_region_start(r: u8, e: Entry) -> bool
 }
 
 // The size of a region; there is none above 7.
-pub fn size_in(sizes: &[u16; 8], r: u8) -> u32
-    ensures { (result ≡ size_in sizes.now r) × (result ≤ 65535) }
+pub fn size_in(regions: &Regions, r: u8) -> u32
+    ensures { (result ≡ size_in regions.now.sizes r) × (result ≤ 65535) }
 {
     if r < 8 {
-        return wide(sizes[r as usize]);
+        return wide(regions.sizes[r as usize]);
     }
     0
 }
@@ -140,21 +140,21 @@ fn is_blank(s: NumberSet) -> bool
     (s.step == 0) & (s.lo == BIAS) & (s.hi == BIAS)
 }
 
-// Whether an entry is well formed, where there are this many regions of these sizes.
-pub fn entry_ok(regions: u8, sizes: &[u16; 8], e: Entry) -> bool
-    ensures { result ≡ entry_ok regions sizes.now e }
+// Whether an entry is well formed, where there are these regions.
+pub fn entry_ok(regions: &Regions, e: Entry) -> bool
+    ensures { result ≡ entry_ok regions.now.count regions.now.sizes e }
 {
     let kind = e.kind;
     if kind == NUMBER {
         return (e.region == 0) & set_ok(e.set);
     }
     if kind == ADDRESS {
-        let size = size_in(sizes, e.region);
+        let size = size_in(regions, e.region);
         let formed = set_ok(e.set);
-        return (e.region < regions) & formed & (BIAS <= e.set.lo) & (e.set.hi <= BIAS + size);
+        return (e.region < regions.count) & formed & (BIAS <= e.set.lo) & (e.set.hi <= BIAS + size);
     }
     if kind == START_OR_NULL {
-        return (e.region < regions) & is_blank(e.set);
+        return (e.region < regions.count) & is_blank(e.set);
     }
     ((kind == UNSET) | (kind == RETURN_ADDRESS) | (kind == FRAME_ADDRESS))
         & (e.region == 0)

@@ -15,13 +15,10 @@ pub mod notes;
 mod reading;
 // An entry of a row.
 mod registers;
-// The lowest place of a row that has a flaw.
-mod flaws;
 // The form of a row in bytes, and whether one row fits another.
 mod passes;
 
 pub use entries::{field_entry, fits};
-pub use flaws::flawless;
 pub use passes::{form_fault, formed_at, misfit, scratch_unset};
 pub use reading::{entry_formed, read_entry, read_row};
 pub use registers::{entry_at, row_with};
@@ -50,12 +47,4 @@ pub struct Note {
 pub struct Row {
     pub entries: [Entry; ENTRIES],
     pub note: Note,
-}
-
-// The lowest place of a row that has a flaw, by the number that names it in an answer: the register's,
-// the note's or the scratch word's; or that no place has one.
-#[derive(Clone, Copy)]
-pub enum Flaw {
-    None,
-    At(u8),
 }

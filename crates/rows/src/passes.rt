@@ -8,34 +8,35 @@ use crate::entries::{UNSET, fits};
 use crate::geometry::{ENTRY_BYTES, NOTE_NAME, NOTE_OFFSET, PLACES, REGISTERS, entry_named};
 use crate::notes::fits_note;
 use crate::reading::{entry_formed_as, note_formed, read_entry, read_note};
-use crate::{Flaw, Row};
+use crate::Row;
 use memory::frame::SCRATCH_WORDS;
+use policy::Regions;
 
 // Whether the place so named of the row that begins at a byte is well formed.
-pub fn formed_at(regions: u8, sizes: &[u16; 8], bytes: &[u8], at: usize, place: u8) -> bool
+pub fn formed_at(regions: &Regions, bytes: &[u8], at: usize, place: u8) -> bool
     requires { RowLies at (length bytes.now) × (place < places) }
-    ensures { result ≡ formed_at regions sizes.now bytes.now at place }
+    ensures { result ≡ formed_at regions.now.count regions.now.sizes bytes.now at place }
 {
     if place == NOTE_NAME {
         return note_formed(bytes, at + NOTE_OFFSET);
     }
     let i = entry_named(place);
-    entry_formed_as(regions, sizes, bytes, at + ENTRY_BYTES * i, i)
+    entry_formed_as(regions, bytes, at + ENTRY_BYTES * i, i)
 }
 
 // The lowest badly formed place of the row that begins at a byte.
-pub fn form_fault(regions: u8, sizes: &[u16; 8], bytes: &[u8], at: usize) -> Flaw
+pub fn form_fault(regions: &Regions, bytes: &[u8], at: usize) -> Option<u8>
     requires { RowLies at (length bytes.now) }
-    ensures { result ≡ form_fault regions sizes.now bytes.now at }
+    ensures { result ≡ form_fault regions.now.count regions.now.sizes bytes.now at }
 {
     let mut place: u8 = 0;
     while place < PLACES {
-        if !formed_at(regions, sizes, bytes, at, place) {
-            return Flaw::At(place);
+        if !formed_at(regions, bytes, at, place) {
+            return Some(place);
         }
         place += 1;
     }
-    Flaw::None
+    None
 }
 
 // Whether the scratch words of the row that begins at a byte are unset.
@@ -55,7 +56,7 @@ pub fn scratch_unset(bytes: &[u8], at: usize) -> bool
 }
 
 // The lowest place of a row that does not fit the row that begins at a byte.
-pub fn misfit(row: Row, bytes: &[u8], at: usize) -> Flaw
+pub fn misfit(row: Row, bytes: &[u8], at: usize) -> Option<u8>
     requires { RowLies at (length bytes.now) }
     ensures { result ≡ misfit row (row_of bytes.now at) }
 {
@@ -64,17 +65,17 @@ pub fn misfit(row: Row, bytes: &[u8], at: usize) -> Flaw
         if place == NOTE_NAME {
             let asked = read_note(bytes, at + NOTE_OFFSET);
             if !fits_note(row.note, asked) {
-                return Flaw::At(place);
+                return Some(place);
             }
         } else {
             let i = entry_named(place);
             let held = row.entries[i];
             let asked = read_entry(bytes, at + ENTRY_BYTES * i);
             if !fits(held, asked) {
-                return Flaw::At(place);
+                return Some(place);
             }
         }
         place += 1;
     }
-    Flaw::None
+    None
 }

@@ -10,6 +10,7 @@ use crate::geometry::{ENTRIES, ENTRY_BYTES, NOTE_OFFSET};
 use crate::notes::note_ok;
 use crate::{Entry, Note, Row};
 use memory::word_within;
+use policy::Regions;
 use sets::NumberSet;
 use v8::signed::excess;
 
@@ -36,13 +37,13 @@ pub fn read_entry(bytes: &[u8], at: usize) -> Entry
 }
 
 // Whether the entry that begins at a byte is well formed, its zero byte too.
-pub fn entry_formed(regions: u8, sizes: &[u16; 8], bytes: &[u8], at: usize) -> bool
+pub fn entry_formed(regions: &Regions, bytes: &[u8], at: usize) -> bool
     requires { EntryLies at (length bytes.now) }
-    ensures { result ≡ entry_formed regions sizes.now bytes.now at }
+    ensures { result ≡ entry_formed regions.now.count regions.now.sizes bytes.now at }
 {
     let zero = bytes[at + 3];
     let e = read_entry(bytes, at);
-    (zero == 0) & entry_ok(regions, sizes, e)
+    (zero == 0) & entry_ok(regions, e)
 }
 
 // r14, in which alone the frame address may stand.
@@ -50,13 +51,13 @@ pub const FRAME_REGISTER: usize = 14;
 
 // Whether the entry that begins at a byte is well formed as entry i of a row: so, and r0's is the
 // single number 0, and the frame address stands in r14.
-pub fn entry_formed_as(regions: u8, sizes: &[u16; 8], bytes: &[u8], at: usize, i: usize) -> bool
+pub fn entry_formed_as(regions: &Regions, bytes: &[u8], at: usize, i: usize) -> bool
     requires { EntryLies at (length bytes.now) }
-    ensures { result ≡ entry_formed_as regions sizes.now bytes.now at i }
+    ensures { result ≡ entry_formed_as regions.now.count regions.now.sizes bytes.now at i }
 {
     let zero = bytes[at + 3];
     let e = read_entry(bytes, at);
-    let formed = entry_ok(regions, sizes, e);
+    let formed = entry_ok(regions, e);
     let null = is_zero(e);
     (zero == 0) & formed & (!(i == 0) | null) & (!(e.kind == FRAME_ADDRESS) | (i == FRAME_REGISTER))
 }

@@ -1,5 +1,6 @@
 -- Narrowing. Each comparison leaves a well formed set, that has every member that obeys it, and only members of the set; of all but "not
 -- equal", only members that obey. The new end is the last of the set's steps before the number compared with.
+use Rattle.std.specs.Prelude.{Option, Some, None}
 use Prim.Native.Nat.{ℕ, ◌+◌, ◌-◌, ◌%◌, ◌≤◌, ◌<◌, min, max}
 use mathlib.Core.Path.{◌≡◌, refl, sym, ◌∙◌, subst}
 use mathlib.Core.Bool.{true, and-false, false≢true}
@@ -17,29 +18,27 @@ use Rattle.sets.specs.Sets.{ended, SetRules, Member}
 use Rattle.sets_narrow.specs.Narrow.{at_most, at_least, less_than, greater_than, is_member, only, without, narrow_set}
 use Rattle.sets_narrow.specs.Laws.{Among, LeftFormed, NarrowFormed, NarrowKeeps, NarrowWithin, NarrowObeys}
 use Rattle.sets.specs.declared.NumberSet.{NumberSet}
-use Rattle.sets_narrow.specs.declared.SetLeft.{SetLeft}
-use Rattle.sets_narrow.specs.declared.SetLeft.TheVariants.{Left, Nothing}
 use Rattle.sets.proofs.Steps.{sum_on, difference_on, Rounded, rounded}
 use Rattle.sets.proofs.Ends.{from_top, single_formed, single_holds, ended_formed, ended_holds, ended_only}
 
 -- x is left of s: all its members that obey P, and only such as obey Q
-record Leaves (s : NumberSet) (P Q : ℕ → Type 0) (x : SetLeft) : Type 0 where
+record Leaves (s : NumberSet) (P Q : ℕ → Type 0) (x : Option NumberSet) : Type 0 where
   formed : LeftFormed x
   keeps : (m : ℕ) → Member s m → P m → Among x m
   inside : (m : ℕ) → Among x m → Member s m
   obeys : (m : ℕ) → Among x m → Q m
 
-abbrev Exactly : NumberSet → (ℕ → Type 0) → SetLeft → Type 0
+abbrev Exactly : NumberSet → (ℕ → Type 0) → Option NumberSet → Type 0
 Exactly s P x = Leaves s P P x
 
 -- other words for P and Q
-leaves_by : {s : NumberSet} {P Q P' Q' : ℕ → Type 0} {x : SetLeft}
+leaves_by : {s : NumberSet} {P Q P' Q' : ℕ → Type 0} {x : Option NumberSet}
     → ((m : ℕ) → Member s m → P' m → P m) → ((m : ℕ) → Q m → Q' m) → Leaves s P Q x → Leaves s P' Q' x
 leaves_by f g l =
     record { formed = l.formed; keeps = λ m p q. l.keeps m p (f m p q); inside = l.inside; obeys = λ m p. g m (l.obeys m p) }
 
 -- nothing is left where no member obeys
-nothing : (s : NumberSet) (P : ℕ → Type 0) → ((m : ℕ) → Member s m → P m → ⊥) → Exactly s P Nothing
+nothing : (s : NumberSet) (P : ℕ → Type 0) → ((m : ℕ) → Member s m → P m → ⊥) → Exactly s P None
 nothing s P none = record { formed = tt; keeps = none; inside = λ m p. absurd p; obeys = λ m p. absurd p }
 
 -- with q below the highest, h
@@ -55,7 +54,7 @@ joined l h m q a b c = omega arith
 module _ (s : NumberSet) (n : ℕ) (r : SetRules s) where
   -- from the lowest over the distance d, rounded to a step
   up_to : (d : ℕ) → s.lo ≤ n → d ≡ min s.hi n - s.lo → Rounded s.step d
-      → Exactly s (λ (m : ℕ). m ≤ n) (Left (ended s.step s.lo (s.lo + (d - d % s.step))))
+      → Exactly s (λ (m : ℕ). m ≤ n) (Some (ended s.step s.lo (s.lo + (d - d % s.step))))
   up_to d k e round =
       record {
         formed =
@@ -81,7 +80,7 @@ module _ (s : NumberSet) (n : ℕ) (r : SetRules s) where
 
   -- from the highest down over the distance d, rounded to a step
   down_to : (d : ℕ) → n ≤ s.hi → d ≡ s.hi - max s.lo n → Rounded s.step d
-      → Exactly s (λ (m : ℕ). n ≤ m) (Left (ended s.step (s.hi - (d - d % s.step)) s.hi))
+      → Exactly s (λ (m : ℕ). n ≤ m) (Some (ended s.step (s.hi - (d - d % s.step)) s.hi))
   down_to d k e round =
       record {
         formed = ended_formed _ _ _ r.steps (omega arith) r.top (rw (back s.hi (d - d % s.step) (omega arith)) round.on);

@@ -1,23 +1,21 @@
 -- What a comparison leaves of a set is well formed, and has the members that obey it. The proofs are in proofs/Narrowing.antt.
-use Rattle.std.specs.Prelude.{ℕ, ◌≡◌, true}
+use Rattle.std.specs.Prelude.{ℕ, ◌≡◌, true, Option, Some, None}
 use Rattle.alu.specs.Condition.{compares}
 use Rattle.alu.specs.declared.condition.Narrowing.{Narrowing}
 use Rattle.alu.specs.declared.condition.Narrowing.TheVariants.{NotEqualTo}
 use Rattle.sets.specs.Sets.{SetRules, Member}
 use Rattle.sets_narrow.specs.Narrow.{narrow_set}
 use Rattle.sets.specs.declared.NumberSet.{NumberSet}
-use Rattle.sets_narrow.specs.declared.SetLeft.{SetLeft}
-use Rattle.sets_narrow.specs.declared.SetLeft.TheVariants.{Left, Nothing}
 
 -- n is among what is left
-abbrev pub Among : SetLeft → ℕ → Type 0
-Among (Left s) n = Member s n
-Among Nothing n = ⊥
+abbrev pub Among : Option NumberSet → ℕ → Type 0
+Among (Some s) n = Member s n
+Among None n = ⊥
 
 -- what is left is well formed
-abbrev pub LeftFormed : SetLeft → Type 0
-LeftFormed (Left s) = SetRules s
-LeftFormed Nothing = Unit {0}
+abbrev pub LeftFormed : Option NumberSet → Type 0
+LeftFormed (Some s) = SetRules s
+LeftFormed None = Unit {0}
 
 -- Narrowing keeps the form ..
 abbrev pub NarrowFormed : Type 0

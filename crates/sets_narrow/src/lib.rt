@@ -10,51 +10,44 @@ use sets::bounds::LAST;
 use sets::natural::{larger, minus, remainder, round_down, smaller};
 use sets::{NumberSet, ended, single};
 
-// What a comparison leaves of a set.
-#[derive(Clone, Copy)]
-pub enum SetLeft {
-    Left(NumberSet),
-    Nothing,
-}
-
 // The members up to `n`.
-fn at_most(a: NumberSet, n: u32) -> SetLeft
+fn at_most(a: NumberSet, n: u32) -> Option<NumberSet>
     ensures { result ≡ at_most a n }
 {
     if n < a.lo {
-        return SetLeft::Nothing;
+        return None;
     }
     let span = round_down(minus(smaller(a.hi, n), a.lo), a.step);
-    SetLeft::Left(ended(a.step, a.lo, a.lo + span))
+    Some(ended(a.step, a.lo, a.lo + span))
 }
 
 // The members from `n` on.
-fn at_least(a: NumberSet, n: u32) -> SetLeft
+fn at_least(a: NumberSet, n: u32) -> Option<NumberSet>
     ensures { result ≡ at_least a n }
 {
     if a.hi < n {
-        return SetLeft::Nothing;
+        return None;
     }
     let span = round_down(minus(a.hi, larger(a.lo, n)), a.step);
-    SetLeft::Left(ended(a.step, a.hi - span, a.hi))
+    Some(ended(a.step, a.hi - span, a.hi))
 }
 
 // The members below `n`.
-fn less_than(a: NumberSet, n: u32) -> SetLeft
+fn less_than(a: NumberSet, n: u32) -> Option<NumberSet>
     ensures { result ≡ less_than a n }
 {
     if n == 0 {
-        return SetLeft::Nothing;
+        return None;
     }
     at_most(a, n - 1)
 }
 
 // The members above `n`.
-fn greater_than(a: NumberSet, n: u32) -> SetLeft
+fn greater_than(a: NumberSet, n: u32) -> Option<NumberSet>
     ensures { result ≡ greater_than a n }
 {
     if n == LAST {
-        return SetLeft::Nothing;
+        return None;
     }
     at_least(a, n + 1)
 }
@@ -68,17 +61,17 @@ fn is_member(a: NumberSet, n: u32) -> bool
 }
 
 // The member `n` alone.
-fn only(a: NumberSet, n: u32) -> SetLeft
+fn only(a: NumberSet, n: u32) -> Option<NumberSet>
     ensures { result ≡ only a n }
 {
     if is_member(a, n) {
-        return SetLeft::Left(single(n));
+        return Some(single(n));
     }
-    SetLeft::Nothing
+    None
 }
 
 // The set without `n` where `n` is an end.
-fn without(a: NumberSet, n: u32) -> SetLeft
+fn without(a: NumberSet, n: u32) -> Option<NumberSet>
     ensures { result ≡ without a n }
 {
     if n == a.lo {
@@ -87,15 +80,15 @@ fn without(a: NumberSet, n: u32) -> SetLeft
     if n == a.hi {
         return less_than(a, n);
     }
-    SetLeft::Left(a)
+    Some(a)
 }
 
 // What a condition of this class leaves of a set compared with `n`.
-pub fn narrow_set(class: Narrowing, a: NumberSet, n: u32) -> SetLeft
+pub fn narrow_set(class: Narrowing, a: NumberSet, n: u32) -> Option<NumberSet>
     ensures { result ≡ narrow_set class a n }
 {
     match class {
-        Narrowing::Unrelated => SetLeft::Left(a),
+        Narrowing::Unrelated => Some(a),
         Narrowing::EqualTo => only(a, n),
         Narrowing::NotEqualTo => without(a, n),
         Narrowing::LessThan => less_than(a, n),
