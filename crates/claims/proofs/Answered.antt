@@ -1,6 +1,7 @@
 -- The three routines, passed through the check. What the words are is read by computation, and their flow too. Rows that all equal the entry row
 -- are well formed as it is, and it fits each of them, since it fits itself. A transfer followed by a nop leaves the row as it was: the nop changes
 -- nothing, and neither does the condition always. So the row arrives as it left. One nop alone has no next word, which the flow refuses.
+use Rattle.std.specs.Prelude.{None}
 use Prim.Native.Nat.{ℕ, zero, suc, ◌+◌, ◌*◌, ◌<◌}
 use mathlib.Core.Path.{◌≡◌, refl, sym, ap, subst, ◌∙◌}
 use mathlib.Core.Bool.{true, false, and-false}
@@ -21,7 +22,6 @@ use Rattle.flow_edges.specs.Transfer.{slot_runs, target_of}
 use Rattle.flow_code.specs.Readings.{transfers, is_slot, is_target}
 use Rattle.flow.specs.Flow.{flow_of}
 use Rattle.rows.specs.Entry.{is_return, constant, fits}
-use Rattle.rows.specs.declared.Flaw.TheVariants.{None}
 use Rattle.rows.specs.Geometry.{row_bytes}
 use Rattle.rows.specs.Row.{entry_at, entry_of, row_of, form_fault, misfit}
 use Rattle.rows.proofs.Tests.{other_kind}

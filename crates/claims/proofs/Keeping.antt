@@ -1,5 +1,6 @@
 -- What changes nothing in a well formed row. A row fits itself, since each of its entries does and its note is equal to itself. A nop writes
 -- r0 alone, which vanishes, and a note that compares names no r0.
+use Rattle.std.specs.Prelude.{None}
 use Prim.Native.Nat.{ℕ, ◌≤◌, ◌<◌}
 use mathlib.Core.Path.{◌≡◌, refl, ap}
 use mathlib.Core.Bool.{Bool, true, not, ◌&&◌, ◌||◌, and-false}
@@ -10,7 +11,6 @@ use borrow.Author.Tests.{eqb-true, eq-eqb}
 use Rattle.v8.proofs.Choice.{cond_both, and_went}
 use Rattle.v8.proofs.Search.{needed, needed_le}
 use Rattle.rows.specs.declared.Entry.{Entry}
-use Rattle.rows.specs.declared.Flaw.TheVariants.{None}
 use Rattle.rows.specs.declared.Note.{Note}
 use Rattle.rows.specs.declared.Row.{Row}
 use Rattle.rows.specs.Entry.{is_comparison, note_ok, fits_note}

@@ -1,5 +1,6 @@
 -- A check that passes: a row without a flaw is accepted, where each word passes the pass over the words does, and
 -- where each pass does the check accepts. (The other direction, what an accepted check shows, is checker's.)
+use Rattle.std.specs.Prelude.{Option, None}
 use Prim.Native.Nat.{ℕ, ◌≤◌, ◌<◌}
 use mathlib.Core.Path.{◌≡◌, refl, sym, ap, ◌∙◌}
 use mathlib.Core.Bool.{Bool, true, false, not}
@@ -10,8 +11,6 @@ use Rattle.v8.specs.Search.{first}
 use Rattle.v8.proofs.Search.{first_passes}
 use Rattle.v8.proofs.Choice.{false_true}
 use Rattle.policy.specs.Policy.{policy_ok}
-use Rattle.rows.specs.declared.Flaw.{Flaw}
-use Rattle.rows.specs.declared.Flaw.TheVariants.{None}
 use Rattle.rows.specs.Geometry.{row_bytes}
 use Rattle.rows.specs.Row.{broken_at, form_fault}
 use Rattle.rows.proofs.LowestFlaw.{none_broken, no_flaw}
@@ -34,7 +33,7 @@ none_found f n h = at (ltb (first f 0 n) n) refl
     at false t = ltb-false (first f 0 n) n t
 
 -- a row that has no flaw is accepted
-pub unless_none : (number w : ℕ) (flaw : Flaw) → flaw ≡ None → unless_fault number w flaw ≡ accepted
+pub unless_none : (number w : ℕ) (flaw : Option ℕ) → flaw ≡ None → unless_fault number w flaw ≡ accepted
 unless_none number w flaw e = rw e
 
 -- a row whose bytes agree with those of a well formed one is well formed

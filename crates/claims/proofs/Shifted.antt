@@ -1,5 +1,6 @@
 -- What begins at a byte of a list is what begins at byte 0 of the list without the bytes before it. So the form of a row can be read from the bytes
 -- that begin with each of its places: a byte far into a list costs the prover much, since it passes all bytes before it one by one.
+use Rattle.std.specs.Prelude.{Option}
 use Prim.Native.Nat.{ℕ, ◌+◌, ◌*◌}
 use mathlib.Core.Path.{◌≡◌, sym, ap, fun_ext, ◌∙◌}
 use mathlib.Core.Bool.{Bool, cond, not}
@@ -9,7 +10,6 @@ use lib.Dec.{eqb}
 use lib.ListN.{drop}
 use lib.Seq.{get_or-drop, drop-drop}
 use Rattle.memory.specs.Memory.{byte_at}
-use Rattle.rows.specs.declared.Flaw.{Flaw}
 use Rattle.rows.specs.Flaw.{flaw_from}
 use Rattle.rows.specs.Geometry.{entry_bytes, note_bytes, note_offset, note_start, note_name, entry_start, entry_named}
 use Rattle.rows.specs.Row.{note_formed, entry_formed_as, formed_at, form_fault}
@@ -40,7 +40,7 @@ formed_from regions sizes row place =
     (entry_formed_as regions sizes (drop (entry_bytes * entry_named place) row) 0 (entry_named place))
 
 -- the lowest badly formed place of a row, so read
-abbrev pub form_from : ℕ → List ℕ → List ℕ → Flaw
+abbrev pub form_from : ℕ → List ℕ → List ℕ → Option ℕ
 form_from regions sizes row = flaw_from (λ (place : ℕ). not (formed_from regions sizes row place)) 0
 
 formed-from : (regions : ℕ) (sizes bytes : List ℕ) (at place : ℕ) → formed_at regions sizes bytes at place ≡ formed_from regions sizes (drop at bytes) place

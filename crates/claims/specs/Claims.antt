@@ -2,7 +2,7 @@
 -- Their proofs are `return-then-nop`, `one-nop` and `loop-accepted` in proofs/Answered.antt, and `loop-never-returns` in proofs/Looped.antt.
 -- And, of one routine, that the running guarantee is about something: `start-exists` in proofs/Unlinked.antt; and, of every routine that the check
 -- accepts for the older terminal, that it does so for the newer one: `accepted-too` in proofs/Alike.antt.
-use Rattle.std.specs.Prelude.{ℕ, ◌+◌, ◌*◌, ◌<◌, ◌≡◌, true, List, [], ◌∷◌, length}
+use Rattle.std.specs.Prelude.{ℕ, ◌+◌, ◌*◌, ◌<◌, ◌≡◌, true, List, [], ◌∷◌, length, None}
 use Rattle.v8.specs.declared.Edition.{Edition}
 use Rattle.v8.specs.declared.Edition.TheVariants.{V8, V9}
 use Rattle.policy.specs.declared.Policy.{Policy}
@@ -14,7 +14,6 @@ use Rattle.machine_steps.specs.declared.End.TheVariants.{Returned, Spent}
 use Rattle.machine_steps.specs.Steps.{Run}
 use Rattle.machine.specs.Run.{run_of}
 use Rattle.rows.specs.Entry.{is_return, fits}
-use Rattle.rows.specs.declared.Flaw.TheVariants.{None}
 use Rattle.rows.specs.Geometry.{row_bytes, entry_bytes}
 use Rattle.rows.specs.Row.{entry_at, entry_of, entry_formed_as, row_of, form_fault, scratch_unset}
 use Rattle.passes.specs.Answer.{accepted, refuse}

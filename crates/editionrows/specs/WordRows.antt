@@ -1,13 +1,12 @@
 -- Words read and instructions written on each terminal (document 02, request 5): "format 00, bits 24:22 = 001, annul and condition as before, bits
 -- 21:20 zero (the 32-bit codes), a prediction hint in bit 19, kept but with no effect, signed distance 18:0 in words". The words are those that GNU
 -- as gives, and stand above each; a branch is told with its distance in words.
-use Rattle.std.specs.Prelude.{ℕ, Bool, true, false, List, [], ◌∷◌, ◌++◌, map}
+use Rattle.std.specs.Prelude.{ℕ, Bool, true, false, List, [], ◌∷◌, ◌++◌, map, Some, None}
 use Rattle.v8.specs.Numbers.{not_read, privileged}
 use Rattle.v8.specs.declared.BranchForm.TheVariants.{Predicted}
 use Rattle.v8.specs.declared.Instruction.{Instruction}
 use Rattle.v8.specs.declared.Instruction.TheVariants.{Branch}
 use Rattle.v8.specs.declared.Reading.TheVariants.{Read, Unread}
-use Rattle.writer.specs.declared.Writing.TheVariants.{Written, Unwritable}
 use Rattle.trials.specs.Case.{Row, ◌gives◌, word, instruction, read_answer, write_answer, reads, writes, yields}
 use Rattle.trials.specs.Words.{branch}
 
@@ -24,12 +23,12 @@ pub data Coding : Type 0 where
 -- the word is read as the instruction, and that written as the word
 abbrev pub coded_rows : List Coding → List Row
 coded_rows [] = []
-coded_rows (w is x ∷ more) = word w gives reads (Read x) ∷ instruction x gives writes (Written w) ∷ coded_rows more
+coded_rows (w is x ∷ more) = word w gives reads (Read x) ∷ instruction x gives writes (Some w) ∷ coded_rows more
 
 -- neither: 2 and 17
 abbrev pub uncoded_rows : List Coding → List Row
 uncoded_rows [] = []
-uncoded_rows (w is x ∷ more) = word w gives reads (Unread not_read) ∷ instruction x gives writes Unwritable ∷ uncoded_rows more
+uncoded_rows (w is x ∷ more) = word w gives reads (Unread not_read) ∷ instruction x gives writes None ∷ uncoded_rows more
 
 -- Predicted branches, all parts at both ends: read and written on the newer terminal; "2 covers .. the whole form on the older terminal", and no
 -- word there stands for such an instruction.
@@ -136,15 +135,15 @@ alike_rows =
     ++ map (λ (w : ℕ). word w gives reads (Unread not_read)) unread_words
     ++ map (λ (w : ℕ). word w gives reads (Unread privileged)) privileged_words
     -- predicted branches with a part out of range: distances 2^18 and -2^18 - 1, which plain ones have, and condition 16
-    ++ instruction (predicted false 8 0x40000 false) gives writes Unwritable
-    ∷ instruction (predicted true 8 0x40000 true) gives writes Unwritable
-    ∷ instruction (predicted false 8 0xFFFBFFFF false) gives writes Unwritable
-    ∷ instruction (predicted true 8 0xFFFBFFFF true) gives writes Unwritable
-    ∷ instruction (predicted false 16 0 false) gives writes Unwritable
-    ∷ instruction (predicted true 16 0 true) gives writes Unwritable
-    ∷ instruction (branch false 8 0x40000) gives writes (Written 0x10840000)
-    ∷ instruction (branch false 8 0xFFFBFFFF) gives writes (Written 0x10BBFFFF)
-    ∷ instruction (branch false 16 0) gives writes Unwritable
+    ++ instruction (predicted false 8 0x40000 false) gives writes None
+    ∷ instruction (predicted true 8 0x40000 true) gives writes None
+    ∷ instruction (predicted false 8 0xFFFBFFFF false) gives writes None
+    ∷ instruction (predicted true 8 0xFFFBFFFF true) gives writes None
+    ∷ instruction (predicted false 16 0 false) gives writes None
+    ∷ instruction (predicted true 16 0 true) gives writes None
+    ∷ instruction (branch false 8 0x40000) gives writes (Some 0x10840000)
+    ∷ instruction (branch false 8 0xFFFBFFFF) gives writes (Some 0x10BBFFFF)
+    ∷ instruction (branch false 16 0) gives writes None
     -- the numbers of the answers
     ∷ read_answer 0x10600000 gives yields 2
     ∷ read_answer 0x10800000 gives yields 0

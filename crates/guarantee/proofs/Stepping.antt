@@ -1,6 +1,7 @@
 -- One step from a state that satisfies the invariant leads to one, and is safe. An operation, in a slot or not, is covered by the change that the
 -- check made of its row; a transfer follows an edge that the check looked at: a branch the one that the codes decide, narrowed by a condition
 -- that holds, the return the one to the caller, finding the return address in r15.
+use Rattle.std.specs.Prelude.{Option, Some, None}
 use Prim.Native.Nat.{ℕ, ◌+◌, ◌*◌, ◌%◌, ◌<◌}
 use mathlib.Core.Path.{◌≡◌, refl, sym, ap, ◌∙◌, subst}
 use mathlib.Core.Bool.{Bool, true, false, not, cond, ◌&&◌, and-false}
@@ -32,8 +33,6 @@ use Rattle.flow.proofs.Onward.{flows, edges_land, slot_no_transfer}
 use Rattle.policy.specs.declared.Policy.{Policy}
 use Rattle.policy.specs.Laws.{WellFormed}
 use Rattle.access.specs.Layout.{Layout, layout_of}
-use Rattle.step.specs.declared.Pending.{Pending}
-use Rattle.step.specs.declared.Pending.TheVariants as Pending·
 use Rattle.step.specs.declared.Control.{Control}
 use Rattle.step.specs.Registers.{value_of, is_set}
 use Rattle.step.specs.Control.{go_to, at_slot, due_at}
@@ -350,15 +349,15 @@ module _ (t : Routine) (bases : List ℕ) (returns frame : ℕ) (wf : WellFormed
 
   -- a word in a slot
   slot_step : (w : ℕ) (d : Destination) (c : Core) → CoreOk t.policy h c → (s : SlotDue t h (word w) d c)
-      → Steps c (word w) (step_with l returns (record { control = record { at = record { 0 = w }; pending = Pending·.Due d }; core = c }) (word w))
+      → Steps c (word w) (step_with l returns (record { control = record { at = record { 0 = w }; pending = Some d }; core = c }) (word w))
   slot_step w d c ck s =
-      subst (λ (x : Reading). Steps c x (step_with l returns (record { control = record { at = record { 0 = w }; pending = Pending·.Due d }; core = c }) x)) (sym s.is)
-      (plain_step_lem (record { at = record { 0 = w }; pending = Pending·.Due d }) s.operation c (subst ReadingSound s.is (sound w)) ck s.due)
+      subst (λ (x : Reading). Steps c x (step_with l returns (record { control = record { at = record { 0 = w }; pending = Some d }; core = c }) x)) (sym s.is)
+      (plain_step_lem (record { at = record { 0 = w }; pending = Some d }) s.operation c (subst ReadingSound s.is (sound w)) ck s.due)
 
-  ready_step : (w : ℕ) (c : Core) (k : Pending) → CoreOk t.policy h c → Ready t h w c k
+  ready_step : (w : ℕ) (c : Core) (k : Option Destination) → CoreOk t.policy h c → Ready t h w c k
       → Steps c (word w) (step_with l returns (record { control = record { at = record { 0 = w }; pending = k }; core = c }) (word w))
-  ready_step w c Pending·.Nothing ck r = free_step w c ck r (word w) refl
-  ready_step w c (Pending·.Due d) ck r = slot_step w d c ck r
+  ready_step w c None ck r = free_step w c ck r (word w) refl
+  ready_step w c (Some d) ck r = slot_step w d c ck r
 
   -- one step
   pub step_sound : (st : State) → Invariant t h st

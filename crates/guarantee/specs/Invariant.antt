@@ -1,6 +1,6 @@
 -- What holds of every state that a run of an accepted routine passes through, so that the guarantee can be taken from any of them and not from
 -- the start alone.
-use Rattle.std.specs.Prelude.{ℕ, ◌<◌, ◌≡◌, true, length}
+use Rattle.std.specs.Prelude.{ℕ, ◌<◌, ◌≡◌, true, length, Option, Some, None}
 use Rattle.v8.specs.declared.Operation.{Operation}
 use Rattle.v8.specs.declared.Instruction.TheVariants.{Plain}
 use Rattle.v8.specs.declared.Reading.{Reading}
@@ -11,8 +11,6 @@ use Rattle.flow_code.specs.Readings.{reading_at, examined}
 use Rattle.policy.specs.declared.Policy.{Policy}
 use Rattle.memory.specs.Memory.{Bytes}
 use Rattle.memory.specs.Place.{length_of}
-use Rattle.step.specs.declared.Pending.{Pending}
-use Rattle.step.specs.declared.Pending.TheVariants as Pending·
 use Rattle.step.specs.Registers.{value_of, is_set}
 use Rattle.step.specs.Effect.{Core, Effect, fault, done}
 use Rattle.step.specs.Step.{State, Step, stopped, next, returned}
@@ -87,9 +85,9 @@ pub record SlotDue (t : Routine) (h : Host) (x : Reading) (d : Destination) (c :
   pub due : Due t h operation d c
 
 -- what is pending: nothing, at an ordinary word; or in a slot, where the transfer goes
-abbrev pub Ready : Routine → Host → ℕ → Core → Pending → Type 0
-Ready t h w c Pending·.Nothing = At t h w c
-Ready t h w c (Pending·.Due d) = SlotDue t h (reading_at t.readings w) d c
+abbrev pub Ready : Routine → Host → ℕ → Core → Option Destination → Type 0
+Ready t h w c None = At t h w c
+Ready t h w c (Some d) = SlotDue t h (reading_at t.readings w) d c
 
 -- the invariant
 pub record Invariant (t : Routine) (h : Host) (st : State) : Type 0 where

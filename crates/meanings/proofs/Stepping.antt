@@ -1,5 +1,6 @@
 -- One step from a state whose registers agree with the listing leads to one. The listing is closed: it takes in what the word sends along the
 -- edge that the step follows, and a transfer's slot takes in the marks that its transfer shows it.
+use Rattle.std.specs.Prelude.{Option, Some, None}
 use Prim.Native.Nat.{ℕ, ◌+◌, ◌%◌, ◌<◌}
 use mathlib.Core.Path.{◌≡◌, refl, sym, subst}
 use mathlib.Core.Bool.{Bool, true, false, cond, not, ◌&&◌, and-false}
@@ -22,8 +23,6 @@ use Rattle.flow_edges.specs.Transfer.{is_transfer, reads_codes, link}
 use Rattle.flow_edges.specs.Edge.{edge_of}
 use Rattle.flow_code.specs.Readings.{reading_at, examined}
 use Rattle.access.specs.Layout.{Layout}
-use Rattle.step.specs.declared.Pending.{Pending}
-use Rattle.step.specs.declared.Pending.TheVariants as Pending·
 use Rattle.step.specs.declared.Control.{Control}
 use Rattle.step.specs.declared.Registers.{Registers}
 use Rattle.step.specs.Registers.{value_of, is_set}
@@ -91,9 +90,9 @@ module _ (h : Host) (l : Layout) (returns : ℕ) (readings : List Reading) (entr
     pub agrees : Agrees h entry marks c.registers
     pub arrives : (c' : Core) → Agrees h entry (marks_after_word marks (reading_at readings w)) c'.registers → Arrived d c'
 
-  abbrev pub Ready : ℕ → Core → Pending → Type 0
-  Ready w c Pending·.Nothing = At w c
-  Ready w c (Pending·.Due d) = SlotDue w d c
+  abbrev pub Ready : ℕ → Core → Option Destination → Type 0
+  Ready w c None = At w c
+  Ready w c (Some d) = SlotDue w d c
 
   -- the invariant, and that a step keeps it
   abbrev pub Listed : State → Type 0
@@ -105,9 +104,9 @@ module _ (h : Host) (l : Layout) (returns : ℕ) (readings : List Reading) (entr
   Keeps (returned c) = Unit {0}
 
   -- the marks of the word where a state stands
-  pub ready_agrees : (w : ℕ) (c : Core) (k : Pending) → Ready w c k → Agrees h entry (marks_at listing w) c.registers
-  ready_agrees w c Pending·.Nothing r = r.agrees
-  ready_agrees w c (Pending·.Due d) r = r.here
+  pub ready_agrees : (w : ℕ) (c : Core) (k : Option Destination) → Ready w c k → Agrees h entry (marks_at listing w) c.registers
+  ready_agrees w c None r = r.agrees
+  ready_agrees w c (Some d) r = r.here
 
   arrive : (d : Destination) (m : List ℕ) → Lands readings d → taken_in listing (to_end (length readings) d m) ≡ true
       → (c : Core) → Agrees h entry m c.registers → Arrived d c
@@ -221,18 +220,18 @@ module _ (h : Host) (l : Layout) (returns : ℕ) (readings : List Reading) (entr
 
     -- a word in a slot
     slot_step : (w : ℕ) (d : Destination) (c : Core) → SlotDue w d c → (x : Reading) → word w ≡ x
-        → Keeps (step_with l returns (record { control = record { at = record { 0 = w }; pending = Pending·.Due d }; core = c }) x)
+        → Keeps (step_with l returns (record { control = record { at = record { 0 = w }; pending = Some d }; core = c }) x)
     slot_step w d c s (Unread n) q = tt
     slot_step w d c s (Read (Plain x)) q =
-        plain_step_lem (record { at = record { 0 = w }; pending = Pending·.Due d }) x c s.marks s.agrees
+        plain_step_lem (record { at = record { 0 = w }; pending = Some d }) x c s.marks s.agrees
         (λ c' a. s.arrives c' (subst (λ (y : Reading). Agrees h entry (marks_after_word s.marks y) c'.registers) (sym q) a))
     slot_step w d c s (Read (Branch b)) q = tt
     slot_step w d c s (Read Return) q = tt
 
-    ready_step : (w : ℕ) (c : Core) (k : Pending) → Ready w c k
+    ready_step : (w : ℕ) (c : Core) (k : Option Destination) → Ready w c k
         → Keeps (step_with l returns (record { control = record { at = record { 0 = w }; pending = k }; core = c }) (word w))
-    ready_step w c Pending·.Nothing r = free_step w c r (word w) refl
-    ready_step w c (Pending·.Due d) r = slot_step w d c r (word w) refl
+    ready_step w c None r = free_step w c r (word w) refl
+    ready_step w c (Some d) r = slot_step w d c r (word w) refl
 
     -- one step
     pub step_keeps : (st : State) → Listed st → Keeps (step_of (record { layout = l; readings = readings; returns = returns }) st)

@@ -1,8 +1,7 @@
 -- What fits the frame address, and what it fits (document 02, request 7: kind 5 "fits itself"), and rows with scratch words: the lowest place that does
 -- not fit, 32 for the note, 33 to 38 for scratch words, "the lowest number named first".
-use Rattle.std.specs.Prelude.{true, false, List, [], ◌∷◌}
+use Rattle.std.specs.Prelude.{true, false, List, [], ◌∷◌, Some, None}
 use Rattle.v8.specs.Signed.{bias}
-use Rattle.rows.specs.declared.Flaw.TheVariants.{None, At}
 use Rattle.trials.specs.Case.{Row, ◌gives◌, fitting, fitting_row, narrowing, fitted, flaw}
 use Rattle.trials.specs.Entries.{above, num, just, any_number, addr, at, unset, start_or_null, return_address, frame_address, some_codes, bare, put, noted}
 use Rattle.trials.specs.FitRows.{fours}
@@ -27,19 +26,19 @@ fit_rows =
     ∷ fitting return_address frame_address gives fitted false
     -- rows: r14; each scratch word
     ∷ fitting_row (put 14 frame_address bare) (put 14 frame_address bare) gives flaw None
-    ∷ fitting_row bare (put 14 frame_address bare) gives flaw (At 14)
+    ∷ fitting_row bare (put 14 frame_address bare) gives flaw (Some 14)
     ∷ fitting_row (put 32 fours bare) bare gives flaw None
     ∷ fitting_row (put 37 (num 8 bias (above 8)) bare) (put 37 fours bare) gives flaw None
-    ∷ fitting_row bare (put 32 fours bare) gives flaw (At 33)
-    ∷ fitting_row bare (put 33 return_address bare) gives flaw (At 34)
-    ∷ fitting_row bare (put 34 (start_or_null 0) bare) gives flaw (At 35)
-    ∷ fitting_row bare (put 35 (at 0 0) bare) gives flaw (At 36)
-    ∷ fitting_row (put 36 fours bare) (put 36 (just bias) bare) gives flaw (At 37)
-    ∷ fitting_row (put 36 fours bare) (put 37 fours bare) gives flaw (At 38)
+    ∷ fitting_row bare (put 32 fours bare) gives flaw (Some 33)
+    ∷ fitting_row bare (put 33 return_address bare) gives flaw (Some 34)
+    ∷ fitting_row bare (put 34 (start_or_null 0) bare) gives flaw (Some 35)
+    ∷ fitting_row bare (put 35 (at 0 0) bare) gives flaw (Some 36)
+    ∷ fitting_row (put 36 fours bare) (put 36 (just bias) bare) gives flaw (Some 37)
+    ∷ fitting_row (put 36 fours bare) (put 37 fours bare) gives flaw (Some 38)
     -- a register, the note, the scratch words
-    ∷ fitting_row bare (noted some_codes (put 31 fours (put 32 fours bare))) gives flaw (At 31)
-    ∷ fitting_row bare (noted some_codes (put 32 fours bare)) gives flaw (At 32)
-    ∷ fitting_row bare (put 37 fours (put 33 fours bare)) gives flaw (At 34)
+    ∷ fitting_row bare (noted some_codes (put 31 fours (put 32 fours bare))) gives flaw (Some 31)
+    ∷ fitting_row bare (noted some_codes (put 32 fours bare)) gives flaw (Some 32)
+    ∷ fitting_row bare (put 37 fours (put 33 fours bare)) gives flaw (Some 34)
     -- no comparison narrows the frame address
     ∷ narrowing 1 frame_address bias gives leaves frame_address
     ∷ narrowing 2 frame_address bias gives leaves frame_address

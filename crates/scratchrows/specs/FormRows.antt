@@ -1,10 +1,9 @@
 -- The form of rows and entry rows with the frame address and scratch words (document 02, request 7): "Kind 5 is the frame address, all else zero, and
 -- may stand only in r14"; "the register answered for scratch words is 33 to 38, the lowest number named first"; "in a well-formed entry row, the six are
 -- unset". A place is told by its index in the bytes: r0 to r31, then the scratch words, 32 to 37.
-use Rattle.std.specs.Prelude.{ℕ, ◌+◌, true, false, List, [], ◌∷◌, ◌++◌, map, replicate}
+use Rattle.std.specs.Prelude.{ℕ, ◌+◌, true, false, List, [], ◌∷◌, ◌++◌, map, replicate, Some, None}
 use Rattle.v8.specs.Signed.{bias}
 use Rattle.rows.specs.declared.Entry.{Entry}
-use Rattle.rows.specs.declared.Flaw.TheVariants.{None, At}
 use Rattle.rows.specs.declared.Row as Rows·
 use Rattle.rows.specs.Geometry.{entry_start}
 use Rattle.trials.specs.Case.{Row, ◌gives◌, Given, flaw}
@@ -25,22 +24,22 @@ other_registers =
 abbrev pub frame_rows : List Row
 frame_rows =
     alone 14 frame_address gives flaw None
-    ∷ map (λ (r : ℕ). alone r frame_address gives flaw (At r)) other_registers
-    ++ alone 32 frame_address gives flaw (At 33)
-    ∷ alone 33 frame_address gives flaw (At 34)
-    ∷ alone 34 frame_address gives flaw (At 35)
-    ∷ alone 35 frame_address gives flaw (At 36)
-    ∷ alone 36 frame_address gives flaw (At 37)
-    ∷ alone 37 frame_address gives flaw (At 38)
+    ∷ map (λ (r : ℕ). alone r frame_address gives flaw (Some r)) other_registers
+    ++ alone 32 frame_address gives flaw (Some 33)
+    ∷ alone 33 frame_address gives flaw (Some 34)
+    ∷ alone 34 frame_address gives flaw (Some 35)
+    ∷ alone 35 frame_address gives flaw (Some 36)
+    ∷ alone 36 frame_address gives flaw (Some 37)
+    ∷ alone 37 frame_address gives flaw (Some 38)
     -- "all else zero": region, step, lo, hi, and the entry's zero byte
-    ∷ alone 14 (entry_with 5 1 0 bias bias) gives flaw (At 14)
-    ∷ alone 14 (entry_with 5 0 8 bias bias) gives flaw (At 14)
-    ∷ alone 14 (entry_with 5 0 0 (below 1) bias) gives flaw (At 14)
-    ∷ alone 14 (entry_with 5 0 0 bias (above 96)) gives flaw (At 14)
+    ∷ alone 14 (entry_with 5 1 0 bias bias) gives flaw (Some 14)
+    ∷ alone 14 (entry_with 5 0 8 bias bias) gives flaw (Some 14)
+    ∷ alone 14 (entry_with 5 0 0 (below 1) bias) gives flaw (Some 14)
+    ∷ alone 14 (entry_with 5 0 0 bias (above 96)) gives flaw (Some 14)
     ∷ byte_in (entry_start 0 14) 5 gives flaw None
-    ∷ byte_in (entry_start 0 14 + 3) 1 gives flaw (At 14)
+    ∷ byte_in (entry_start 0 14 + 3) 1 gives flaw (Some 14)
     -- no such kind
-    ∷ alone 14 (entry_with 6 0 0 bias bias) gives flaw (At 14)
+    ∷ alone 14 (entry_with 6 0 0 bias bias) gives flaw (Some 14)
     -- r14 may hold all else
     ∷ alone 14 (at 0 16) gives flaw None
     ∷ alone 14 return_address gives flaw None
@@ -53,19 +52,19 @@ scratch_rows =
     form_of (bytes_of (put 32 (just (above 9)) (put 33 (num 4 bias (above 36)) (put 34 (addr 0 8 bias (above 16)) (put 35 (start_or_null 1) (put 36 return_address (put 37 any_number bare)))))))
     gives flaw None
     -- their form is that of registers: a step, a region, offsets above the size, another part than the kind has
-    ∷ alone 32 (num 3 bias bias) gives flaw (At 33)
-    ∷ alone 33 (start_or_null 2) gives flaw (At 34)
-    ∷ alone 34 (addr 1 8 bias (above 16)) gives flaw (At 35)
-    ∷ alone 35 (entry_with 4 1 0 bias bias) gives flaw (At 36)
-    ∷ alone 36 (entry_with 0 0 8 bias bias) gives flaw (At 37)
-    ∷ alone 37 (entry_with 6 0 0 bias bias) gives flaw (At 38)
-    ∷ byte_in (entry_start 0 37 + 3) 1 gives flaw (At 38)
+    ∷ alone 32 (num 3 bias bias) gives flaw (Some 33)
+    ∷ alone 33 (start_or_null 2) gives flaw (Some 34)
+    ∷ alone 34 (addr 1 8 bias (above 16)) gives flaw (Some 35)
+    ∷ alone 35 (entry_with 4 1 0 bias bias) gives flaw (Some 36)
+    ∷ alone 36 (entry_with 0 0 8 bias bias) gives flaw (Some 37)
+    ∷ alone 37 (entry_with 6 0 0 bias bias) gives flaw (Some 38)
+    ∷ byte_in (entry_start 0 37 + 3) 1 gives flaw (Some 38)
     -- "the lowest number named first": a register, the note, a scratch word, though it stands before the note
-    ∷ form_of (bytes_of (noted (compared 0 bias) (put 32 frame_address (put 31 frame_address bare)))) gives flaw (At 31)
-    ∷ form_of (bytes_of (noted (compared 0 bias) (put 32 frame_address bare))) gives flaw (At 32)
-    ∷ form_of (bytes_of (put 37 frame_address (put 34 frame_address bare))) gives flaw (At 35)
+    ∷ form_of (bytes_of (noted (compared 0 bias) (put 32 frame_address (put 31 frame_address bare)))) gives flaw (Some 31)
+    ∷ form_of (bytes_of (noted (compared 0 bias) (put 32 frame_address bare))) gives flaw (Some 32)
+    ∷ form_of (bytes_of (put 37 frame_address (put 34 frame_address bare))) gives flaw (Some 35)
     -- a note names no scratch word
-    ∷ form_of (bytes_of (noted (compared 33 (above 9)) bare)) gives flaw (At 32)
+    ∷ form_of (bytes_of (noted (compared 33 (above 9)) bare)) gives flaw (Some 32)
     -- r14 may be compared
     ∷ form_of (bytes_of (noted (compared 14 bias) (put 14 frame_address bare))) gives flaw None
     ∷ []

@@ -1,6 +1,6 @@
 -- The worked cases: what is given, what comes of it, and what the definitions give for it. A row of the shared table is a case
 -- with the outcome that it must have (document 01, "To the testers": "rows of one shared table").
-use Rattle.std.specs.Prelude.{ℕ, zero, suc, ◌+◌, ◌/◌, ◌%◌, ◌^◌, ◌≡◌, Bool, cond, List, [], ◌∷◌, map, eqb, length, take}
+use Rattle.std.specs.Prelude.{ℕ, zero, suc, ◌+◌, ◌/◌, ◌%◌, ◌^◌, ◌≡◌, Bool, cond, List, [], ◌∷◌, map, eqb, length, take, Option}
 use Rattle.v8.specs.declared.Edition.{Edition}
 use Rattle.v8.specs.declared.AluOp.{AluOp}
 use Rattle.v8.specs.declared.ShiftOp.{ShiftOp}
@@ -10,7 +10,6 @@ use Rattle.v8.specs.declared.Instruction.{Instruction}
 use Rattle.v8.specs.declared.Reading.{Reading}
 use Rattle.v8.specs.declared.Reading.TheVariants.{Read, Unread}
 use Rattle.v8.specs.Read.{reading_of, read_number}
-use Rattle.writer.specs.declared.Writing.{Writing}
 use Rattle.writer.specs.Write.{writing_of, write_number}
 use Rattle.alu.specs.declared.codes.Codes.{Codes}
 use Rattle.alu.specs.Result.{alu_of, shift_of}
@@ -31,14 +30,12 @@ use Rattle.machine_steps.specs.declared.End.{End}
 use Rattle.machine_steps.specs.Steps.{Run}
 use Rattle.machine.specs.Run.{run_of}
 use Rattle.rows.specs.declared.Entry.{Entry}
-use Rattle.rows.specs.declared.Flaw.{Flaw}
 use Rattle.rows.specs.declared.Note.{Note}
 use Rattle.rows.specs.declared.Row as Rows·
 use Rattle.rows.specs.Entry.{fits, fits_note}
 use Rattle.rows.specs.Row.{form_fault, misfit}
 use Rattle.rules.specs.declared.Result.{Result}
 use Rattle.rules.specs.declared.Change.{Change}
-use Rattle.rules.specs.declared.EntryLeft.{EntryLeft}
 use Rattle.rules.specs.Result.{alu_result, shift_result}
 use Rattle.rules.specs.Change.{change_of}
 use Rattle.rules.specs.Narrow.{RowLeft, narrow_entry, narrow_row}
@@ -106,7 +103,7 @@ pub data Given : Type 0 where
 -- what comes of it
 pub data Outcome : Type 0 where
   reads : Reading → Outcome
-  writes : Writing → Outcome
+  writes : Option ℕ → Outcome
   -- an edge; a word that is not read has none
   goes : Edge → Outcome
   -- for each word, whether it is examined
@@ -127,13 +124,13 @@ pub data Outcome : Type 0 where
   -- it fits, or it does not
   fitted : Bool → Outcome
   -- the lowest place of a row that is badly formed or does not fit, or none
-  flaw : Flaw → Outcome
+  flaw : Option ℕ → Outcome
   -- the result's entry, or the number of the condition that it breaks
   makes : Result → Outcome
   -- what the word does to the row
   changes : Change → Outcome
   -- what is left of the entry, or of the row
-  remains : EntryLeft → Outcome
+  remains : Option Entry → Outcome
   row_remains : RowLeft → Outcome
   -- an answer: number, word, register
   answers : ℕ → ℕ → ℕ → Outcome
@@ -200,7 +197,7 @@ change_by p row (Unread n) = reads (Unread n)
 -- judges: what tests the form of a row, checks a routine and answers a bundle
 pub record Judges : Type 0 where
   -- how many regions there are, their sizes, the row's bytes
-  pub form : ℕ → List ℕ → List ℕ → Flaw
+  pub form : ℕ → List ℕ → List ℕ → Option ℕ
   -- policy, words, the rows' bytes, the entry row's, the result entry's
   pub check : Edition → Policy → List ℕ → List ℕ → List ℕ → List ℕ → Answer
   -- the bundle's bytes

@@ -1,7 +1,6 @@
 -- What fits what (document 01, "Entry A fits B if .."; "Note A fits B if ..").
-use Rattle.std.specs.Prelude.{true, false, List, [], ◌∷◌, ◌++◌}
+use Rattle.std.specs.Prelude.{true, false, List, [], ◌∷◌, ◌++◌, Some, None}
 use Rattle.rows.specs.declared.Entry.{Entry}
-use Rattle.rows.specs.declared.Flaw.TheVariants.{None, At}
 use Rattle.trials.specs.Case.{Row, ◌gives◌, fitting, fitting_note, fitting_row, fitted, flaw}
 use Rattle.trials.specs.Entries.{above, below, least, most, num, just, any_number, addr, at, unset, start_or_null, return_address, no_codes, some_codes, compared, bare, put, noted}
 use Rattle.v8.specs.Signed.{bias}
@@ -98,9 +97,9 @@ note_fit_rows =
     ∷ fitting_note (compared 1 (above 8)) (compared 1 (above 9)) gives fitted false
     ∷ fitting_row bare bare gives flaw None
     ∷ fitting_row (noted some_codes (put 1 fours bare)) bare gives flaw None
-    ∷ fitting_row bare (put 31 fours bare) gives flaw (At 31)
-    ∷ fitting_row bare (noted some_codes bare) gives flaw (At 32)
-    ∷ fitting_row bare (noted some_codes (put 9 return_address (put 5 fours bare))) gives flaw (At 5)
+    ∷ fitting_row bare (put 31 fours bare) gives flaw (Some 31)
+    ∷ fitting_row bare (noted some_codes bare) gives flaw (Some 32)
+    ∷ fitting_row bare (noted some_codes (put 9 return_address (put 5 fours bare))) gives flaw (Some 5)
     ∷ []
 
 -- all of them

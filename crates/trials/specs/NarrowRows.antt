@@ -1,9 +1,8 @@
 -- What branches leave of what was compared (document 01, "A branch with note 2 narrows a noted number on conditions 1, 2, 3, 9, 10, 11 ..").
 -- A row has the condition that holds: the branch's where it is taken, its opposite where it is not.
-use Rattle.std.specs.Prelude.{List, [], ◌∷◌, ◌++◌}
+use Rattle.std.specs.Prelude.{List, [], ◌∷◌, ◌++◌, Some, None}
 use Rattle.rows.specs.declared.Entry.{Entry}
 use Rattle.rows.specs.declared.Row as Rows·
-use Rattle.rules.specs.declared.EntryLeft.TheVariants.{Left, Nothing}
 use Rattle.rules.specs.Narrow.{left, nothing}
 use Rattle.trials.specs.Case.{Row, ◌gives◌, Outcome, narrowing, narrowing_row, remains, row_remains}
 use Rattle.trials.specs.Entries.{above, below, least, most, num, just, any_number, addr, at, unset, start_or_null, return_address, some_codes, compared, bare, put, noted}
@@ -11,10 +10,10 @@ use Rattle.v8.specs.Signed.{bias}
 
 -- an entry is left; nothing is
 abbrev pub leaves : Entry → Outcome
-leaves e = remains (Left e)
+leaves e = remains (Some e)
 
 abbrev pub none : Outcome
-none = remains Nothing
+none = remains None
 
 -- 0, 4, .. 36
 abbrev pub fours : Entry

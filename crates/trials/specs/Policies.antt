@@ -2,6 +2,7 @@
 use Rattle.std.specs.Prelude.{ℕ, zero, suc, ◌+◌, ◌-◌, List, [], ◌∷◌, ◌++◌, replicate}
 use Rattle.policy.specs.declared.Field.{Field}
 use Rattle.policy.specs.declared.Policy.{Policy}
+use Rattle.policy.specs.Policy.{no_field}
 use Rattle.policy.specs.Build.{empty_policy}
 use Rattle.trials.specs.Case.{Row, ◌gives◌, Given, Addition, region, field, adds, numbers}
 use Rattle.v8.specs.Signed.{bias}
@@ -57,22 +58,21 @@ abbrev pub uniform : ℕ → ℕ → ℕ → Policy
 uniform regions size fields =
     record {
       regions = record { count = regions; sizes = replicate 8 size; fields = replicate 8 fields };
-      fields = record { elements = replicate 128 0; permissions = replicate 128 0; offsets = replicate 128 0; counts = replicate 128 0 };
-      values = record { targets = replicate 128 0; lows = replicate 128 0; highs = replicate 128 0 };
+      fields = replicate 128 no_field;
     }
 
--- n numbers from one on, each one more than the one before
-abbrev pub numbers_from : ℕ → ℕ → List ℕ
-numbers_from i zero = []
-numbers_from i (suc n) = i ∷ numbers_from (i + 1) n
+-- n fields of one byte from an offset on, each to be read and written, one after the other
+abbrev pub bytes_from : ℕ → ℕ → List Field
+bytes_from i zero = []
+bytes_from i (suc n) =
+    record { element = 1; permission = 3; target = 0; offset = record { 0 = i }; count = 1; lo = bias; hi = bias } ∷ bytes_from (i + 1) n
 
 -- a policy not built by adds: one region of 24 bytes with so many fields, each one byte to be read and written, one after the other
 abbrev pub bytewise : ℕ → Policy
 bytewise fields =
     record {
       regions = record { count = 1; sizes = 24 ∷ replicate 7 0; fields = fields ∷ replicate 7 0 };
-      fields = record { elements = replicate 128 1; permissions = replicate 128 3; offsets = numbers_from 0 128; counts = replicate 128 1 };
-      values = record { targets = replicate 128 0; lows = replicate 128 bias; highs = replicate 128 bias };
+      fields = bytes_from 0 128;
     }
 
 -- regions

@@ -1,6 +1,6 @@
 -- Words read and instructions written: document 01's trial words, a word of each kind with its parts at both ends, and words
 -- one bit, one opcode or one format off the subset, privileged ones told apart. The words are those that GNU as gives.
-use Rattle.std.specs.Prelude.{ℕ, ◌+◌, ◌*◌, ◌-◌, ◌^◌, Bool, true, false, List, [], ◌∷◌, ◌++◌}
+use Rattle.std.specs.Prelude.{ℕ, ◌+◌, ◌*◌, ◌-◌, ◌^◌, Bool, true, false, List, [], ◌∷◌, ◌++◌, Some, None}
 use Rattle.v8.specs.Numbers.{not_read, privileged}
 use Rattle.v8.specs.declared.BranchForm.TheVariants.{Unpredicted}
 use Rattle.v8.specs.declared.AluOp.TheVariants.{Add, Sub, Orn, Xnor}
@@ -15,7 +15,6 @@ use Rattle.v8.specs.declared.Instruction.{Instruction}
 use Rattle.v8.specs.declared.Instruction.TheVariants.{Plain, Branch, Return}
 use Rattle.v8.specs.declared.Reading.{Reading}
 use Rattle.v8.specs.declared.Reading.TheVariants.{Read, Unread}
-use Rattle.writer.specs.declared.Writing.TheVariants.{Written, Unwritable}
 use Rattle.trials.specs.Case.{Row, ◌gives◌, word, instruction, read_answer, write_answer, reads, writes, yields}
 
 -- a branch: its annul bit, its condition, and its distance in words
@@ -126,29 +125,29 @@ privileged_rows =
 abbrev pub write_rows : List Row
 write_rows =
     -- parts at their ends
-    instruction (Plain (Sethi 31 0x3FFFFF)) gives writes (Written 0x3F3FFFFF)
-    ∷ instruction (branch true 3 0xFFE00000) gives writes (Written 0x26A00000)
-    ∷ instruction (branch false 9 0x1FFFFF) gives writes (Written 0x129FFFFF)
-    ∷ instruction (Plain (Alu Add false 2 1 (Imm 0xFFFFF000))) gives writes (Written 0x84007000)
-    ∷ instruction (Plain (Shift Sll 2 1 (Imm 31))) gives writes (Written 0x8528601F)
-    ∷ instruction (Plain (Memory (Stores Stb) 1 8 (Bytes (record { 0 = 29 })))) gives writes (Written 0xC22A201D)
-    ∷ instruction Return gives writes (Written 0x81C3E008)
+    instruction (Plain (Sethi 31 0x3FFFFF)) gives writes (Some 0x3F3FFFFF)
+    ∷ instruction (branch true 3 0xFFE00000) gives writes (Some 0x26A00000)
+    ∷ instruction (branch false 9 0x1FFFFF) gives writes (Some 0x129FFFFF)
+    ∷ instruction (Plain (Alu Add false 2 1 (Imm 0xFFFFF000))) gives writes (Some 0x84007000)
+    ∷ instruction (Plain (Shift Sll 2 1 (Imm 31))) gives writes (Some 0x8528601F)
+    ∷ instruction (Plain (Memory (Stores Stb) 1 8 (Bytes (record { 0 = 29 })))) gives writes (Some 0xC22A201D)
+    ∷ instruction Return gives writes (Some 0x81C3E008)
     -- a part out of range
-    ∷ instruction (Plain (Sethi 32 0)) gives writes Unwritable
-    ∷ instruction (Plain (Sethi 0 0x400000)) gives writes Unwritable
-    ∷ instruction (branch false 16 0) gives writes Unwritable
-    ∷ instruction (branch false 8 0x200000) gives writes Unwritable
-    ∷ instruction (branch false 8 0xFFDFFFFF) gives writes Unwritable
-    ∷ instruction (Plain (Alu Add false 32 0 (Reg 0))) gives writes Unwritable
-    ∷ instruction (Plain (Alu Add false 0 32 (Reg 0))) gives writes Unwritable
-    ∷ instruction (Plain (Alu Add false 0 0 (Reg 32))) gives writes Unwritable
-    ∷ instruction (Plain (Alu Add false 0 0 (Imm 0x1000))) gives writes Unwritable
-    ∷ instruction (Plain (Alu Add false 0 0 (Imm 0xFFFFEFFF))) gives writes Unwritable
-    ∷ instruction (Plain (Shift Sra 0 0 (Imm 32))) gives writes Unwritable
-    ∷ instruction (Plain (Shift Sra 0 0 (Reg 255))) gives writes Unwritable
-    ∷ instruction (Plain (Memory (Loads Ld) 32 0 (Index 0))) gives writes Unwritable
-    ∷ instruction (Plain (Memory (Loads Ldsh) 0 0 (Bytes (record { 0 = 0x1000 })))) gives writes Unwritable
-    ∷ instruction (Plain (Memory (Stores St) 0 255 (Index 0))) gives writes Unwritable
+    ∷ instruction (Plain (Sethi 32 0)) gives writes None
+    ∷ instruction (Plain (Sethi 0 0x400000)) gives writes None
+    ∷ instruction (branch false 16 0) gives writes None
+    ∷ instruction (branch false 8 0x200000) gives writes None
+    ∷ instruction (branch false 8 0xFFDFFFFF) gives writes None
+    ∷ instruction (Plain (Alu Add false 32 0 (Reg 0))) gives writes None
+    ∷ instruction (Plain (Alu Add false 0 32 (Reg 0))) gives writes None
+    ∷ instruction (Plain (Alu Add false 0 0 (Reg 32))) gives writes None
+    ∷ instruction (Plain (Alu Add false 0 0 (Imm 0x1000))) gives writes None
+    ∷ instruction (Plain (Alu Add false 0 0 (Imm 0xFFFFEFFF))) gives writes None
+    ∷ instruction (Plain (Shift Sra 0 0 (Imm 32))) gives writes None
+    ∷ instruction (Plain (Shift Sra 0 0 (Reg 255))) gives writes None
+    ∷ instruction (Plain (Memory (Loads Ld) 32 0 (Index 0))) gives writes None
+    ∷ instruction (Plain (Memory (Loads Ldsh) 0 0 (Bytes (record { 0 = 0x1000 })))) gives writes None
+    ∷ instruction (Plain (Memory (Stores St) 0 255 (Index 0))) gives writes None
     ∷ []
 
 -- "Read a word: 2. Write an instruction: 17", and 24 of a privileged word: the numbers of the answers, 0 where there is no refusal
