@@ -17,21 +17,17 @@ pub fn read_all(edition: Edition, words: &[u32]) -> [Reading; MOST_WORDS]
     requires { length words.now ≤ most_words }
     ensures { ReadAs result (length words.now) (readings_of edition words.now) }
 {
-    let none = Reading::Unread(NOT_READ);
-    let mut readings = [none; MOST_WORDS];
-    let mut i: usize = 0;
-    while i < words.len() {
-        let x = read_word(edition, words[i]);
-        readings[i] = x;
-        i += 1;
+    let mut readings = [Reading::Unread(NOT_READ); MOST_WORDS];
+    for (i, &word) in words.iter().enumerate() {
+        readings[i] = read_word(edition, word);
     }
     readings
 }
 
 // What the word at an index is read as; what no word stands at is not read.
-pub fn reading_at(readings: [Reading; MOST_WORDS], at: usize) -> Reading
-    requires { length readings ≡ most_words }
-    ensures { result ≡ reading_at readings at }
+pub fn reading_at(readings: &[Reading; MOST_WORDS], at: usize) -> Reading
+    requires { length readings.now ≡ most_words }
+    ensures { result ≡ reading_at readings.now at }
 {
     if at < MOST_WORDS {
         return readings[at];
@@ -44,22 +40,19 @@ pub fn transfers(x: Reading) -> bool
     ensures { result ≡ transfers x }
 {
     match x {
-        Reading::Read(i) => is_transfer(i),
+        Reading::Read(instruction) => is_transfer(instruction),
         Reading::Unread(_) => false,
     }
 }
 
 // Which words are no slots: each that does not follow a transfer.
-fn outside_slots(readings: [Reading; MOST_WORDS], count: usize) -> [bool; MOST_WORDS]
-    requires { Formed readings count }
-    ensures { (length result ≡ most_words) × Outside result (code_of readings count) }
+fn outside_slots(readings: &[Reading; MOST_WORDS], count: usize) -> [bool; MOST_WORDS]
+    requires { Formed readings.now count }
+    ensures { (length result ≡ most_words) × Outside result (code_of readings.now count) }
 {
     let mut marks = [true; MOST_WORDS];
-    let mut i: usize = 1;
-    while i < count {
-        let x = readings[i - 1];
-        marks[i] = !transfers(x);
-        i += 1;
+    for i in 1..count {
+        marks[i] = !transfers(readings[i - 1]);
     }
     marks
 }
@@ -72,15 +65,11 @@ fn mark_end(marks: &mut [bool; MOST_WORDS], e: Edge)
     if !e.exists {
         return;
     }
-    let to = e.to;
-    match to {
-        Destination::To(w) => {
-            let i = w.0 as usize;
-            if i < MOST_WORDS {
-                marks[i] = true;
-            }
+    if let Destination::To(w) = e.to {
+        let i = w.0 as usize;
+        if i < MOST_WORDS {
+            marks[i] = true;
         }
-        Destination::Caller => {}
     }
 }
 
@@ -89,24 +78,20 @@ fn mark_target(marks: &mut [bool; MOST_WORDS], at: WordIndex, x: Reading)
     requires { (length marks.old ≡ most_words) × (at.0 < most_words) }
     ensures { Adds marks.old marks.new (lands_on at.0 x) }
 {
-    match x {
-        Reading::Read(instruction) => mark_end(marks, edge_of(at, instruction, true)),
-        Reading::Unread(_) => {}
+    if let Reading::Read(instruction) = x {
+        mark_end(marks, edge_of(at, instruction, true));
     }
 }
 
 // Which words are examined as ordinary ones: those that are no slots, and those that a taken edge
 // lands on.
-pub fn examine_all(readings: [Reading; MOST_WORDS], count: usize) -> [bool; MOST_WORDS]
-    requires { Formed readings count }
-    ensures { Examines result (code_of readings count) }
+pub fn examine_all(readings: &[Reading; MOST_WORDS], count: usize) -> [bool; MOST_WORDS]
+    requires { Formed readings.now count }
+    ensures { Examines result (code_of readings.now count) }
 {
     let mut marks = outside_slots(readings, count);
-    let mut i: usize = 0;
-    while i < count {
-        let x = readings[i];
-        mark_target(&mut marks, WordIndex(i as u32), x);
-        i += 1;
+    for i in 0..count {
+        mark_target(&mut marks, WordIndex(i as u32), readings[i]);
     }
     marks
 }

@@ -1,6 +1,6 @@
 -- What a word is read as (document 01, "Words we read"): an instruction of the subset, or the number of the refusal (request 1: that of
 -- privileged words is their own). Request 5: the edition that the terminal follows is told, and only the predicted branch depends on it.
-use Rattle.std.specs.Prelude.{ℕ, ◌-◌, Bool, true, false, cond, ◌&&◌, ◌||◌, List, [], ◌∷◌, leb, eqb, get_or}
+use Rattle.std.specs.Prelude.{ℕ, ◌-◌, Bool, true, false, cond, ◌&&◌, ◌||◌, List, [], ◌∷◌, leb, eqb, get_or, Option, Some, None}
 use Rattle.v8.specs.Field.{op_of, rd_of, annul_of, cond_of, op2_of, low22_of, cc_of, predict_of, low19_of, op3_of, rs1_of, i_of, unused_of, rs2_of, simm13_of}
 use Rattle.v8.specs.Signed.{sign_extend}
 use Rattle.v8.specs.Numbers.{not_read, privileged}
@@ -24,8 +24,6 @@ use Rattle.v8.specs.declared.BranchForm.TheVariants.{Unpredicted, Predicted}
 use Rattle.v8.specs.declared.Instruction.TheVariants.{Plain, Branch, Return}
 use Rattle.v8.specs.declared.Reading.{Reading}
 use Rattle.v8.specs.declared.Reading.TheVariants.{Read, Unread}
-use Rattle.v8.specs.declared.read.OperandReading.{OperandReading}
-use Rattle.v8.specs.declared.read.OperandReading.TheVariants.{Second, Reserved}
 
 -- the number of a reading: "Read a word: 2.", or 24 if the word is privileged
 abbrev pub read_number : Reading → ℕ
@@ -44,18 +42,18 @@ abbrev pub alu_op_of : ℕ → AluOp
 alu_op_of k = get_or alu_ops k Add
 
 -- "i 13, then rs2 4:0 or a signed 13-bit number"; "Bits 12:5 must be zero with i = 0"
-unfoldable pub operand_of : ℕ → OperandReading
+unfoldable pub operand_of : ℕ → Option Operand
 operand_of w =
-    cond (eqb (i_of w) 1) (Second (Imm (sign_extend 13 (simm13_of w))))
-    (cond (eqb (unused_of w) 0) (Second (Reg (rs2_of w)))
-    Reserved)
+    cond (eqb (i_of w) 1) (Some (Imm (sign_extend 13 (simm13_of w))))
+    (cond (eqb (unused_of w) 0) (Some (Reg (rs2_of w)))
+    None)
 
 -- "Bits 12:5 must be zero .. for shifts always": the count is rs2, or the number in its place
-unfoldable pub count_of : ℕ → OperandReading
+unfoldable pub count_of : ℕ → Option Operand
 count_of w =
     cond (eqb (unused_of w) 0)
-    (cond (eqb (i_of w) 1) (Second (Imm (rs2_of w))) (Second (Reg (rs2_of w))))
-    Reserved
+    (cond (eqb (i_of w) 1) (Some (Imm (rs2_of w))) (Some (Reg (rs2_of w))))
+    None
 
 -- a branch ("annul bit 29, condition 28:25") of a form, and its distance in words
 abbrev pub branch_of : ℕ → BranchForm → ℕ → Reading
@@ -76,13 +74,13 @@ format00 e w =
     (cond (eqb (op2_of w) 1) (predicted_of e w)
     (Unread not_read)))
 
-abbrev pub alu_with : AluOp → Bool → ℕ → OperandReading → Reading
-alu_with op cc w (Second x) = Read (Plain (Alu op cc (rd_of w) (rs1_of w) x))
-alu_with op cc w Reserved = Unread not_read
+abbrev pub alu_with : AluOp → Bool → ℕ → Option Operand → Reading
+alu_with op cc w (Some x) = Read (Plain (Alu op cc (rd_of w) (rs1_of w) x))
+alu_with op cc w None = Unread not_read
 
-abbrev pub shift_with : ShiftOp → ℕ → OperandReading → Reading
-shift_with op w (Second x) = Read (Plain (Shift op (rd_of w) (rs1_of w) x))
-shift_with op w Reserved = Unread not_read
+abbrev pub shift_with : ShiftOp → ℕ → Option Operand → Reading
+shift_with op w (Some x) = Read (Plain (Shift op (rd_of w) (rs1_of w) x))
+shift_with op w None = Unread not_read
 
 -- from one opcode to another
 abbrev pub between : ℕ → ℕ → ℕ → Bool
@@ -116,9 +114,9 @@ abbrev pub displacement_of : Operand → Displacement
 displacement_of (Reg r) = Index r
 displacement_of (Imm v) = Bytes (record { 0 = v })
 
-abbrev pub memory_with : Access → ℕ → OperandReading → Reading
-memory_with a w (Second x) = Read (Plain (Memory a (rd_of w) (rs1_of w) (displacement_of x)))
-memory_with a w Reserved = Unread not_read
+abbrev pub memory_with : Access → ℕ → Option Operand → Reading
+memory_with a w (Some x) = Read (Plain (Memory a (rd_of w) (rs1_of w) (displacement_of x)))
+memory_with a w None = Unread not_read
 
 -- format 11: "LD 00, LDUB 01, LDUH 02, ST 04, STB 05, STH 06, LDSB 09, LDSH 0A"
 unfoldable pub format11 : ℕ → Reading

@@ -16,37 +16,30 @@ use crate::{
 // The leaf return, the one JMPL that is read.
 pub const LEAF_RETURN: u32 = 0x81C3_E008;
 
-// A second operand, or none where bits that must be zero are not.
-#[derive(Clone, Copy)]
-pub enum OperandReading {
-    Second(Operand),
-    Reserved,
-}
-
-// The second operand of arithmetic, logic, loads and stores.
-fn operand_of(w: u32) -> OperandReading
+// The second operand of arithmetic, logic, loads and stores; none where bits that must be zero are not.
+fn operand_of(w: u32) -> Option<Operand>
     ensures { result ≡ operand_of w }
 {
     if i_of(w) == 1 {
-        return OperandReading::Second(Operand::Imm(sign_extend(13, simm13_of(w))));
+        return Some(Operand::Imm(sign_extend(13, simm13_of(w))));
     }
     if unused_of(w) == 0 {
-        return OperandReading::Second(Operand::Reg(rs2_of(w)));
+        return Some(Operand::Reg(rs2_of(w)));
     }
-    OperandReading::Reserved
+    None
 }
 
-// The count of a shift.
-fn count_of(w: u32) -> OperandReading
+// The count of a shift; none where bits that must be zero are not.
+fn count_of(w: u32) -> Option<Operand>
     ensures { result ≡ count_of w }
 {
     if unused_of(w) == 0 {
         if i_of(w) == 1 {
-            return OperandReading::Second(Operand::Imm(rs2_of(w) as u32));
+            return Some(Operand::Imm(rs2_of(w) as u32));
         }
-        return OperandReading::Second(Operand::Reg(rs2_of(w)));
+        return Some(Operand::Reg(rs2_of(w)));
     }
-    OperandReading::Reserved
+    None
 }
 
 // A branch of a form, by its distance.
@@ -109,41 +102,36 @@ fn alu_op(k: u32) -> AluOp
     requires { k < 8 }
     ensures { result ≡ alu_op_of k }
 {
-    let at = k as usize;
-    ALU_OPS[at]
+    ALU_OPS[k as usize]
 }
 
 fn read_alu(op: AluOp, cc: bool, w: u32) -> Reading
     ensures { result ≡ alu_with op cc w (operand_of w) }
 {
-    let rd = rd_of(w);
-    let rs1 = rs1_of(w);
-    match operand_of(w) {
-        OperandReading::Second(operand) => Reading::Read(Instruction::Plain(Operation::Alu {
-            op,
-            cc,
-            rd,
-            rs1,
-            operand,
-        })),
-        OperandReading::Reserved => Reading::Unread(NOT_READ),
-    }
+    let Some(operand) = operand_of(w) else {
+        return Reading::Unread(NOT_READ);
+    };
+    Reading::Read(Instruction::Plain(Operation::Alu {
+        op,
+        cc,
+        rd: rd_of(w),
+        rs1: rs1_of(w),
+        operand,
+    }))
 }
 
 fn read_shift(op: ShiftOp, w: u32) -> Reading
     ensures { result ≡ shift_with op w (count_of w) }
 {
-    let rd = rd_of(w);
-    let rs1 = rs1_of(w);
-    match count_of(w) {
-        OperandReading::Second(count) => Reading::Read(Instruction::Plain(Operation::Shift {
-            op,
-            rd,
-            rs1,
-            count,
-        })),
-        OperandReading::Reserved => Reading::Unread(NOT_READ),
-    }
+    let Some(count) = count_of(w) else {
+        return Reading::Unread(NOT_READ);
+    };
+    Reading::Read(Instruction::Plain(Operation::Shift {
+        op,
+        rd: rd_of(w),
+        rs1: rs1_of(w),
+        count,
+    }))
 }
 
 // Arithmetic, logic, shifts and the leaf return; privileged words by their opcode alone.
@@ -181,20 +169,15 @@ fn displacement_of(x: Operand) -> Displacement
 fn read_access(access: Access, w: u32) -> Reading
     ensures { result ≡ memory_with access w (operand_of w) }
 {
-    let rd = rd_of(w);
-    let rs1 = rs1_of(w);
-    match operand_of(w) {
-        OperandReading::Second(x) => {
-            let displacement = displacement_of(x);
-            Reading::Read(Instruction::Plain(Operation::Memory {
-                access,
-                rd,
-                rs1,
-                displacement,
-            }))
-        }
-        OperandReading::Reserved => Reading::Unread(NOT_READ),
-    }
+    let Some(x) = operand_of(w) else {
+        return Reading::Unread(NOT_READ);
+    };
+    Reading::Read(Instruction::Plain(Operation::Memory {
+        access,
+        rd: rd_of(w),
+        rs1: rs1_of(w),
+        displacement: displacement_of(x),
+    }))
 }
 
 // Loads and stores; privileged words by their opcode alone.

@@ -1,6 +1,6 @@
 -- What an instruction is written as (document 01, "Write an instruction"): a word, or refusal 17 for
 -- "a part out of range or not of the subset". Request 5: the edition that the terminal follows is told; only a predicted branch depends on it.
-use Rattle.std.specs.Prelude.{ℕ, ◌+◌, ◌*◌, ◌%◌, ◌^◌, ◌<◌, Bool, cond, ltb, eqb}
+use Rattle.std.specs.Prelude.{ℕ, ◌+◌, ◌*◌, ◌%◌, ◌^◌, ◌<◌, Bool, cond, ltb, eqb, Option, Some, None}
 use Rattle.v8.specs.Signed.{sign_extend}
 use Rattle.v8.specs.Read.{leaf_return}
 use Rattle.v8.specs.Numbers.{not_written}
@@ -26,40 +26,36 @@ use Rattle.v8.specs.declared.Operation.{Operation}
 use Rattle.v8.specs.declared.Operation.TheVariants.{Sethi, Alu, Shift, Memory}
 use Rattle.v8.specs.declared.Instruction.{Instruction}
 use Rattle.v8.specs.declared.Instruction.TheVariants.{Plain, Branch, Return}
-use Rattle.writer.specs.declared.Writing.{Writing}
-use Rattle.writer.specs.declared.Writing.TheVariants.{Written, Unwritable}
-use Rattle.writer.specs.declared.Part.{Part}
-use Rattle.writer.specs.declared.Part.TheVariants.{Bits, OutOfRange}
 
 -- "Write an instruction: 17."
-abbrev pub write_number : Writing → ℕ
-write_number (Written w) = 0
-write_number Unwritable = not_written
+abbrev pub write_number : Option ℕ → ℕ
+write_number (Some w) = 0
+write_number None = not_written
 
 -- bit 13, i = 1: a number stands in the place of rs2
 abbrev pub i_bit : ℕ
 i_bit = 2 ^ 13
 
 -- a signed number in the low n bits, above which stands i; it fits if sign extension gives it back
-unfoldable pub signed_bits : ℕ → ℕ → ℕ → Part
-signed_bits n i v = cond (eqb v (sign_extend n (v % 2 ^ n))) (Bits (i + v % 2 ^ n)) OutOfRange
+unfoldable pub signed_bits : ℕ → ℕ → ℕ → Option ℕ
+signed_bits n i v = cond (eqb v (sign_extend n (v % 2 ^ n))) (Some (i + v % 2 ^ n)) None
 
 -- a number below 32 in the low five bits, above which stands i
-unfoldable pub five_bits : ℕ → ℕ → Part
-five_bits i v = cond (ltb v 32) (Bits (i + v)) OutOfRange
+unfoldable pub five_bits : ℕ → ℕ → Option ℕ
+five_bits i v = cond (ltb v 32) (Some (i + v)) None
 
 -- bits 13:0 of the second operand
-abbrev pub operand_bits : Operand → Part
+abbrev pub operand_bits : Operand → Option ℕ
 operand_bits (Reg r) = five_bits 0 r
 operand_bits (Imm v) = signed_bits 13 i_bit v
 
 -- bits 13:0 of a shift's count
-abbrev pub count_bits : Operand → Part
+abbrev pub count_bits : Operand → Option ℕ
 count_bits (Reg r) = five_bits 0 r
 count_bits (Imm v) = five_bits i_bit v
 
 -- bits 13:0 of an address's second part
-abbrev pub displacement_bits : Displacement → Part
+abbrev pub displacement_bits : Displacement → Option ℕ
 displacement_bits (Index r) = operand_bits (Reg r)
 displacement_bits (Bytes d) = operand_bits (Imm d.0)
 
@@ -99,45 +95,45 @@ access_code (Loads op) = load_code op
 access_code (Stores op) = store_code op
 
 -- a part of n bits
-abbrev pub Fits : ℕ → Part → Type 0
-Fits n (Bits b) = b < 2 ^ n
-Fits n OutOfRange = Unit {0}
+abbrev pub Fits : ℕ → Option ℕ → Type 0
+Fits n (Some b) = b < 2 ^ n
+Fits n None = Unit {0}
 
 -- a word of format 10 or 11, from its fields
 unfoldable pub pack_of : ℕ → ℕ → ℕ → ℕ → ℕ → ℕ
 pack_of op rd op3 rs1 low = op * 2 ^ 30 + rd * 2 ^ 25 + op3 * 2 ^ 19 + rs1 * 2 ^ 14 + low
 
-unfoldable pub packed : ℕ → ℕ → ℕ → ℕ → Part → Writing
-packed op rd op3 rs1 (Bits b) = cond (ltb rd 32) (cond (ltb rs1 32) (Written (pack_of op rd op3 rs1 b)) Unwritable) Unwritable
-packed op rd op3 rs1 OutOfRange = Unwritable
+unfoldable pub packed : ℕ → ℕ → ℕ → ℕ → Option ℕ → Option ℕ
+packed op rd op3 rs1 (Some b) = cond (ltb rd 32) (cond (ltb rs1 32) (Some (pack_of op rd op3 rs1 b)) None) None
+packed op rd op3 rs1 None = None
 
 -- SETHI: format 00 with bits 24:22 = 100
-unfoldable pub sethi_word : ℕ → ℕ → Writing
-sethi_word rd imm22 = cond (ltb rd 32) (cond (ltb imm22 (2 ^ 22)) (Written (rd * 2 ^ 25 + 4 * 2 ^ 22 + imm22)) Unwritable) Unwritable
+unfoldable pub sethi_word : ℕ → ℕ → Option ℕ
+sethi_word rd imm22 = cond (ltb rd 32) (cond (ltb imm22 (2 ^ 22)) (Some (rd * 2 ^ 25 + 4 * 2 ^ 22 + imm22)) None) None
 
 -- bits 24:0 of a predicted branch (request 5): 001, the 32-bit codes, the hint, the distance; "not of the subset" on the older terminal
-abbrev pub predicted_bits : Edition → Bool → ℕ → Part
-predicted_bits V8 hint v = OutOfRange
+abbrev pub predicted_bits : Edition → Bool → ℕ → Option ℕ
+predicted_bits V8 hint v = None
 predicted_bits V9 hint v = signed_bits 19 (1 * 2 ^ 22 + cond hint (2 ^ 19) 0) v
 
 -- bits 24:0 of a branch, by its form; without prediction 010 and the distance
-abbrev pub branch_bits : Edition → BranchForm → ℕ → Part
+abbrev pub branch_bits : Edition → BranchForm → ℕ → Option ℕ
 branch_bits e Unpredicted v = signed_bits 22 (2 * 2 ^ 22) v
 branch_bits e (Predicted hint) v = predicted_bits e hint v
 
 -- a branch: format 00, the annul bit and the condition above these bits
-abbrev pub branch_word : Bool → ℕ → Part → Writing
-branch_word annul cnd (Bits b) = cond (ltb cnd 16) (Written (cond annul (2 ^ 29) 0 + cnd * 2 ^ 25 + b)) Unwritable
-branch_word annul cnd OutOfRange = Unwritable
+abbrev pub branch_word : Bool → ℕ → Option ℕ → Option ℕ
+branch_word annul cnd (Some b) = cond (ltb cnd 16) (Some (cond annul (2 ^ 29) 0 + cnd * 2 ^ 25 + b)) None
+branch_word annul cnd None = None
 
 -- an instruction that is no transfer
-abbrev pub operation_word : Operation → Writing
+abbrev pub operation_word : Operation → Option ℕ
 operation_word (Sethi rd imm22) = sethi_word rd imm22
 operation_word (Alu op cc rd rs1 x) = packed 2 rd (alu_code_cc op cc) rs1 (operand_bits x)
 operation_word (Shift op rd rs1 x) = packed 2 rd (shift_code op) rs1 (count_bits x)
 operation_word (Memory a rd rs1 d) = packed 3 rd (access_code a) rs1 (displacement_bits d)
 
-unfoldable pub writing_of : Edition → Instruction → Writing
+unfoldable pub writing_of : Edition → Instruction → Option ℕ
 writing_of e (Plain x) = operation_word x
 writing_of e (Branch b) = branch_word b.annul b.cond (branch_bits e b.form b.distance.0)
-writing_of e Return = Written leaf_return
+writing_of e Return = Some leaf_return

@@ -33,45 +33,31 @@ const HINT_BIT: u32 = 0x0008_0000;
 // Bit 13, i: a number stands in the place of rs2.
 const I_BIT: u32 = 0x2000;
 
-// What an instruction is written as. Unwritable is refusal 17.
-#[derive(Clone, Copy)]
-pub enum Writing {
-    Written(u32),
-    Unwritable,
-}
-
-// A part of a word, or a number that does not fit there.
-#[derive(Clone, Copy)]
-pub enum Part {
-    Bits(u32),
-    OutOfRange,
-}
-
-// A signed number in the low `bits` bits, above which stands i.
-fn signed_bits(bits: u32, i: u32, v: u32) -> Part
+// A signed number in the low `bits` bits, above which stands i; none where it does not fit there.
+fn signed_bits(bits: u32, i: u32, v: u32) -> Option<u32>
     requires { (1 ≤ bits) × (bits ≤ 31) × (i < 2 ^ 31) }
     ensures { result ≡ signed_bits bits i v }
 {
     let field = v % (1u32 << bits);
     if v == sign_extend(bits, field) {
-        return Part::Bits(i + field);
+        return Some(i + field);
     }
-    Part::OutOfRange
+    None
 }
 
-// A number below 32 in the low five bits, above which stands i.
-fn five_bits(i: u32, v: u32) -> Part
+// A number below 32 in the low five bits, above which stands i; none where it does not fit there.
+fn five_bits(i: u32, v: u32) -> Option<u32>
     requires { i < 2 ^ 31 }
     ensures { result ≡ five_bits i v }
 {
     if v < 32 {
-        return Part::Bits(i + v);
+        return Some(i + v);
     }
-    Part::OutOfRange
+    None
 }
 
 // Bits 13:0 of the second operand.
-fn operand_bits(x: Operand) -> Part
+fn operand_bits(x: Operand) -> Option<u32>
     ensures { result ≡ operand_bits x }
 {
     match x {
@@ -81,7 +67,7 @@ fn operand_bits(x: Operand) -> Part
 }
 
 // Bits 13:0 of a shift's count.
-fn count_bits(x: Operand) -> Part
+fn count_bits(x: Operand) -> Option<u32>
     ensures { result ≡ count_bits x }
 {
     match x {
@@ -91,7 +77,7 @@ fn count_bits(x: Operand) -> Part
 }
 
 // Bits 13:0 of an address's second part.
-fn displacement_bits(x: Displacement) -> Part
+fn displacement_bits(x: Displacement) -> Option<u32>
     ensures { result ≡ displacement_bits x }
 {
     match x {
@@ -164,43 +150,35 @@ fn access_code(access: Access) -> u32
 }
 
 // A word of format 10 or 11, from its fields.
-fn pack(op: u32, rd: u8, op3: u32, rs1: u8, low: Part) -> Writing
+fn pack(op: u32, rd: u8, op3: u32, rs1: u8, low: Option<u32>) -> Option<u32>
     requires { (op < 4) × (op3 < 64) × Fits 14 low }
     ensures { result ≡ packed op rd op3 rs1 low }
 {
-    match low {
-        Part::Bits(b) => {
-            let d = rd as u32;
-            let s = rs1 as u32;
-            if d < 32 {
-                if s < 32 {
-                    return Writing::Written(op * OP_AT + d * RD_AT + op3 * OP3_AT + s * RS1_AT + b);
-                }
-            }
-            Writing::Unwritable
-        }
-        Part::OutOfRange => Writing::Unwritable,
+    let b = low?;
+    let d = rd as u32;
+    let s = rs1 as u32;
+    if d < 32 && s < 32 {
+        return Some(op * OP_AT + d * RD_AT + op3 * OP3_AT + s * RS1_AT + b);
     }
+    None
 }
 
-fn write_sethi(rd: u8, imm22: u32) -> Writing
+fn write_sethi(rd: u8, imm22: u32) -> Option<u32>
     ensures { result ≡ sethi_word rd imm22 }
 {
     let d = rd as u32;
-    if d < 32 {
-        if imm22 < 0x40_0000 {
-            return Writing::Written(d * RD_AT + SETHI_BITS + imm22);
-        }
+    if d < 32 && imm22 < 0x40_0000 {
+        return Some(d * RD_AT + SETHI_BITS + imm22);
     }
-    Writing::Unwritable
+    None
 }
 
 // Bits 24:0 of a predicted branch, which has no word on the older terminal.
-fn predicted_bits(edition: Edition, hint: bool, distance: u32) -> Part
+fn predicted_bits(edition: Edition, hint: bool, distance: u32) -> Option<u32>
     ensures { result ≡ predicted_bits edition hint distance }
 {
     match edition {
-        Edition::V8 => Part::OutOfRange,
+        Edition::V8 => None,
         Edition::V9 => {
             if hint {
                 return signed_bits(19, BPCC_BITS + HINT_BIT, distance);
@@ -211,7 +189,7 @@ fn predicted_bits(edition: Edition, hint: bool, distance: u32) -> Part
 }
 
 // Bits 24:0 of a branch.
-fn branch_bits(edition: Edition, form: BranchForm, distance: u32) -> Part
+fn branch_bits(edition: Edition, form: BranchForm, distance: u32) -> Option<u32>
     ensures { result ≡ branch_bits edition form distance }
 {
     match form {
@@ -220,28 +198,20 @@ fn branch_bits(edition: Edition, form: BranchForm, distance: u32) -> Part
     }
 }
 
-fn write_branch(edition: Edition, x: Bicc) -> Writing
+fn write_branch(edition: Edition, x: Bicc) -> Option<u32>
     ensures { result ≡ branch_word x.annul x.cond (branch_bits edition x.form x.distance.0) }
 {
+    let b = branch_bits(edition, x.form, x.distance.0)?;
     let c = x.cond as u32;
-    let form = x.form;
-    match branch_bits(edition, form, x.distance.0) {
-        Part::Bits(b) => {
-            if c < 16 {
-                let word = c * RD_AT + b;
-                if x.annul {
-                    return Writing::Written(ANNUL_BIT + word);
-                }
-                return Writing::Written(word);
-            }
-            Writing::Unwritable
-        }
-        Part::OutOfRange => Writing::Unwritable,
+    if c < 16 {
+        let word = c * RD_AT + b;
+        return Some(if x.annul { ANNUL_BIT + word } else { word });
     }
+    None
 }
 
 // An instruction that is no transfer.
-fn write_operation(x: Operation) -> Writing
+fn write_operation(x: Operation) -> Option<u32>
     ensures { result ≡ operation_word x }
 {
     match x {
@@ -275,15 +245,15 @@ fn write_operation(x: Operation) -> Writing
     }
 }
 
-// Writes an instruction, as a terminal of the edition does: a word, or refusal 17 where a part is out of
-// range or the edition has no such word.
-pub fn write_instruction(edition: Edition, x: Instruction) -> Writing
+// Writes an instruction, as a terminal of the edition does: a word, or none, which is refusal 17, where a
+// part is out of range or the edition has no such word.
+pub fn write_instruction(edition: Edition, x: Instruction) -> Option<u32>
     ensures writing { result ≡ writing_of edition x }
     ensures number { write_number result ≡ write_number (writing_of edition x) }
 {
     match x {
         Instruction::Plain(op) => write_operation(op),
         Instruction::Branch(b) => write_branch(edition, b),
-        Instruction::Return => Writing::Written(LEAF_RETURN),
+        Instruction::Return => Some(LEAF_RETURN),
     }
 }
