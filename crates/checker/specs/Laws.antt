@@ -1,6 +1,6 @@
 -- What an accepted check shows: one field for each pass, and of each word what its edges and the rows that arrive show. Later parts
 -- use these and not the definition of the check. The proofs are in proofs/.
-use Rattle.std.specs.Prelude.{ℕ, ◌+◌, ◌*◌, ◌≤◌, ◌<◌, ◌≡◌, Bool, true, false, List}
+use Rattle.std.specs.Prelude.{ℕ, ◌+◌, ◌*◌, ◌≤◌, ◌<◌, ◌≡◌, Bool, true, false, List, None}
 use Rattle.v8.specs.Numbers.{most_words}
 use Rattle.v8.specs.declared.Edition.{Edition}
 use Rattle.v8.specs.declared.Instruction.{Instruction}
@@ -15,7 +15,6 @@ use Rattle.flow_code.specs.Readings.{reading_at, examined}
 use Rattle.flow.specs.Laws.{Flowing, Leaving}
 use Rattle.policy.specs.declared.Policy.{Policy}
 use Rattle.policy.specs.Policy.{policy_ok}
-use Rattle.rows.specs.declared.Flaw.TheVariants.{None}
 use Rattle.rows.specs.declared.Row.{Row}
 use Rattle.rows.specs.Entry.{fits}
 use Rattle.rows.specs.Geometry.{row_bytes}

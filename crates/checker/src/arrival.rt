@@ -7,7 +7,7 @@ ghost use Rattle.checker.specs.Lent.{EndIn};
 
 use flow_edges::Destination;
 use passes::Answer;
-use passes::answers::{accept, refuse, unless_fault};
+use passes::answers::{need, unless_fault};
 use rows::geometry::ROW_BYTES;
 use rows::{Row, entry_at, fits, misfit, read_entry, read_row};
 use v8::WordIndex;
@@ -32,15 +32,11 @@ pub fn arrive(rows: &[u8], res: &[u8], at: WordIndex, to: Destination, row: Row)
 {
     match to {
         Destination::To(next) => {
-            let flaw = misfit(row, rows, ROW_BYTES * next.0 as usize);
-            unless_fault(EDGE_MISFIT, at, flaw)
+            unless_fault(EDGE_MISFIT, at, misfit(row, rows, ROW_BYTES * next.0 as usize))
         }
         Destination::Caller => {
-            let asked = read_entry(res, 0);
-            if fits(entry_at(row, RESULT), asked) {
-                return accept();
-            }
-            refuse(RESULT_MISFIT, at, RESULT)
+            let holds = fits(entry_at(row, RESULT), read_entry(res, 0));
+            need(holds, RESULT_MISFIT, at, RESULT)
         }
     }
 }

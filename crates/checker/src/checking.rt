@@ -15,13 +15,13 @@ use v8::{Edition, WordIndex};
 // the register named, or 0 0 0 where none is.
 pub fn check(
     edition: Edition,
-    policy: Policy,
+    policy: &Policy,
     words: &[u32],
     rows: &[u8],
     entry: &[u8],
     res: &[u8],
 ) -> Answer
-    ensures { result ≡ check_of edition policy words.now rows.now entry.now res.now }
+    ensures { result ≡ check_of edition policy.now words.now rows.now entry.now res.now }
 {
     if !policy.well_formed() {
         return refuse(BAD_POLICY, WordIndex(0), 0);
@@ -29,19 +29,17 @@ pub fn check(
     if !shape_ok(policy, words, rows, entry, res) {
         return refuse(BAD_SHAPE, WordIndex(0), 0);
     }
-    let length = words.len() as u32;
-    let count = WordIndex(length);
-    let formed = row_pass(policy, rows, count);
+    let formed = row_pass(policy, rows, WordIndex(words.len() as u32));
     if formed.number != ACCEPTED {
         return formed;
     }
     let readings = read_all(edition, words);
-    let read = read_pass(readings, words.len());
+    let read = read_pass(&readings, words.len());
     if read.number != ACCEPTED {
         return read;
     }
-    let marks = examine_all(readings, words.len());
-    let flows = flow_pass(readings, words.len(), &marks);
+    let marks = examine_all(&readings, words.len());
+    let flows = flow_pass(&readings, words.len(), &marks);
     if flows.number != ACCEPTED {
         return flows;
     }
@@ -49,5 +47,5 @@ pub fn check(
     if entered.number != ACCEPTED {
         return entered;
     }
-    word_pass(policy, readings, words.len(), &marks, rows, res)
+    word_pass(policy, &readings, words.len(), &marks, rows, res)
 }

@@ -14,13 +14,13 @@ use passes::answers::{accept, refuse};
 use policy::Policy;
 use rows::notes::NOTE_COMPARISON;
 use rows::{Row, entry_at, row_with};
-use rules::{Change, EntryLeft, change_of, narrow_entry, narrows};
+use rules::{Change, change_of, narrow_entry, narrows};
 use v8::numbers::ACCEPTED;
 use v8::{Instruction, Reading, WordIndex};
 
 // What a word, read as x, does to a row.
-pub fn change_by(policy: Policy, row: Row, x: Reading) -> Change
-    ensures { result ≡ change_by policy row x }
+pub fn change_by(policy: &Policy, row: Row, x: Reading) -> Change
+    ensures { result ≡ change_by policy.now row x }
 {
     match x {
         Reading::Read(instruction) => change_of(policy, row, instruction),
@@ -30,7 +30,7 @@ pub fn change_by(policy: Policy, row: Row, x: Reading) -> Change
 
 // Along an edge of a word, over its slot, read as x, where that runs.
 fn cross(
-    policy: Policy,
+    policy: &Policy,
     rows: &[u8],
     res: &[u8],
     at: WordIndex,
@@ -39,24 +39,23 @@ fn cross(
     row: Row,
 ) -> Answer
     requires { (at.0 < most_words) × (entry_bytes ≤ length res.now) × EndIn e.to (length rows.now) }
-    ensures { result ≡ cross policy rows.now res.now at.0 x e row }
+    ensures { result ≡ cross policy.now rows.now res.now at.0 x e row }
 {
-    let to = e.to;
     if !e.slot {
-        return arrive(rows, res, at, to, row);
+        return arrive(rows, res, at, e.to, row);
     }
     match change_by(policy, row, x) {
         Change::Writes(register, entry, note) => {
-            arrive(rows, res, at, to, row_with(row, register, entry, note))
+            arrive(rows, res, at, e.to, row_with(row, register, entry, note))
         }
-        Change::Keeps => arrive(rows, res, at, to, row),
+        Change::Keeps => arrive(rows, res, at, e.to, row),
         Change::Breaks(number, register) => refuse(number, WordIndex(at.0 + 1), register),
     }
 }
 
 // An edge, narrowed by its class; not examined where no members are left.
 fn narrowed_edge(
-    policy: Policy,
+    policy: &Policy,
     rows: &[u8],
     res: &[u8],
     at: WordIndex,
@@ -65,36 +64,25 @@ fn narrowed_edge(
     row: Row,
 ) -> Answer
     requires { (at.0 < most_words) × (entry_bytes ≤ length res.now) × EndIn e.to (length rows.now) }
-    ensures { result ≡ narrowed_edge policy rows.now res.now at.0 x e row }
+    ensures { result ≡ narrowed_edge policy.now rows.now res.now at.0 x e row }
 {
     let note = row.note;
-    let class = e.narrowing;
-    if narrows(class) & (note.kind == NOTE_COMPARISON) {
-        let register = note.register;
-        match narrow_entry(class, entry_at(row, register), note.number) {
-            EntryLeft::Left(entry) => {
-                return cross(
-                    policy,
-                    rows,
-                    res,
-                    at,
-                    x,
-                    e,
-                    row_with(row, register, entry, note),
-                );
-            }
-            EntryLeft::Nothing => {
-                return accept();
-            }
-        }
+    if !(narrows(e.narrowing) & (note.kind == NOTE_COMPARISON)) {
+        return cross(policy, rows, res, at, x, e, row);
     }
-    cross(policy, rows, res, at, x, e, row)
+    match narrow_entry(e.narrowing, entry_at(row, note.register), note.number) {
+        Some(entry) => {
+            let narrowed = row_with(row, note.register, entry, note);
+            cross(policy, rows, res, at, x, e, narrowed)
+        }
+        None => accept(),
+    }
 }
 
 // The edges of an instruction, from the row that it makes: the taken one, then the other. The slot is
 // read as x. An edge that has none and narrows nothing only arrives.
 pub fn edges_of(
-    policy: Policy,
+    policy: &Policy,
     rows: &[u8],
     res: &[u8],
     at: WordIndex,
@@ -103,7 +91,7 @@ pub fn edges_of(
     row: Row,
 ) -> Answer
     requires { (at.0 < most_words) × (entry_bytes ≤ length res.now) × EdgesIn at.0 instruction (length rows.now) }
-    ensures { result ≡ edges policy rows.now res.now at.0 (Read instruction) x row }
+    ensures { result ≡ edges policy.now rows.now res.now at.0 (Read instruction) x row }
 {
     let taken = edge_of(at, instruction, true);
     if taken.exists {
@@ -116,10 +104,8 @@ pub fn edges_of(
     if !other.exists {
         return accept();
     }
-    let class = other.narrowing;
-    if !other.slot & !narrows(class) {
-        let to = other.to;
-        return arrive(rows, res, at, to, row);
+    if !other.slot & !narrows(other.narrowing) {
+        return arrive(rows, res, at, other.to, row);
     }
     narrowed_edge(policy, rows, res, at, x, other, row)
 }

@@ -11,17 +11,18 @@ ghost use Rattle.checker.specs.Lent.{EdgesIn, ReadingIn};
 
 use crate::arrival::row_at;
 use crate::edges::edges_of;
+use flow_code::reading_at;
 use passes::Answer;
 use passes::answers::{accept, refuse};
 use policy::Policy;
 use rows::row_with;
 use rules::{Change, change_of};
-use v8::numbers::{ACCEPTED, MOST_WORDS, NOT_READ};
+use v8::numbers::{ACCEPTED, MOST_WORDS};
 use v8::{Instruction, Reading, WordIndex};
 
 // An instruction in its row: its own conditions, then its edges. Its slot is read as x.
 fn look_at(
-    policy: Policy,
+    policy: &Policy,
     rows: &[u8],
     res: &[u8],
     at: WordIndex,
@@ -29,7 +30,7 @@ fn look_at(
     x: Reading,
 ) -> Answer
     requires { (at.0 < most_words) × (entry_bytes ≤ length res.now) × RowIn at.0 (length rows.now) × EdgesIn at.0 instruction (length rows.now) }
-    ensures { result ≡ look policy rows.now res.now at.0 (Read instruction) x }
+    ensures { result ≡ look policy.now rows.now res.now at.0 (Read instruction) x }
 {
     let mut row = row_at(rows, at);
     match change_of(policy, row, instruction) {
@@ -46,7 +47,7 @@ fn look_at(
 
 // A word read as x, its slot as `slot`: looked at where it is examined.
 fn word_in(
-    policy: Policy,
+    policy: &Policy,
     rows: &[u8],
     res: &[u8],
     at: WordIndex,
@@ -58,7 +59,7 @@ fn word_in(
         × (entry_bytes ≤ length res.now)
         × RowIn at.0 (length rows.now)
         × (examined ≡ true → ReadingIn at.0 x (length rows.now)) }
-    ensures { result ≡ cond examined (look policy rows.now res.now at.0 x slot) accepted }
+    ensures { result ≡ cond examined (look policy.now rows.now res.now at.0 x slot) accepted }
 {
     if !examined {
         return accept();
@@ -71,32 +72,27 @@ fn word_in(
 
 // The words' pass, where the flow is right.
 pub fn word_pass(
-    policy: Policy,
-    readings: [Reading; MOST_WORDS],
+    policy: &Policy,
+    readings: &[Reading; MOST_WORDS],
     count: usize,
     marks: &[bool; MOST_WORDS],
     rows: &[u8],
     res: &[u8],
 ) -> Answer
-    requires { Formed readings count
-        × Examines marks.now (code_of readings count)
+    requires { Formed readings.now count
+        × Examines marks.now (code_of readings.now count)
         × (row_bytes * count ≡ length rows.now)
         × (entry_bytes ≤ length res.now)
-        × (passes (pass_of (flow_pass (code_of readings count)) count) ≡ true) }
-    ensures { result ≡ pass_of (word_pass policy (code_of readings count) rows.now res.now) count }
+        × (passes (pass_of (flow_pass (code_of readings.now count)) count) ≡ true) }
+    ensures { result ≡ pass_of (word_pass policy.now (code_of readings.now count) rows.now res.now) count }
 {
-    let mut i: usize = 0;
-    while i < count {
+    for i in 0..count {
         let x = readings[i];
-        let mut slot = Reading::Unread(NOT_READ);
-        if i + 1 < MOST_WORDS {
-            slot = readings[i + 1];
-        }
+        let slot = reading_at(readings, i + 1);
         let found = word_in(policy, rows, res, WordIndex(i as u32), marks[i], x, slot);
         if found.number != ACCEPTED {
             return found;
         }
-        i += 1;
     }
     accept()
 }

@@ -1,5 +1,5 @@
 -- The passes of the check before the one that looks at the edges of words (document 01, "Check. 20 .. 21 .. 1 .. 2 .. 3 .. 15"). Each takes what it reads.
-use Rattle.std.specs.Prelude.{ℕ, ◌*◌, Bool, List}
+use Rattle.std.specs.Prelude.{ℕ, ◌*◌, Bool, List, Option, Some, None}
 use Rattle.v8.specs.Numbers.{bad_policy, bad_shape, bad_row, bad_flow, callers_register, entry_misfit}
 use Rattle.v8.specs.declared.Reading.{Reading}
 use Rattle.v8.specs.declared.Reading.TheVariants.{Read, Unread}
@@ -8,8 +8,6 @@ use Rattle.flow_code.specs.Readings.{reading_at}
 use Rattle.flow.specs.Flow.{flow_of}
 use Rattle.policy.specs.declared.Policy.{Policy}
 use Rattle.policy.specs.Policy.{policy_ok}
-use Rattle.rows.specs.declared.Flaw.{Flaw}
-use Rattle.rows.specs.declared.Flaw.TheVariants.{None, At}
 use Rattle.rows.specs.declared.Row.{Row}
 use Rattle.rows.specs.Geometry.{row_bytes}
 use Rattle.rows.specs.Row.{row_of, form_fault, misfit}
@@ -26,9 +24,9 @@ abbrev pub entry_row : List ℕ → Row
 entry_row entry = row_of entry 0
 
 -- a row's lowest place that has a flaw is named
-abbrev pub unless_fault : ℕ → ℕ → Flaw → Answer
+abbrev pub unless_fault : ℕ → ℕ → Option ℕ → Answer
 unless_fault number w None = accepted
-unless_fault number w (At place) = refuse number w place
+unless_fault number w (Some place) = refuse number w place
 
 -- "20 policy breaks a rule above"
 abbrev pub policy_pass : Policy → Answer

@@ -4,7 +4,6 @@ ghost use Rattle.passes.specs.Answer.{accepted, refuse, need};
 ghost use Rattle.passes.specs.Passes.{unless_fault};
 
 use crate::Answer;
-use rows::Flaw;
 use v8::WordIndex;
 use v8::numbers::ACCEPTED;
 
@@ -40,12 +39,12 @@ pub fn need(holds: bool, number: u8, at: WordIndex, register: u8) -> Answer
     refuse(number, at, register)
 }
 
-// A row's lowest place that has a flaw is named.
-pub fn unless_fault(number: u8, at: WordIndex, flaw: Flaw) -> Answer
+// A row's lowest place that has a flaw is named, if there is one.
+pub fn unless_fault(number: u8, at: WordIndex, flaw: Option<u8>) -> Answer
     ensures { result ≡ unless_fault number at.0 flaw }
 {
     match flaw {
-        Flaw::None => accept(),
-        Flaw::At(place) => refuse(number, at, place),
+        None => accept(),
+        Some(place) => refuse(number, at, place),
     }
 }

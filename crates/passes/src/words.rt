@@ -14,36 +14,20 @@ use flow::flows;
 use flow_code::transfers;
 use flow_writes::{is_callers, written_by};
 use policy::Policy;
-use rows::geometry::{PLACES, ROW_BYTES};
-use rows::{formed_at, misfit, read_row};
+use rows::geometry::ROW_BYTES;
+use rows::{form_fault, misfit, read_row};
 use v8::numbers::{ACCEPTED, BAD_FLOW, BAD_ROW, CALLERS_REGISTER, ENTRY_MISFIT, MOST_WORDS};
 use v8::{Reading, WordIndex};
 
 // Pass 1: the rows are well formed; the lowest badly formed place of the earliest such row is named.
-pub fn row_pass(policy: Policy, rows: &[u8], count: WordIndex) -> Answer
+pub fn row_pass(policy: &Policy, rows: &[u8], count: WordIndex) -> Answer
     requires { (count.0 ≤ most_words) × (row_bytes * count.0 ≡ length rows.now) }
-    ensures { result ≡ pass_of (row_pass policy rows.now) count.0 }
+    ensures { result ≡ pass_of (row_pass policy.now rows.now) count.0 }
 {
-    let mut at = WordIndex(0);
-    let mut place: u8 = 0;
-    'rows: while at.0 < count.0 {
-        place = 0;
-        while place < PLACES {
-            if !formed_at(
-                policy.regions.count,
-                &policy.regions.sizes,
-                rows,
-                ROW_BYTES * at.0 as usize,
-                place,
-            ) {
-                break 'rows;
-            }
-            place += 1;
+    for at in 0..count.0 {
+        if let Some(place) = form_fault(&policy.regions, rows, ROW_BYTES * at as usize) {
+            return refuse(BAD_ROW, WordIndex(at), place);
         }
-        at = WordIndex(at.0 + 1);
-    }
-    if at.0 < count.0 {
-        return refuse(BAD_ROW, at, place);
     }
     accept()
 }
@@ -59,18 +43,15 @@ fn if_read(at: WordIndex, x: Reading) -> Answer
 }
 
 // Pass 2: the words are read.
-pub fn read_pass(readings: [Reading; MOST_WORDS], count: usize) -> Answer
-    requires { Formed readings count }
-    ensures { result ≡ pass_of (read_pass (code_of readings count)) count }
+pub fn read_pass(readings: &[Reading; MOST_WORDS], count: usize) -> Answer
+    requires { Formed readings.now count }
+    ensures { result ≡ pass_of (read_pass (code_of readings.now count)) count }
 {
-    let mut i: usize = 0;
-    while i < count {
-        let x = readings[i];
-        let found = if_read(WordIndex(i as u32), x);
+    for i in 0..count {
+        let found = if_read(WordIndex(i as u32), readings[i]);
         if found.number != ACCEPTED {
             return found;
         }
-        i += 1;
     }
     accept()
 }
@@ -90,24 +71,21 @@ fn flow_at(count: usize, at: WordIndex, in_slot: bool, ordinary: bool, x: Readin
 
 // Pass 3: the words' flow, and the registers that they write.
 pub fn flow_pass(
-    readings: [Reading; MOST_WORDS],
+    readings: &[Reading; MOST_WORDS],
     count: usize,
     marks: &[bool; MOST_WORDS],
 ) -> Answer
-    requires { Formed readings count × Examines marks.now (code_of readings count) }
-    ensures { result ≡ pass_of (flow_pass (code_of readings count)) count }
+    requires { Formed readings.now count × Examines marks.now (code_of readings.now count) }
+    ensures { result ≡ pass_of (flow_pass (code_of readings.now count)) count }
 {
     let mut in_slot = false;
-    let mut i: usize = 0;
-    while i < count {
+    for i in 0..count {
         let x = readings[i];
-        let at = WordIndex(i as u32);
-        let found = flow_at(count, at, in_slot, marks[i], x);
+        let found = flow_at(count, WordIndex(i as u32), in_slot, marks[i], x);
         if found.number != ACCEPTED {
             return found;
         }
         in_slot = transfers(x);
-        i += 1;
     }
     accept()
 }
@@ -117,6 +95,5 @@ pub fn entry_pass(rows: &[u8], entry: &[u8]) -> Answer
     requires { RowIn 0 (length rows.now) × RowIn 0 (length entry.now) }
     ensures { result ≡ entry_pass rows.now entry.now }
 {
-    let flaw = misfit(read_row(entry, 0), rows, 0);
-    unless_fault(ENTRY_MISFIT, WordIndex(0), flaw)
+    unless_fault(ENTRY_MISFIT, WordIndex(0), misfit(read_row(entry, 0), rows, 0))
 }

@@ -2,13 +2,12 @@
 -- for any other use of the frame, storing its address too, 7 for another offset, 8 for another width (naming rs1 as before), 4 for an unset word"). The
 -- conditions are tested in the paper's order, and each names a register: "5 names the kind 3 register, rs1 first; the others name rs1". Of the
 -- policy it takes how many fields each region has, and where they lie.
-use Rattle.std.specs.Prelude.{ℕ, ◌+◌, ◌-◌, ◌%◌, Bool, cond, not, ◌&&◌, List, ltb, eqb, get_or}
+use Rattle.std.specs.Prelude.{ℕ, ◌+◌, ◌-◌, ◌%◌, Bool, cond, not, ◌&&◌, List, ltb, eqb, get_or, Option, Some, None}
 use Rattle.v8.specs.Signed.{bias}
 use Rattle.v8.specs.Numbers.{maybe_null, no_rule, outside_fields, wrong_element, off_grid, not_allowed, too_high}
 use Rattle.v8.specs.declared.Access.{Access}
-use Rattle.policy.specs.declared.Fields.{Fields}
-use Rattle.policy_search.specs.declared.Found.{Found}
-use Rattle.policy_search.specs.declared.Found.TheVariants as Found·
+use Rattle.policy.specs.declared.Field.{Field}
+use Rattle.policy.specs.Policy.{no_field}
 use Rattle.policy_search.specs.Find.{find_in}
 use Rattle.memory.specs.Frame.{is_scratch, scratch_at}
 use Rattle.access.specs.Serve.{access_width, is_word, serves, allows}
@@ -27,18 +26,18 @@ reach_end s width = s.hi - bias + width
 abbrev pub on_grid : NumberSet → ℕ → Bool
 on_grid s width = eqb (s.lo % width) 0 && eqb (s.step % width) 0
 
--- 13, 8, 9 and 10, of the field at a place that holds the bytes reached, by its element and permission
-unfoldable pub in_field : ℕ → ℕ → Access → ℕ → NumberSet → ℕ → Reach
-in_field element permission a rs1 s place =
+-- 13, 8, 9 and 10, of the field at a place that holds the bytes reached
+unfoldable pub in_field : Field → Access → ℕ → NumberSet → ℕ → Reach
+in_field f a rs1 s place =
     cond (ltb 4096 (reach_end s (access_width a))) (Outside too_high rs1)
-    (cond (not (serves a element)) (Outside wrong_element rs1)
+    (cond (not (serves a f.element)) (Outside wrong_element rs1)
     (cond (not (on_grid s (access_width a))) (Outside off_grid rs1)
-    (cond (not (allows a permission)) (Outside not_allowed rs1)
+    (cond (not (allows a f.permission)) (Outside not_allowed rs1)
     (Inside place))))
 
-abbrev pub in_found : Fields → Access → ℕ → NumberSet → Found → Reach
-in_found fields a rs1 s (Found·.At place) = in_field (get_or fields.elements place 0) (get_or fields.permissions place 0) a rs1 s place
-in_found fields a rs1 s Found·.Nothing = Outside outside_fields rs1
+abbrev pub in_found : List Field → Access → ℕ → NumberSet → Option ℕ → Reach
+in_found fields a rs1 s (Some place) = in_field (get_or fields place no_field) a rs1 s place
+in_found fields a rs1 s None = Outside outside_fields rs1
 
 -- an offset of the frame: "7 for another offset, 8 for another width"
 unfoldable pub in_frame : Access → ℕ → ℕ → Reach
@@ -54,12 +53,12 @@ frame_reach a rs1 x y =
     (cond (is_constant x && is_frame y) (in_frame a rs1 (word_of x))
     (Outside no_rule rs1))
 
-module _ (counts : List ℕ) (fields : Fields) where
+module _ (counts : List ℕ) (fields : List Field) where
   -- 7: the offsets of a region, with all the bytes from the lowest on inside one field
   unfoldable pub in_region : Access → ℕ → ℕ → NumberSet → Reach
   in_region a rs1 r s =
       cond (ltb s.lo bias) (Outside outside_fields rs1)
-      (in_found fields a rs1 s (find_in counts fields.elements fields.offsets fields.counts r (s.lo - bias) (reach_end s (access_width a))))
+      (in_found fields a rs1 s (find_in counts fields r (s.lo - bias) (reach_end s (access_width a))))
 
   -- 5 and 6, where `frame` says that the frame address would be stored, then the rest on the sum of an address and a number
   unfoldable pub reach_of : Access → Bool → ℕ → Entry → ℕ → Entry → Reach

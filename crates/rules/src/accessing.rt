@@ -7,7 +7,7 @@ ghost use Rattle.rules.specs.Change.{stores, accessed, kept_at, access_change};
 use crate::notes::note_after;
 use crate::reaching::reach_of;
 use crate::{Change, Operands, Reach};
-use policy::{Policy, field_in};
+use policy::Policy;
 use rows::entries::{FRAME_ADDRESS, UNSET};
 use rows::geometry::{scratch_entry, scratch_name};
 use rows::{Entry, Note, Row, entry_at, field_entry, fits};
@@ -54,15 +54,12 @@ fn kept_at(row: Row, a: Access, to: u8, e: Entry, k: u8) -> Change
 fn stores(a: Access) -> bool
     ensures { result ≡ stores a }
 {
-    match a {
-        Access::Loads(_) => false,
-        Access::Stores(_) => true,
-    }
+    matches!(a, Access::Stores(_))
 }
 
 // A load to the register `to`, or a store of rd, at the sum of a word's operands.
-pub fn access_change(policy: Policy, row: Row, a: Access, to: u8, rd: u8, o: Operands) -> Change
-    ensures { result ≡ access_change policy row a to rd o }
+pub fn access_change(policy: &Policy, row: Row, a: Access, to: u8, rd: u8, o: Operands) -> Change
+    ensures { result ≡ access_change policy.now row a to rd o }
 {
     let e = entry_at(row, rd);
     if o.first.kind == UNSET {
@@ -75,29 +72,8 @@ pub fn access_change(policy: Policy, row: Row, a: Access, to: u8, rd: u8, o: Ope
     if reads & (e.kind == UNSET) {
         return Change::Breaks(UNSET_OPERAND, rd);
     }
-    match reach_of(
-        &policy.regions.fields,
-        &policy.fields.elements,
-        &policy.fields.permissions,
-        &policy.fields.offsets,
-        &policy.fields.counts,
-        a,
-        reads & (e.kind == FRAME_ADDRESS),
-        o,
-    ) {
-        Reach::Inside(place) => {
-            let f = field_in(
-                &policy.fields.elements,
-                &policy.fields.permissions,
-                &policy.fields.offsets,
-                &policy.fields.counts,
-                &policy.values.targets,
-                &policy.values.lows,
-                &policy.values.highs,
-                place,
-            );
-            accessed(row.note, a, to, rd, e, field_entry(f))
-        }
+    match reach_of(policy, a, reads & (e.kind == FRAME_ADDRESS), o) {
+        Reach::Inside(place) => accessed(row.note, a, to, rd, e, field_entry(policy.fields[place])),
         Reach::Scratch(k) => kept_at(row, a, to, e, k),
         Reach::Outside(number, named) => Change::Breaks(number, named),
     }

@@ -12,7 +12,7 @@ use access::addend_of;
 use alu::sethi;
 use flow_edges::transfer::{LINK, reads_codes};
 use flow_writes::operation_writes;
-use policy::Policy;
+use policy::{Policy, Regions};
 use rows::entries::{RETURN_ADDRESS, UNSET, constant};
 use rows::geometry::NOTE_NAME;
 use rows::notes::NOTE_UNSET;
@@ -31,8 +31,8 @@ fn writing(rd: u8, n: Note, rs1: u8, res: Result) -> Change
 }
 
 // Arithmetic and logic on a word's operands.
-fn alu_change(sizes: &[u16; 8], n: Note, op: AluOp, cc: bool, rd: u8, o: Operands) -> Change
-    ensures { result ≡ alu_change sizes.now n op cc rd o }
+fn alu_change(regions: &Regions, n: Note, op: AluOp, cc: bool, rd: u8, o: Operands) -> Change
+    ensures { result ≡ alu_change regions.now.sizes n op cc rd o }
 {
     if o.first.kind == UNSET {
         return Change::Breaks(UNSET_OPERAND, o.rs1);
@@ -41,7 +41,7 @@ fn alu_change(sizes: &[u16; 8], n: Note, op: AluOp, cc: bool, rd: u8, o: Operand
         return Change::Breaks(UNSET_OPERAND, o.rs2);
     }
     let note = alu_note(n, op, cc, rd, o.rs1, o.second);
-    writing(rd, note, o.rs1, alu_result(sizes, op, o.first, o.second))
+    writing(rd, note, o.rs1, alu_result(regions, op, o.first, o.second))
 }
 
 // A shift of a word's first operand by the second.
@@ -59,8 +59,8 @@ fn shift_change(n: Note, op: ShiftOp, rd: u8, o: Operands) -> Change
 }
 
 // What an operation does to a row.
-fn operation_change(policy: Policy, row: Row, x: Operation) -> Change
-    ensures { result ≡ operation_change policy row x }
+fn operation_change(policy: &Policy, row: Row, x: Operation) -> Change
+    ensures { result ≡ operation_change policy.now row x }
 {
     let to = operation_writes(x);
     match x {
@@ -75,7 +75,7 @@ fn operation_change(policy: Policy, row: Row, x: Operation) -> Change
             ..
         } => {
             let o = operands_of(row, rs1, operand);
-            alu_change(&policy.regions.sizes, row.note, op, cc, to, o)
+            alu_change(&policy.regions, row.note, op, cc, to, o)
         }
         Operation::Shift { op, rs1, count, .. } => {
             shift_change(row.note, op, to, operands_of(row, rs1, count))
@@ -116,8 +116,8 @@ fn return_change(e: Entry) -> Change
 }
 
 // What a word does to a row.
-pub fn change_of(policy: Policy, row: Row, x: Instruction) -> Change
-    ensures { result ≡ change_of policy row x }
+pub fn change_of(policy: &Policy, row: Row, x: Instruction) -> Change
+    ensures { result ≡ change_of policy.now row x }
 {
     match x {
         Instruction::Plain(operation) => operation_change(policy, row, operation),

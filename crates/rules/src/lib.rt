@@ -34,6 +34,7 @@ pub struct Operands {
 }
 
 // What an instruction makes of its operands: an entry, or the number of the condition that is broken.
+// It carries document 01's number, as Reach and Change do; the error type is to follow.
 #[derive(Clone, Copy)]
 pub enum Result {
     Gives(Entry),
@@ -56,11 +57,4 @@ pub enum Change {
     Writes(u8, Entry, Note),
     Keeps,
     Breaks(u8, u8),
-}
-
-// What a comparison leaves of an entry.
-#[derive(Clone, Copy)]
-pub enum EntryLeft {
-    Left(Entry),
-    Nothing,
 }

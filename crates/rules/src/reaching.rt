@@ -1,16 +1,16 @@
 // Where an access lies, by the entries of the two operands that it adds (specs/Reach.antt). The
-// conditions are tested in the order of the returns. The policy's lists are lent.
+// conditions are tested in the order of the returns.
 ghost use Rattle.std.specs.Prelude.{◌≡◌, ◌-◌, ◌<◌, ◌≤◌};
 ghost use Rattle.access.specs.Serve.{access_width};
 ghost use Rattle.rules.specs.Reach.{reach_end, on_grid, in_field, in_region, in_frame, frame_reach, reach_of};
-ghost use Rattle.policy.specs.Policy.{fields_from};
 ghost use Rattle.v8.specs.Signed.{bias};
 
 use crate::results::word_of;
 use crate::{Operands, Reach};
 use access::{allowed, is_word, serves_element, width_of};
 use memory::frame::{is_scratch, scratch_at};
-use policy_search::{Found, find_in};
+use policy::{Field, Policy};
+use policy_search::find_in;
 use rows::Entry;
 use rows::entries::{ADDRESS, FRAME_ADDRESS, NUMBER, START_OR_NULL, is_constant};
 use sets::NumberSet;
@@ -44,51 +44,37 @@ fn on_grid(s: NumberSet, a: Access) -> bool
     (s.lo % width == 0) & (s.step as u32 % width == 0)
 }
 
-// Where an access to offsets of the field at a place lies, by its element and permission.
-fn in_field(element: u8, permission: u8, a: Access, rs1: u8, s: NumberSet, place: usize) -> Reach
-    ensures { result ≡ in_field element permission a rs1 s place }
+// Where an access to offsets of a field lies, which stands at a place.
+fn in_field(f: &Field, a: Access, rs1: u8, s: NumberSet, place: usize) -> Reach
+    ensures { result ≡ in_field f.now a rs1 s place }
 {
     if 4096 < reach_end(s, a) {
         return Reach::Outside(TOO_HIGH, rs1);
     }
-    if !serves_element(a, element) {
+    if !serves_element(a, f.element) {
         return Reach::Outside(WRONG_ELEMENT, rs1);
     }
     if !on_grid(s, a) {
         return Reach::Outside(OFF_GRID, rs1);
     }
-    if !allowed(a, permission) {
+    if !allowed(a, f.permission) {
         return Reach::Outside(NOT_ALLOWED, rs1);
     }
     Reach::Inside(place)
 }
 
 // Where an access to these offsets of a region lies.
-fn in_region<'a>(
-    fields: &'a [u8; 8],
-    elements: &'a [u8; 128],
-    permissions: &'a [u8; 128],
-    offsets: &'a [u32; 128],
-    counts: &'a [u16; 128],
-    a: Access,
-    rs1: u8,
-    region: u8,
-    s: NumberSet,
-) -> Reach
-    ensures { result
-        ≡ in_region fields.now
-        (fields_from elements.now permissions.now offsets.now counts.now) a rs1 region s }
+fn in_region(policy: &Policy, a: Access, rs1: u8, region: u8, s: NumberSet) -> Reach
+    ensures { result ≡ in_region policy.now.regions.fields policy.now.fields a rs1 region s }
 {
     if s.lo < BIAS {
         return Reach::Outside(OUTSIDE_FIELDS, rs1);
     }
     let low = ByteOffset(offset_of(s.lo));
     let end = ByteOffset(reach_end(s, a));
-    let search = find_in(fields, elements, offsets, counts, region, low, end);
-    let found = search.found;
-    match found {
-        Found::At(place) => in_field(elements[place], permissions[place], a, rs1, s, place),
-        Found::Nothing => Reach::Outside(OUTSIDE_FIELDS, rs1),
+    match find_in(policy, region, low, end).found {
+        Some(place) => in_field(&policy.fields[place], a, rs1, s, place),
+        None => Reach::Outside(OUTSIDE_FIELDS, rs1),
     }
 }
 
@@ -121,20 +107,8 @@ fn frame_reach(a: Access, rs1: u8, x: Entry, y: Entry) -> Reach
 
 // Where an access lies whose address is the sum of its operands; `frame` says that it would store the
 // frame address.
-pub fn reach_of<'a>(
-    fields: &'a [u8; 8],
-    elements: &'a [u8; 128],
-    permissions: &'a [u8; 128],
-    offsets: &'a [u32; 128],
-    counts: &'a [u16; 128],
-    a: Access,
-    frame: bool,
-    o: Operands,
-) -> Reach
-    ensures { result
-        ≡ reach_of fields.now
-        (fields_from elements.now permissions.now offsets.now counts.now) a frame o.rs1
-        o.first o.rs2 o.second }
+pub fn reach_of(policy: &Policy, a: Access, frame: bool, o: Operands) -> Reach
+    ensures { result ≡ reach_of policy.now.regions.fields policy.now.fields a frame o.rs1 o.first o.rs2 o.second }
 {
     let x = o.first;
     let y = o.second;
@@ -148,32 +122,10 @@ pub fn reach_of<'a>(
         return Reach::Outside(NO_RULE, o.rs1);
     }
     if (x.kind == ADDRESS) & (y.kind == NUMBER) {
-        let s = add_sets(x.set, y.set);
-        return in_region(
-            fields,
-            elements,
-            permissions,
-            offsets,
-            counts,
-            a,
-            o.rs1,
-            x.region,
-            s,
-        );
+        return in_region(policy, a, o.rs1, x.region, add_sets(x.set, y.set));
     }
     if (x.kind == NUMBER) & (y.kind == ADDRESS) {
-        let s = add_sets(x.set, y.set);
-        return in_region(
-            fields,
-            elements,
-            permissions,
-            offsets,
-            counts,
-            a,
-            o.rs1,
-            y.region,
-            s,
-        );
+        return in_region(policy, a, o.rs1, y.region, add_sets(x.set, y.set));
     }
     frame_reach(a, o.rs1, x, y)
 }

@@ -6,6 +6,7 @@ ghost use Rattle.rules.specs.Result.{constants, both_numbers, offsets_give, addr
 
 use crate::Result;
 use alu::{alu, shift};
+use policy::Regions;
 use rows::Entry;
 use rows::entries::{
     ADDRESS, FRAME_ADDRESS, NUMBER, START_OR_NULL, address_in, constant, is_constant, is_zero,
@@ -39,10 +40,10 @@ fn both_numbers(a: Entry, b: Entry) -> bool
 }
 
 // Offsets of a region, if none lies outside it.
-fn offsets_give(sizes: &[u16; 8], r: u8, s: NumberSet) -> Result
-    ensures { result ≡ offsets_give sizes.now r s }
+fn offsets_give(regions: &Regions, r: u8, s: NumberSet) -> Result
+    ensures { result ≡ offsets_give regions.now.sizes r s }
 {
-    let size = size_in(sizes, r);
+    let size = size_in(regions, r);
     if (BIAS <= s.lo) & (s.hi <= BIAS + size) {
         return Result::Gives(address_in(r, s));
     }
@@ -50,24 +51,24 @@ fn offsets_give(sizes: &[u16; 8], r: u8, s: NumberSet) -> Result
 }
 
 // The sum of an address and a number.
-fn address_sum(sizes: &[u16; 8], a: Entry, b: Entry) -> Result
-    ensures { result ≡ address_sum sizes.now a b }
+fn address_sum(regions: &Regions, a: Entry, b: Entry) -> Result
+    ensures { result ≡ address_sum regions.now.sizes a b }
 {
     if (a.kind == ADDRESS) & (b.kind == NUMBER) {
-        return offsets_give(sizes, a.region, add_sets(a.set, b.set));
+        return offsets_give(regions, a.region, add_sets(a.set, b.set));
     }
     if (a.kind == NUMBER) & (b.kind == ADDRESS) {
-        return offsets_give(sizes, b.region, add_sets(a.set, b.set));
+        return offsets_give(regions, b.region, add_sets(a.set, b.set));
     }
     Result::Fails(NO_RULE)
 }
 
 // An address minus a number.
-fn address_difference(sizes: &[u16; 8], a: Entry, b: Entry) -> Result
-    ensures { result ≡ address_difference sizes.now a b }
+fn address_difference(regions: &Regions, a: Entry, b: Entry) -> Result
+    ensures { result ≡ address_difference regions.now.sizes a b }
 {
     if (a.kind == ADDRESS) & (b.kind == NUMBER) {
-        return offsets_give(sizes, a.region, sub_sets(a.set, b.set));
+        return offsets_give(regions, a.region, sub_sets(a.set, b.set));
     }
     if (a.kind == START_OR_NULL) & is_zero(b) {
         return Result::Gives(a);
@@ -76,18 +77,13 @@ fn address_difference(sizes: &[u16; 8], a: Entry, b: Entry) -> Result
 }
 
 // What an operation makes of operands that are not both numbers.
-fn address_rule(sizes: &[u16; 8], op: AluOp, a: Entry, b: Entry) -> Result
-    ensures { result ≡ address_rule sizes.now op a b }
+fn address_rule(regions: &Regions, op: AluOp, a: Entry, b: Entry) -> Result
+    ensures { result ≡ address_rule regions.now.sizes op a b }
 {
     match op {
-        AluOp::Add => address_sum(sizes, a, b),
-        AluOp::And => Result::Fails(NO_RULE),
-        AluOp::Or => Result::Fails(NO_RULE),
-        AluOp::Xor => Result::Fails(NO_RULE),
-        AluOp::Sub => address_difference(sizes, a, b),
-        AluOp::Andn => Result::Fails(NO_RULE),
-        AluOp::Orn => Result::Fails(NO_RULE),
-        AluOp::Xnor => Result::Fails(NO_RULE),
+        AluOp::Add => address_sum(regions, a, b),
+        AluOp::Sub => address_difference(regions, a, b),
+        _ => Result::Fails(NO_RULE),
     }
 }
 
@@ -95,37 +91,19 @@ fn address_rule(sizes: &[u16; 8], op: AluOp, a: Entry, b: Entry) -> Result
 fn is_or(op: AluOp) -> bool
     ensures { result ≡ is_or op }
 {
-    match op {
-        AluOp::Add => false,
-        AluOp::And => false,
-        AluOp::Or => true,
-        AluOp::Xor => false,
-        AluOp::Sub => false,
-        AluOp::Andn => false,
-        AluOp::Orn => false,
-        AluOp::Xnor => false,
-    }
+    matches!(op, AluOp::Or)
 }
 
 // Whether the operation is SUB.
 pub fn is_sub(op: AluOp) -> bool
     ensures { result ≡ is_sub op }
 {
-    match op {
-        AluOp::Add => false,
-        AluOp::And => false,
-        AluOp::Or => false,
-        AluOp::Xor => false,
-        AluOp::Sub => true,
-        AluOp::Andn => false,
-        AluOp::Orn => false,
-        AluOp::Xnor => false,
-    }
+    matches!(op, AluOp::Sub)
 }
 
 // What arithmetic and logic make of two entries.
-pub fn alu_result(sizes: &[u16; 8], op: AluOp, a: Entry, b: Entry) -> Result
-    ensures { result ≡ alu_result sizes.now op a b }
+pub fn alu_result(regions: &Regions, op: AluOp, a: Entry, b: Entry) -> Result
+    ensures { result ≡ alu_result regions.now.sizes op a b }
 {
     if (a.kind == FRAME_ADDRESS) | (b.kind == FRAME_ADDRESS) {
         return Result::Fails(NO_RULE);
@@ -145,7 +123,7 @@ pub fn alu_result(sizes: &[u16; 8], op: AluOp, a: Entry, b: Entry) -> Result
     if numbers {
         return Result::Gives(number_in(alu_sets(op, a.set, b.set)));
     }
-    address_rule(sizes, op, a, b)
+    address_rule(regions, op, a, b)
 }
 
 // What a shift makes of an entry and the count's.
