@@ -2,10 +2,8 @@
 -- with the numbers of the refusals and their order (document 01, "Order of the check, and its numbers").
 use Rattle.std.specs.Prelude.{ℕ, ◌+◌, cond, leb, eqb, set, replicate}
 use Rattle.v8.specs.Numbers.{acceptance, full, bad_size, bad_policy}
-use Rattle.policy.specs.Policy.{fields_from, values_from, count_of, place_of, size_ok, field_fits, policy_ok}
+use Rattle.policy.specs.Policy.{no_field, count_of, place_of, size_ok, field_fits, policy_ok}
 use Rattle.policy.specs.declared.Field.{Field}
-use Rattle.policy.specs.declared.Fields.{Fields}
-use Rattle.policy.specs.declared.Values.{Values}
 use Rattle.policy.specs.declared.Policy.{Policy}
 use Rattle.policy.specs.declared.Built.{Built}
 
@@ -14,8 +12,7 @@ abbrev pub empty_policy : Policy
 empty_policy =
     record {
       regions = record { count = 0; sizes = replicate 8 0; fields = replicate 8 0 };
-      fields = fields_from (replicate 128 0) (replicate 128 0) (replicate 128 0) (replicate 128 0);
-      values = values_from (replicate 128 0) (replicate 128 0) (replicate 128 0);
+      fields = replicate 128 no_field;
     }
 
 -- the policy with one region more, without fields
@@ -29,18 +26,7 @@ with_region p size =
             fields = set p.regions.fields p.regions.count 0;
           };
       fields = p.fields;
-      values = p.values;
     }
-
--- the fields, and the values, with those of f at a place
-abbrev pub fields_with : Fields → ℕ → Field → Fields
-fields_with fields place f =
-    fields_from (set fields.elements place f.element) (set fields.permissions place f.permission)
-    (set fields.offsets place f.offset.0) (set fields.counts place f.count)
-
-abbrev pub values_with : Values → ℕ → Field → Values
-values_with values place f =
-    values_from (set values.targets place f.target) (set values.lows place f.lo) (set values.highs place f.hi)
 
 -- the policy with f written at a place, as the last field of region r
 abbrev pub with_field_at : Policy → ℕ → ℕ → Field → Policy
@@ -52,8 +38,7 @@ with_field_at p r place f =
             sizes = p.regions.sizes;
             fields = set p.regions.fields r (count_of p r + 1);
           };
-      fields = fields_with p.fields place f;
-      values = values_with p.values place f;
+      fields = set p.fields place f;
     }
 
 -- the policy with one field more in region r

@@ -112,13 +112,7 @@ AcceptsField = (p : Policy) (r : ℕ) (f : Field) → field_number p r f ≡ acc
 pub record Sized (p : Policy) : Type 0 where
   pub sizes : length p.regions.sizes ≡ 8
   pub fields : length p.regions.fields ≡ 8
-  pub elements : length p.fields.elements ≡ 128
-  pub permissions : length p.fields.permissions ≡ 128
-  pub targets : length p.values.targets ≡ 128
-  pub offsets : length p.fields.offsets ≡ 128
-  pub counts : length p.fields.counts ≡ 128
-  pub lows : length p.values.lows ≡ 128
-  pub highs : length p.values.highs ≡ 128
+  pub places : length p.fields ≡ 128
 
 -- a policy of arrays that obeys the rules
 pub record Sound (p : Policy) : Type 0 where

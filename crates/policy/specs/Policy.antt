@@ -1,12 +1,10 @@
--- The rules that a policy obeys (document 01, "Policy"), each a test of numbers. A policy is held in lists of numbers:
--- field k of region r stands at place 16 r + k of each list of fields. No rule reads a place that is not in use.
+-- The rules that a policy obeys (document 01, "Policy"), each a test of numbers. A policy holds its fields in one list:
+-- field k of region r stands at place 16 r + k. No rule reads a place that is not in use.
 use Rattle.std.specs.Prelude.{ℕ, ◌+◌, ◌*◌, ◌-◌, ◌%◌, Bool, cond, ◌&&◌, ◌||◌, List, leb, ltb, eqb, get_or}
 use Rattle.v8.specs.Signed.{bias}
 use Rattle.v8.specs.Search.{all}
 use Rattle.policy.specs.Element.{width_of, least_of, most_of}
 use Rattle.policy.specs.declared.Field.{Field}
-use Rattle.policy.specs.declared.Fields.{Fields}
-use Rattle.policy.specs.declared.Values.{Values}
 use Rattle.policy.specs.declared.Policy.{Policy}
 
 -- the size of region r, in bytes
@@ -25,36 +23,17 @@ first_place r = 16 * r
 abbrev pub place_of : ℕ → ℕ → ℕ
 place_of r k = first_place r + k
 
--- the fields, and the values, that some lists of numbers are
-abbrev pub fields_from : List ℕ → List ℕ → List ℕ → List ℕ → Fields
-fields_from elements permissions offsets counts = record { elements = elements; permissions = permissions; offsets = offsets; counts = counts }
-
-abbrev pub values_from : List ℕ → List ℕ → List ℕ → Values
-values_from targets lows highs = record { targets = targets; lows = lows; highs = highs }
+-- what stands at a place that no field was put at: 0 in every part
+abbrev pub no_field : Field
+no_field = record { element = 0; permission = 0; target = 0; offset = record { 0 = 0 }; count = 0; lo = 0; hi = 0 }
 
 -- the field at a place
-abbrev pub field_in : Fields → Values → ℕ → Field
-field_in fields values place =
-    record {
-      element = get_or fields.elements place 0;
-      permission = get_or fields.permissions place 0;
-      target = get_or values.targets place 0;
-      offset = record { 0 = get_or fields.offsets place 0 };
-      count = get_or fields.counts place 0;
-      lo = get_or values.lows place 0;
-      hi = get_or values.highs place 0;
-    }
-
 unfoldable pub field_at : Policy → ℕ → Field
-field_at p place = field_in p.fields p.values place
+field_at p place = get_or p.fields place no_field
 
--- where the bytes of `count` elements end that begin at an offset: the first byte after them
-abbrev pub elements_end : ℕ → ℕ → ℕ → ℕ
-elements_end element offset count = offset + width_of element * count
-
--- where a field ends
+-- where a field ends: the first byte after its elements
 abbrev pub field_end : Field → ℕ
-field_end f = elements_end f.element f.offset.0 f.count
+field_end f = f.offset.0 + width_of f.element * f.count
 
 -- "a permission (1 read, 2 write, 3 both)": it allows reading, it allows writing
 abbrev pub readable : ℕ → Bool
@@ -84,13 +63,8 @@ field_ok regions size f =
     && values_ok regions f
 
 -- where the fields of region r before field k end
-abbrev pub end_in : List ℕ → List ℕ → List ℕ → ℕ → ℕ → ℕ
-end_in elements offsets counts r k =
-    cond (eqb k 0) 0
-    (elements_end (get_or elements (place_of r (k - 1)) 0) (get_or offsets (place_of r (k - 1)) 0) (get_or counts (place_of r (k - 1)) 0))
-
 unfoldable pub end_before : Policy → ℕ → ℕ → ℕ
-end_before p r k = end_in p.fields.elements p.fields.offsets p.fields.counts r k
+end_before p r k = cond (eqb k 0) 0 (field_end (field_at p (place_of r (k - 1))))
 
 -- f obeys every rule after fields that end before it: those of a field, and "ascending, not overlapping"
 abbrev pub field_follows : ℕ → ℕ → ℕ → Field → Bool

@@ -11,8 +11,6 @@ mod form;
 // The operations that build a policy.
 pub mod build;
 
-pub use form::{elements_end, field_in};
-
 // A field of a region: `count` elements that begin `offset` bytes after the region's start.
 // lo and hi are signed numbers in excess form, 2^31 more than the number.
 #[derive(Clone, Copy)]
@@ -34,30 +32,12 @@ pub struct Regions {
     pub fields: [u8; 8],
 }
 
-// Where fields lie and how they may be accessed, by place: offsets are in bytes, counts in elements.
-#[derive(Clone, Copy)]
-pub struct Fields {
-    pub elements: [u8; 128],
-    pub permissions: [u8; 128],
-    pub offsets: [u32; 128],
-    pub counts: [u16; 128],
-}
-
-// What the elements of fields hold, by place.
-#[derive(Clone, Copy)]
-pub struct Values {
-    pub targets: [u8; 128],
-    pub lows: [u32; 128],
-    pub highs: [u32; 128],
-}
-
-// A policy of at most 8 regions of at most 16 fields, in parts: field k of region r stands at place
-// 16 r + k of each array of fields and values. Places that are not in use mean nothing.
+// A policy of at most 8 regions of at most 16 fields: field k of region r stands at place 16 r + k of
+// `fields`. Places that are not in use mean nothing.
 #[derive(Clone, Copy)]
 pub struct Policy {
     pub regions: Regions,
-    pub fields: Fields,
-    pub values: Values,
+    pub fields: [Field; 128],
 }
 
 // What an add gives: the next policy and 0, or the policy given and the number of the refusal.

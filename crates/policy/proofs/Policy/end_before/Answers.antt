@@ -1,6 +1,6 @@
 -- No field ends before the first; before another, the one before it does.
 use borrow.Author.Tests.{eq-eqb, ne_eqb}
-use Rattle.policy.proofs.form.end_before.Goals as goal
+use Rattle.policy.proofs.Policy.end_before.Goals as goal
 
 pub returns-then-k-eq0 : goal.returns-then-k-eq0
 returns-then-k-eq0 c = rw (eq-eqb _ 0 c.if-k-eq0.true)

@@ -12,7 +12,7 @@ use Rattle.policy.specs.Policy.{size_of, count_of, size_ok, field_at, field_at_o
 use Rattle.policy.specs.declared.Policy.{Policy}
 use Rattle.policy.proofs.Ending.{end_first, end_next, follows_is}
 use borrow.Author.Rules.{rules}
-use Rattle.policy.proofs.form.region_ok.Goals as goal
+use Rattle.policy.proofs.Policy.region_ok.Goals as goal
 
 -- the test of a region holds where that of its size, that of its number of fields and those of its fields do
 holds-all : (p : Policy) (r : ℕ) {size count k : ℕ} → size_ok size ≡ true → count ≤ 16 → all (field_at_ok p r) k ≡ true → k ≡ count
