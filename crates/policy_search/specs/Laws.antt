@@ -1,9 +1,8 @@
 -- What the search finds and how many fields it looks at, in plain facts (document 02, request 3). The proofs are in proofs/FoundField.antt.
-use Rattle.std.specs.Prelude.{ℕ, ◌+◌, ◌-◌, ◌≤◌, ◌<◌, ◌≡◌, ◌⊎◌}
+use Rattle.std.specs.Prelude.{ℕ, ◌+◌, ◌-◌, ◌≤◌, ◌<◌, ◌≡◌, ◌⊎◌, Some, None}
 use Rattle.policy.specs.Policy.{count_of, place_of, field_at}
 use Rattle.policy_search.specs.Find.{find_field, field_holding, fields_looked}
 use Rattle.policy.specs.declared.Policy.{Policy}
-use Rattle.policy_search.specs.declared.Found.TheVariants.{At, Nothing}
 use Rattle.policy.specs.Laws.{WellFormed, Holds}
 
 -- the place that a search in region r found
@@ -18,13 +17,13 @@ pub record FoundHere (p : Policy) (r low end place : ℕ) : Type 0 where
 
 -- The field found holds the bytes, and no lower one does.
 abbrev pub FoundHolds : Type 0
-FoundHolds = (p : Policy) (r low end place : ℕ) → find_field p r low end ≡ At place → FoundHere p r low end place
+FoundHolds = (p : Policy) (r low end place : ℕ) → find_field p r low end ≡ Some place → FoundHere p r low end place
 
 -- Where nothing is found, no field of the region holds the bytes, looked at or not: fields ascend, so that those after the one at which the search
 -- ended begin past the bytes too.
 abbrev pub NoneHolds : Type 0
 NoneHolds =
-    (p : Policy) → WellFormed p → (r k low end : ℕ) → r < p.regions.count → k < count_of p r → find_field p r low end ≡ Nothing
+    (p : Policy) → WellFormed p → (r k low end : ℕ) → r < p.regions.count → k < count_of p r → find_field p r low end ≡ None
     → Holds (field_at p (place_of r k)) low end → ⊥
 
 -- "No outcome changes": the search finds the lowest field that holds the bytes, of all fields of the region.
@@ -52,10 +51,10 @@ CountsLooked = (p : Policy) → WellFormed p → (r low end : ℕ) → r < p.reg
 
 -- The field found is the last one looked at.
 abbrev pub FoundLast : Type 0
-FoundLast = (p : Policy) (r low end place : ℕ) → find_field p r low end ≡ At place → place + 1 ≡ place_of r (fields_looked p r low end)
+FoundLast = (p : Policy) (r low end place : ℕ) → find_field p r low end ≡ Some place → place + 1 ≡ place_of r (fields_looked p r low end)
 
 -- A field that holds some bytes is the one found.
 abbrev pub Finds : Type 0
 Finds =
     (p : Policy) → WellFormed p → (r k low end : ℕ) → r < p.regions.count → k < count_of p r → low < end
-    → Holds (field_at p (place_of r k)) low end → find_field p r low end ≡ At (place_of r k)
+    → Holds (field_at p (place_of r k)) low end → find_field p r low end ≡ Some (place_of r k)

@@ -4,21 +4,14 @@
 ghost use Rattle.std.specs.Prelude.{◌≡◌, ◌+◌, ◌-◌, ◌≤◌, ◌<◌};
 ghost use Rattle.policy_search.specs.Find.{search_in, search_of};
 
-use policy::{Policy, elements_end};
+use policy::Policy;
 use v8::ByteOffset;
 use v8::numbers::{ACCEPTED, BAD_POLICY};
 
-// What is found: the place of the field, or that no field holds the bytes.
-#[derive(Clone, Copy)]
-pub enum Found {
-    At(usize),
-    Nothing,
-}
-
-// What a search gives: what is found, and how many fields were looked at.
+// What a search gives: the place of the field, if one holds the bytes, and how many fields were looked at.
 #[derive(Clone, Copy)]
 pub struct Search {
-    pub found: Found,
+    pub found: Option<usize>,
     pub looked: usize,
 }
 
@@ -27,7 +20,7 @@ pub struct Search {
 #[derive(Clone, Copy)]
 pub struct FieldSearch {
     pub number: u8,
-    pub found: Found,
+    pub found: Option<usize>,
     pub looked: usize,
 }
 
@@ -42,80 +35,61 @@ fn up_to(first: usize, place: usize) -> usize
 // The field of a region that holds the bytes from low up to end, which is not among them, and how many
 // fields were looked at; nothing and 0 if there is no such region. The search ends at the first field
 // that holds the bytes or begins past the lowest of them.
-pub fn find_in<'a>(
-    fields: &'a [u8; 8],
-    elements: &'a [u8; 128],
-    offsets: &'a [u32; 128],
-    counts: &'a [u16; 128],
-    region: u8,
-    low: ByteOffset,
-    end: ByteOffset,
-) -> Search
-    ensures { result ≡ search_in fields.now elements.now offsets.now counts.now region low.0 end.0 }
+pub fn find_in(policy: &Policy, region: u8, low: ByteOffset, end: ByteOffset) -> Search
+    ensures { result ≡ search_in policy.now.regions.fields policy.now.fields region low.0 end.0 }
 {
     if 8 <= region {
         return Search {
-            found: Found::Nothing,
+            found: None,
             looked: 0,
         };
     }
     let r = region as usize;
-    let count = fields[r];
     let first = 16 * r;
-    let mut stop = first + 16;
-    if count < 16 {
-        stop = first + count as usize;
-    }
-    let mut place = first;
-    while place < stop {
-        let offset = offsets[place];
-        let after = elements_end(elements[place], offset, counts[place]);
-        if low.0 < offset {
+    let stop = first + policy.regions.fields[r].min(16) as usize;
+    for place in first..stop {
+        let f = policy.fields[place];
+        if low.0 < f.offset.0 {
             return Search {
-                found: Found::Nothing,
+                found: None,
                 looked: up_to(first, place),
             };
         }
-        if end.0 as u64 <= after {
+        if end.0 as u64 <= f.end() {
             return Search {
-                found: Found::At(place),
+                found: Some(place),
                 looked: up_to(first, place),
             };
         }
-        place += 1;
     }
     let looked = stop - first;
     Search {
-        found: Found::Nothing,
+        found: None,
         looked,
     }
 }
 
 // The lowest field of a region that holds the bytes from low up to end, which is not among them, and
 // how many fields were looked at. Refused: 20 if the policy breaks a rule or has no such region.
-pub fn find_field(policy: Policy, region: u8, low: ByteOffset, end: ByteOffset) -> FieldSearch
-    ensures { result ≡ search_of policy region low.0 end.0 }
+pub fn find_field(
+    policy: &Policy,
+    region: u8,
+    low: ByteOffset,
+    end: ByteOffset,
+) -> FieldSearch
+    ensures { result ≡ search_of policy.now region low.0 end.0 }
 {
     if policy.well_formed() & (region < policy.regions.count) {
-        let search = find_in(
-            &policy.regions.fields,
-            &policy.fields.elements,
-            &policy.fields.offsets,
-            &policy.fields.counts,
-            region,
-            low,
-            end,
-        );
-        let found = search.found;
+        let search = find_in(policy, region, low, end);
         return FieldSearch {
             number: ACCEPTED,
-            found,
+            found: search.found,
             looked: search.looked,
         };
     }
     FieldSearch {
         number: BAD_POLICY,
-        found: Found::Nothing,
+        found: None,
         looked: 0,
     }
 }
