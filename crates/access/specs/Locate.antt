@@ -1,10 +1,9 @@
 -- Where an access lies (document 01, fault 103: "not inside one field of matching element and permission"; document 02, request 7: "103 for the
--- rest of the frame and other widths"). It is stated over the numbers of the policy, the bases and the frame address, since the machine lends those.
-use Rattle.std.specs.Prelude.{ℕ, ◌+◌, ◌-◌, ◌≤◌, ◌<◌, Bool, cond, ◌&&◌, List, leb, ltb, get_or}
+-- rest of the frame and other widths").
+use Rattle.std.specs.Prelude.{ℕ, ◌+◌, ◌-◌, ◌≤◌, ◌<◌, Bool, cond, ◌&&◌, List, Option, Some, None, leb, ltb, get_or}
 use Rattle.v8.specs.Search.{first}
-use Rattle.policy_search.specs.declared.Found.{Found}
-use Rattle.policy_search.specs.declared.Found.TheVariants as Found·
-use Rattle.policy.specs.declared.Fields.{Fields}
+use Rattle.policy.specs.declared.Field.{Field}
+use Rattle.policy.specs.Policy.{no_field}
 use Rattle.policy_search.specs.Find.{find_in}
 use Rattle.memory.specs.Frame.{is_scratch, scratch_at}
 use Rattle.v8.specs.declared.Access.{Access}
@@ -34,18 +33,17 @@ abbrev pub base_in : Layout → ℕ → ℕ
 base_in l r = get_or l.bases r 0
 
 -- the field at a place is one that an access may touch
-abbrev pub touches : Fields → Access → ℕ → Bool
-touches fields a place = serves a (get_or fields.elements place 0) && allows a (get_or fields.permissions place 0)
+abbrev pub touches : List Field → Access → ℕ → Bool
+touches fields a place = serves a (get_or fields place no_field).element && allows a (get_or fields place no_field).permission
 
 -- an offset of region r, if the field found there is one that the access may touch
-abbrev pub located : Fields → Access → ℕ → ℕ → Found → Located
-located fields a r offset (Found·.At place) = cond (touches fields a place) (At r (record { 0 = offset })) Nowhere
-located fields a r offset Found·.Nothing = Nowhere
+abbrev pub located : List Field → Access → ℕ → ℕ → Option ℕ → Located
+located fields a r offset (Some place) = cond (touches fields a place) (At r (record { 0 = offset })) Nowhere
+located fields a r offset None = Nowhere
 
 -- where an access to an offset of region r lies, by how many fields each region has
-abbrev pub locate_in : List ℕ → Fields → Access → ℕ → ℕ → Located
-locate_in counts fields a r offset =
-    located fields a r offset (find_in counts fields.elements fields.offsets fields.counts r offset (offset + access_width a))
+abbrev pub locate_in : List ℕ → List Field → Access → ℕ → ℕ → Located
+locate_in counts fields a r offset = located fields a r offset (find_in counts fields r offset (offset + access_width a))
 
 -- an access is LD or ST of a scratch word of the frame
 unfoldable pub scratch_in : ℕ → Access → ℕ → Bool
