@@ -1,10 +1,9 @@
--- What lent arrays, and what a step answers beside them, say of a state: the definitions speak of whole states, the code of values
--- and marks that are lent to it. The code of a step knows neither memory nor layout: it answers with the access that it makes.
-use Rattle.std.specs.Prelude.{ℕ, ◌≡◌, Bool, List}
+-- What lent registers, and what a step answers beside them, say of a state. The code of a step knows neither memory nor layout: it
+-- answers with the access that it makes.
+use Rattle.std.specs.Prelude.{ℕ, ◌≡◌, List}
 use Rattle.access.specs.Layout.{Layout}
 use Rattle.flow_edges.specs.declared.Destination.{Destination}
 use Rattle.flow_edges.specs.declared.Destination.TheVariants.{To, Caller}
-use Rattle.step.specs.declared.MarkedCodes.{MarkedCodes}
 use Rattle.step.specs.declared.Registers.{Registers}
 use Rattle.step.specs.declared.Control.{Control}
 use Rattle.step.specs.declared.Progress.{Progress}
@@ -14,12 +13,9 @@ use Rattle.step.specs.Control.{go_to}
 use Rattle.step.specs.Effect.{Core, access_to}
 use Rattle.step.specs.Step.{State, Step, stopped, next, returned, plain_step}
 
--- registers, and what instructions work on, from their parts
-abbrev pub registers_of : List ℕ → List Bool → MarkedCodes → Registers
-registers_of values marks codes = record { values = values; marks = marks; codes = codes }
-
-abbrev pub core_of : List ℕ → List Bool → MarkedCodes → List ℕ → Core
-core_of values marks codes memory = record { registers = registers_of values marks codes; memory = memory }
+-- what instructions work on, from its parts
+abbrev pub core_of : Registers → List ℕ → Core
+core_of registers memory = record { registers = registers; memory = memory }
 
 -- a step, with the core that it leaves: a fault leaves the core as it was
 pub record Stepped : Type 0 where
@@ -38,20 +34,18 @@ step_from l k Returned to c = returned c
 step_from l k (Stopped n) to c = stopped n
 step_from l k (Accesses a rd address) to c = plain_step k (access_to l c a rd address)
 
--- .. with what is left in the lent arrays, and a memory
-abbrev pub completed : Layout → Control → Went → List ℕ → List Bool → List ℕ → Stepped
-completed l k w values marks memory =
-    leaving (core_of values marks w.codes memory) (step_from l k w.progress w.control (core_of values marks w.codes memory))
+-- .. with the registers that are left, and a memory
+abbrev pub completed : Layout → Control → Went → Registers → List ℕ → Stepped
+completed l k w after memory = leaving (core_of after memory) (step_from l k w.progress w.control (core_of after memory))
 
--- an answer, with the values and marks that are left, says the step f of control k and registers g: whatever layout and memory are,
+-- an answer, with the registers that are left, says the step f of control k and the registers before: whatever layout and memory are,
 -- completed on that memory it is that step
-abbrev pub Does : Went → List ℕ → List Bool → Control → Registers → (Layout → State → Step) → Type 0
-Does w values marks k g f =
+abbrev pub Does : Went → Registers → Control → Registers → (Layout → State → Step) → Type 0
+Does w after k before f =
     (l : Layout) (memory : List ℕ)
-    → completed l k w values marks memory
-    ≡ leaving (record { registers = g; memory = memory }) (f l (record { control = k; core = record { registers = g; memory = memory } }))
+    → completed l k w after memory ≡ leaving (core_of before memory) (f l (record { control = k; core = core_of before memory }))
 
 -- the answer that control goes from k to a destination
-unfoldable pub arriving : Control → MarkedCodes → Destination → Went
-arriving k codes (To w) = record { progress = Goes; control = go_to w.0; codes = codes }
-arriving k codes Caller = record { progress = Returned; control = k; codes = codes }
+unfoldable pub arriving : Control → Destination → Went
+arriving k (To w) = record { progress = Goes; control = go_to w.0 }
+arriving k Caller = record { progress = Returned; control = k }

@@ -86,8 +86,8 @@ abbrev pub operand_set : Registers → Operand → Bool
 operand_set g x = operand_set_in g.marks x
 
 -- what a register, or a second operand, reads as, with its mark
-abbrev pub register_in : List ℕ → List Bool → ℕ → Marked
-register_in values marks r = record { value = value_in values r; set = set_in marks r }
+abbrev pub register_of : Registers → ℕ → Marked
+register_of g r = record { value = value_of g r; set = is_set g r }
 
-abbrev pub operand_with : List ℕ → List Bool → Operand → Marked
-operand_with values marks x = record { value = operand_in values x; set = operand_set_in marks x }
+abbrev pub operand_of : Registers → Operand → Marked
+operand_of g x = record { value = operand_value g x; set = operand_set g x }

@@ -2,10 +2,10 @@
 // which access to the lent memory it makes. (Document 01, "Machine run".)
 #![tactic(auto)]
 
-// Registers in lent arrays.
-pub mod regs;
-// The marks of scratch words, in a lent array.
-pub mod scratch;
+// Registers read and written.
+mod regs;
+// The marks of scratch words.
+mod scratch;
 // Instructions that change registers and codes alone.
 mod compute;
 // Loads and stores, up to the access itself.
@@ -47,19 +47,11 @@ pub struct Marked {
     pub set: bool,
 }
 
-// What follows the next word: the word after it; or, where the next word is a slot, the place that
-// its transfer goes to.
-#[derive(Clone, Copy)]
-pub enum Pending {
-    Nothing,
-    Due(Destination),
-}
-
-// Where control stands: the next word, and what follows it.
+// Where control stands: the next word, and, where that is a slot, the place that its transfer goes to.
 #[derive(Clone, Copy)]
 pub struct Control {
     pub at: WordIndex,
-    pub pending: Pending,
+    pub pending: Option<Destination>,
 }
 
 // Where an access aims: at an address, or the fault that it meets first.
@@ -79,11 +71,10 @@ pub enum Progress {
     Accesses(Access, u8, u32),
 }
 
-// What a step gives beside what it leaves in the lent arrays: how it went, where control stands then
-// if it goes, and the condition codes.
+// What a step gives beside what it leaves in the registers: how it went, and where control stands then
+// if it goes.
 #[derive(Clone, Copy)]
 pub struct Went {
     pub progress: Progress,
     pub control: Control,
-    pub codes: MarkedCodes,
 }

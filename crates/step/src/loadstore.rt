@@ -1,13 +1,12 @@
 // Loads and stores: what they read of the registers, and what they ask of memory.
 ghost use Rattle.std.specs.Prelude.{◌≡◌, ◌<◌, ◌≤◌};
 ghost use Rattle.v8.specs.Numbers.{most_words};
-ghost use Rattle.step.specs.Effect.{aim_in, moved_set, access_effect};
+ghost use Rattle.step.specs.Effect.{aim_of, moved_set, access_effect};
 ghost use Rattle.step.specs.Step.{plain_step};
-ghost use Rattle.step.specs.Lent.{registers_of, Does};
+ghost use Rattle.step.specs.Lent.{Does};
 
 use crate::moving::stop;
-use crate::regs::{is_set, operand, register};
-use crate::{Aim, Control, MARKS, MarkedCodes, Pending, Progress, Went};
+use crate::{Aim, Control, Progress, Registers, Went};
 use access::{addend_of, width_of};
 use alu::sum;
 use v8::numbers::{UNALIGNED, UNSET_READ};
@@ -15,19 +14,12 @@ use v8::{Access, Displacement};
 
 // Where an access aims: 102 where what it reads is unset, `others` being the rest of that, 104 where
 // the address is no multiple of the width.
-fn aim(
-    values: &[u32; 32],
-    marks: &[bool; MARKS],
-    others: bool,
-    rs1: u8,
-    d: Displacement,
-    width: u32,
-) -> Aim
+fn aim(registers: &Registers, others: bool, rs1: u8, d: Displacement, width: u32) -> Aim
     requires { 1 ≤ width }
-    ensures { result ≡ aim_in values.now marks.now others rs1 d width }
+    ensures { result ≡ aim_of registers.now others rs1 d width }
 {
-    let left = register(values, marks, rs1);
-    let right = operand(values, marks, addend_of(d));
+    let left = registers.register(rs1);
+    let right = registers.operand(addend_of(d));
     let ready = left.set & right.set & others;
     if !ready {
         return Aim::Missed(UNSET_READ);
@@ -40,12 +32,12 @@ fn aim(
 }
 
 // Whether what an access moves is set: a store reads its register, a load reads no other.
-fn moved_set(marks: &[bool; MARKS], a: Access, rd: u8) -> bool
-    ensures { result ≡ moved_set marks.now a rd }
+fn moved_set(registers: &Registers, a: Access, rd: u8) -> bool
+    ensures { result ≡ moved_set registers.now.marks a rd }
 {
     match a {
         Access::Loads(_) => true,
-        Access::Stores(_) => is_set(marks, rd),
+        Access::Stores(_) => registers.is_set(rd),
     }
 }
 
@@ -53,30 +45,26 @@ fn moved_set(marks: &[bool; MARKS], a: Access, rd: u8) -> bool
 // does: whether it lies in a field, what it moves, and where control goes then.
 pub fn step_access(
     control: Control,
-    codes: MarkedCodes,
-    values: &[u32; 32],
-    marks: &[bool; MARKS],
+    registers: &Registers,
     a: Access,
     rd: u8,
     rs1: u8,
     d: Displacement,
 ) -> Went
     requires { control.at.0 < most_words }
-    ensures { Does result values.now marks.now control (registers_of values.now marks.now codes)
+    ensures { Does result registers.now control registers.now
         (λ l st. plain_step control (access_effect l st.core a rd rs1 d)) }
 {
-    let at = control.at;
     let width = width_of(a);
-    let moved = moved_set(marks, a, rd);
-    match aim(values, marks, moved, rs1, d, width) {
+    let moved = moved_set(registers, a, rd);
+    match aim(registers, moved, rs1, d, width) {
         Aim::Address(address) => Went {
             progress: Progress::Accesses(a, rd, address),
             control: Control {
-                at,
-                pending: Pending::Nothing,
+                at: control.at,
+                pending: None,
             },
-            codes,
         },
-        Aim::Missed(n) => stop(control, codes, n),
+        Aim::Missed(n) => stop(control, n),
     }
 }

@@ -1,37 +1,26 @@
 // Control: what follows a word, branches and the return (specs/Control.antt, specs/Step.antt).
-ghost use Rattle.std.specs.Prelude.{◌≡◌, Bool, List, ℕ, ◌<◌};
+ghost use Rattle.std.specs.Prelude.{◌≡◌, ◌<◌};
 ghost use Rattle.v8.specs.Numbers.{most_words};
 ghost use Rattle.flow_edges.specs.Edge.{branch_edge};
-ghost use Rattle.step.specs.Control.{in_slot, due_at};
+ghost use Rattle.step.specs.declared.Registers.{Registers};
+ghost use Rattle.step.specs.Control.{due_at};
 ghost use Rattle.step.specs.Step.{follow, branch_step, return_step};
-ghost use Rattle.step.specs.Lent.{registers_of, arriving, Does};
+ghost use Rattle.step.specs.Lent.{arriving, Does};
 
-use crate::regs::{is_set, value};
-use crate::{Control, MARKS, MarkedCodes, Pending, Progress, Went};
+use crate::{Control, Progress, Registers, Went};
 use alu::holds;
 use flow_edges::Destination;
 use flow_edges::transfer::{LINK, landing_of, reads_codes, slot_runs};
 use v8::numbers::{UNALIGNED, UNSET_READ, WRONG_RETURN};
 use v8::{Bicc, WordIndex};
 
-// Whether the next word is a slot.
-pub fn in_slot(pending: Pending) -> bool
-    ensures { result ≡ in_slot pending }
-{
-    match pending {
-        Pending::Nothing => false,
-        Pending::Due(_) => true,
-    }
-}
-
-// A step that stops at a fault: control and codes stay.
-pub fn stop(control: Control, codes: MarkedCodes, fault: u8) -> Went
-    ensures { result ≡ record { progress = Progress.Stopped fault; control = control; codes = codes } }
+// A step that stops at a fault: control stays.
+pub fn stop(control: Control, fault: u8) -> Went
+    ensures { result ≡ record { progress = Progress.Stopped fault; control = control } }
 {
     Went {
         progress: Progress::Stopped(fault),
         control,
-        codes,
     }
 }
 
@@ -41,109 +30,91 @@ pub fn due(control: Control) -> Destination
     requires { control.at.0 < most_words }
     ensures { result ≡ due_at control.at.0 control.pending }
 {
-    let at = control.at;
-    let pending = control.pending;
-    match pending {
-        Pending::Nothing => Destination::To(WordIndex(at.0 + 1)),
-        Pending::Due(to) => to,
-    }
+    control
+        .pending
+        .unwrap_or(Destination::To(WordIndex(control.at.0 + 1)))
 }
 
 // Moves on past a word: to the next one, to where the transfer before it goes, or out.
-pub fn move_on(control: Control, codes: MarkedCodes) -> Went
+pub fn move_on(control: Control) -> Went
     requires { control.at.0 < most_words }
-    ensures { result ≡ arriving control codes (due_at control.at.0 control.pending) }
+    ensures { result ≡ arriving control (due_at control.at.0 control.pending) }
 {
-    let to = due(control);
-    match to {
+    match due(control) {
         Destination::To(w) => Went {
             progress: Progress::Goes,
             control: Control {
                 at: w,
-                pending: Pending::Nothing,
+                pending: None,
             },
-            codes,
         },
         Destination::Caller => Went {
             progress: Progress::Returned,
             control,
-            codes,
         },
     }
 }
 
 // Follows the edge of a branch that is taken, or the other: over the slot where that runs.
-fn follow_branch(control: Control, codes: MarkedCodes, b: Bicc, taken: bool) -> Went
+fn follow_branch(control: Control, b: Bicc, taken: bool) -> Went
     requires { control.at.0 < most_words }
-    ensures { (values : List ℕ) (marks : List Bool)
-        → Does result values marks control (registers_of values marks codes)
+    ensures { (registers : Registers) → Does result registers control registers
         (λ l st. follow control.at.0 (branch_edge control.at.0 b taken) st.core) }
 {
-    let at = control.at;
-    let to = landing_of(at, b, taken);
+    let to = landing_of(control.at, b, taken);
     if slot_runs(b, taken) {
         return Went {
             progress: Progress::Goes,
             control: Control {
-                at: WordIndex(at.0 + 1),
-                pending: Pending::Due(Destination::To(to)),
+                at: WordIndex(control.at.0 + 1),
+                pending: Some(Destination::To(to)),
             },
-            codes,
         };
     }
     Went {
         progress: Progress::Goes,
         control: Control {
             at: to,
-            pending: Pending::Nothing,
+            pending: None,
         },
-        codes,
     }
 }
 
 // A branch: 102 where its condition reads codes that are unset, else the edge that the codes decide.
-pub fn branch(control: Control, codes: MarkedCodes, b: Bicc) -> Went
+pub fn branch(control: Control, registers: &Registers, b: Bicc) -> Went
     requires { control.at.0 < most_words }
-    ensures { (values : List ℕ) (marks : List Bool)
-        → Does result values marks control (registers_of values marks codes)
+    ensures { Does result registers.now control registers.now
         (λ l st. branch_step st b) }
 {
+    let codes = registers.codes;
     if reads_codes(b.cond) & !codes.set {
-        return stop(control, codes, UNSET_READ);
+        return stop(control, UNSET_READ);
     }
-    follow_branch(control, codes, b, holds(b.cond, codes.value))
+    follow_branch(control, b, holds(b.cond, codes.value))
 }
 
 // The leaf return: 102 where r15 is unset, 104 where it is no multiple of 4, 105 where it is not the
 // return address; else its slot runs, the end pending.
-pub fn leave(
-    control: Control,
-    codes: MarkedCodes,
-    values: &[u32; 32],
-    marks: &[bool; MARKS],
-    returns: u32,
-) -> Went
+pub fn leave(control: Control, registers: &Registers, returns: u32) -> Went
     requires { control.at.0 < most_words }
-    ensures { Does result values.now marks.now control (registers_of values.now marks.now codes)
+    ensures { Does result registers.now control registers.now
         (λ l st. return_step returns st) }
 {
-    if !is_set(marks, LINK) {
-        return stop(control, codes, UNSET_READ);
+    if !registers.is_set(LINK) {
+        return stop(control, UNSET_READ);
     }
-    let link = value(values, LINK);
+    let link = registers.value(LINK);
     if link % 4 != 0 {
-        return stop(control, codes, UNALIGNED);
+        return stop(control, UNALIGNED);
     }
     if link != returns {
-        return stop(control, codes, WRONG_RETURN);
+        return stop(control, WRONG_RETURN);
     }
-    let at = control.at;
     Went {
         progress: Progress::Goes,
         control: Control {
-            at: WordIndex(at.0 + 1),
-            pending: Pending::Due(Destination::Caller),
+            at: WordIndex(control.at.0 + 1),
+            pending: Some(Destination::Caller),
         },
-        codes,
     }
 }

@@ -1,72 +1,73 @@
-// Registers in lent arrays of values and marks. r0 reads as a set zero, and writes to it vanish.
+// Registers with their marks. r0 reads as a set zero, and writes to it vanish.
 ghost use Rattle.std.specs.Prelude.{◌≡◌};
-ghost use Rattle.step.specs.Registers.{value_in, set_in, register_in, operand_with, values_with, marks_with};
+ghost use Rattle.step.specs.Registers.{value_of, is_set, register_of, operand_of, written};
 
-use crate::{MARKS, Marked};
+use crate::{Marked, Registers};
 use v8::Operand;
 
-// What register r reads as.
-pub fn value(values: &[u32; 32], r: u8) -> u32
-    ensures { result ≡ value_in values.now r }
-{
-    let i = r as usize;
-    if i == 0 {
-        return 0;
+impl Registers {
+    // What register r reads as.
+    pub fn value(&self, r: u8) -> u32
+        ensures { result ≡ value_of self.now r }
+    {
+        let i = r as usize;
+        if i == 0 {
+            return 0;
+        }
+        if i < 32 {
+            return self.values[i];
+        }
+        0
     }
-    if i < 32 {
-        return values[i];
-    }
-    0
-}
 
-// Whether register r is set.
-pub fn is_set(marks: &[bool; MARKS], r: u8) -> bool
-    ensures { result ≡ set_in marks.now r }
-{
-    let i = r as usize;
-    if i == 0 {
-        return true;
+    // Whether register r is set.
+    pub fn is_set(&self, r: u8) -> bool
+        ensures { result ≡ is_set self.now r }
+    {
+        let i = r as usize;
+        if i == 0 {
+            return true;
+        }
+        if i < 32 {
+            return self.marks[i];
+        }
+        false
     }
-    if i < 32 {
-        return marks[i];
-    }
-    false
-}
 
-// Writes register r, which is set from then on.
-pub fn write(values: &mut [u32; 32], marks: &mut [bool; MARKS], r: u8, v: u32)
-    ensures values { values.new ≡ values_with values.old r v }
-    ensures marks { marks.new ≡ marks_with marks.old r }
-{
-    let i = r as usize;
-    if i == 0 {
-        return;
+    // Writes register r, which is set from then on.
+    pub fn write(&mut self, r: u8, v: u32)
+        ensures { self.new ≡ written self.old r v }
+    {
+        let i = r as usize;
+        if i == 0 {
+            return;
+        }
+        if i < 32 {
+            self.values[i] = v;
+            self.marks[i] = true;
+        }
     }
-    if i < 32 {
-        values[i] = v;
-        marks[i] = true;
-    }
-}
 
-// What register r reads as, with its mark.
-pub fn register(values: &[u32; 32], marks: &[bool; MARKS], r: u8) -> Marked
-    ensures { result ≡ register_in values.now marks.now r }
-{
-    Marked {
-        value: value(values, r),
-        set: is_set(marks, r),
+    // What register r reads as, with its mark.
+    pub fn register(&self, r: u8) -> Marked
+        ensures { result ≡ register_of self.now r }
+    {
+        Marked {
+            value: self.value(r),
+            set: self.is_set(r),
+        }
     }
-}
 
-// What a second operand gives, with its mark: a number is always set.
-pub fn operand(values: &[u32; 32], marks: &[bool; MARKS], x: Operand) -> Marked
-    ensures { result ≡ operand_with values.now marks.now x }
-{
-    match x {
-        Operand::Reg(r) => register(values, marks, r),
-        Operand::Imm(v) => Marked {
-            value: v,
-            set: true,
-        },
+    // What a second operand gives, with its mark: a number is always set.
+    pub fn operand(&self, x: Operand) -> Marked
+        ensures { result ≡ operand_of self.now x }
+    {
+        match x {
+            Operand::Reg(r) => self.register(r),
+            Operand::Imm(v) => Marked {
+                value: v,
+                set: true,
+            },
+        }
     }
 }

@@ -1,5 +1,5 @@
 -- The second operand with its mark, by its two cases.
-use Rattle.step.proofs.regs.operand.Goals as goal
+use Rattle.step.proofs.Registers.operand.Goals as goal
 
 pub returns-in-Reg : goal.returns-in-Reg
 returns-in-Reg c = rw c.in-Reg.is c.register.ensures

@@ -1,7 +1,7 @@
 -- A write, by the tests of the definition.
 use Rattle.step.specs.Registers.{values_with, marks_with}
 use borrow.Author.Tests.{eq-eqb, ne_eqb, lt-ltb, le-ltb}
-use Rattle.step.proofs.regs.write.Goals as goal
+use Rattle.step.proofs.Registers.write.Goals as goal
 
 pub returns-then-i-eq0 : goal.returns-then-i-eq0
 unfolding values_with marks_with
