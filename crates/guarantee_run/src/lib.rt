@@ -11,7 +11,6 @@ use machine_steps::{End, Outcome};
 use passes::Answer;
 use policy::Policy;
 use step::Registers;
-use step::scratch::unset_scratch;
 use v8::Edition;
 use v8::numbers::ACCEPTED;
 
@@ -26,7 +25,7 @@ pub struct CheckedRun {
 // it changes nothing.
 pub fn checked_run(
     edition: Edition,
-    policy: Policy,
+    policy: &Policy,
     words: &[u32],
     rows: &[u8],
     entry: &[u8],
@@ -34,33 +33,25 @@ pub fn checked_run(
     bases: &[u32],
     returns: u32,
     frame: u32,
-    registers: Registers,
+    mut registers: Registers,
     allowance: u64,
     memory: &mut [u8],
 ) -> CheckedRun
     ensures ran { checked_left result memory.new
-        ≡ checked_run_of edition policy words.now rows.now entry.now res.now
+        ≡ checked_run_of edition policy.now words.now rows.now entry.now res.now
         bases.now returns frame registers allowance memory.old }
-    ensures guaranteed { HoldsTo edition policy words.now entry.now res.now bases.now returns frame registers allowance
+    ensures guaranteed { HoldsTo edition policy.now words.now entry.now res.now bases.now returns frame registers allowance
         memory.old (checked_left result memory.new) }
 {
     let answer = check(edition, policy, words, rows, entry, res);
     if answer.number != ACCEPTED {
-        let number = answer.number;
-        let values = registers.values;
-        let mut marks = registers.marks;
-        let codes = registers.codes;
-        unset_scratch(&mut marks);
+        registers.unset_scratch();
         return CheckedRun {
             answer,
             outcome: Outcome {
-                end: End::Refused(number),
+                end: End::Refused(answer.number),
                 steps: 0,
-                registers: Registers {
-                    values,
-                    marks,
-                    codes,
-                },
+                registers,
             },
         };
     }

@@ -9,20 +9,19 @@ use machine_place::placed;
 use machine_steps::{End, Outcome, run_steps};
 use policy::Policy;
 use step::Registers;
-use step::scratch::unset_scratch;
 use v8::Edition;
 use v8::numbers::{ACCEPTED, BAD_PLACEMENT, BAD_POLICY, BAD_SHAPE, MOST_WORDS};
 
 // The number that refuses a run, or 0.
 fn refusal(
-    policy: Policy,
+    policy: &Policy,
     words: &[u32],
     bases: &[u32],
     returns: u32,
     frame: u32,
     memory: &[u8],
 ) -> u8
-    ensures { result ≡ refusal_of policy words.now bases.now returns frame memory.now }
+    ensures { result ≡ refusal_of policy.now words.now bases.now returns frame memory.now }
 {
     if !policy.well_formed() {
         return BAD_POLICY;
@@ -33,14 +32,7 @@ fn refusal(
     if MOST_WORDS < words.len() {
         return BAD_SHAPE;
     }
-    if !placed(
-        policy.regions.count,
-        &policy.regions.sizes,
-        bases,
-        returns,
-        frame,
-        memory,
-    ) {
+    if !placed(policy, bases, returns, frame, memory) {
         return BAD_PLACEMENT;
     }
     ACCEPTED
@@ -51,37 +43,30 @@ fn refusal(
 // The six scratch words are unset at the start, and where it is refused.
 pub fn run(
     edition: Edition,
-    policy: Policy,
+    policy: &Policy,
     words: &[u32],
     bases: &[u32],
     returns: u32,
     frame: u32,
-    registers: Registers,
+    mut registers: Registers,
     allowance: u64,
     memory: &mut [u8],
 ) -> Outcome
-    ensures ran { left_by result memory.new ≡ run_of edition policy words.now bases.now returns frame registers allowance memory.old }
-    ensures number { end_number result.end ≡ end_number (run_of edition policy words.now bases.now returns frame registers allowance memory.old).outcome.end }
+    ensures ran { left_by result memory.new ≡ run_of edition policy.now words.now bases.now returns frame registers allowance memory.old }
+    ensures number { end_number result.end ≡ end_number (run_of edition policy.now words.now bases.now returns frame registers allowance memory.old).outcome.end }
 {
     let number = refusal(policy, words, bases, returns, frame, memory);
-    let mut values = registers.values;
-    let mut marks = registers.marks;
-    let codes = registers.codes;
     if number != ACCEPTED {
-        unset_scratch(&mut marks);
+        registers.unset_scratch();
         return Outcome {
             end: End::Refused(number),
             steps: 0,
-            registers: Registers {
-                values,
-                marks,
-                codes,
-            },
+            registers,
         };
     }
-    values[0] = 0;
-    marks[0] = true;
-    unset_scratch(&mut marks);
+    registers.values[0] = 0;
+    registers.marks[0] = true;
+    registers.unset_scratch();
     let r = run_steps(
         edition,
         policy,
@@ -89,21 +74,13 @@ pub fn run(
         bases,
         returns,
         frame,
-        codes,
-        &mut values,
-        &mut marks,
+        &mut registers,
         memory,
         allowance,
     );
-    let end = r.end;
-    let left = r.codes;
     Outcome {
-        end,
+        end: r.end,
         steps: r.steps,
-        registers: Registers {
-            values,
-            marks,
-            codes: left,
-        },
+        registers,
     }
 }

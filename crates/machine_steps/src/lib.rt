@@ -1,5 +1,5 @@
-// The run from a state, step after step, with its allowance, over lent arrays. (Document 01, "Machine
-// run".)
+// The run from a state, step after step, with its allowance, over lent registers and memory. (Document
+// 01, "Machine run".)
 #![tactic(auto)]
 
 ghost use Rattle.std.specs.Prelude.{◌≡◌, ◌≤◌, length};
@@ -16,7 +16,7 @@ use machine_access::{Moved, access_to};
 use policy::Policy;
 use step::dispatch::one_step;
 use step::moving::due;
-use step::{Control, MARKS, MarkedCodes, Pending, Progress, Registers};
+use step::{Control, Progress, Registers};
 use v8::numbers::{MOST_WORDS, NO_WORD};
 use v8::{Edition, WordIndex};
 
@@ -38,114 +38,78 @@ pub struct Outcome {
     pub registers: Registers,
 }
 
-// What the steps of a run give beside what they leave in the lent arrays.
+// What the steps of a run give beside what they leave in the registers and in memory.
 #[derive(Clone, Copy)]
 pub struct Ended {
     pub end: End,
     pub steps: u64,
-    pub codes: MarkedCodes,
 }
 
 // Runs from word 0 until the run has returned, has spent the allowance, or stops at a fault.
 pub fn run_steps(
     edition: Edition,
-    policy: Policy,
+    policy: &Policy,
     words: &[u32],
     bases: &[u32],
     returns: u32,
     frame: u32,
-    codes: MarkedCodes,
-    values: &mut [u32; 32],
-    marks: &mut [bool; MARKS],
+    registers: &mut Registers,
     memory: &mut [u8],
     allowance: u64,
 ) -> Ended
-    requires { (length words.now ≤ most_words) × Fits policy bases.now frame (length memory.old) }
-    ensures { ran_of result values.new marks.new memory.new
-        ≡ run_from (setting_of edition policy words.now bases.now returns frame) allowance 0
-        (record { control = go_to 0; core = core_of values.old marks.old codes memory.old }) }
+    requires { (length words.now ≤ most_words) × Fits policy.now bases.now frame (length memory.old) }
+    ensures { ran_of result registers.new memory.new
+        ≡ run_from (setting_of edition policy.now words.now bases.now returns frame) allowance 0
+        (record { control = go_to 0; core = core_of registers.old memory.old }) }
 {
     let readings = read_all(edition, words);
     let mut control = Control {
         at: WordIndex(0),
-        pending: Pending::Nothing,
+        pending: None,
     };
-    let mut flags = codes;
-    let mut steps: u64 = 0;
-    while steps < allowance {
-        let at = control.at;
-        let i = at.0 as usize;
+    for steps in 0..allowance {
+        let i = control.at.0 as usize;
         if MOST_WORDS <= i {
             return Ended {
                 end: End::Fault(NO_WORD),
                 steps,
-                codes: flags,
             };
         }
-        let r = one_step(control, flags, values, marks, readings[i], returns);
-        flags = r.codes;
-        let progress = r.progress;
-        match progress {
+        let r = one_step(control, registers, readings[i], returns);
+        match r.progress {
             Progress::Goes => {
                 control = r.control;
-                steps += 1;
             }
             Progress::Returned => {
                 return Ended {
                     end: End::Returned,
                     steps: steps + 1,
-                    codes: flags,
                 };
             }
             Progress::Stopped(n) => {
                 return Ended {
                     end: End::Fault(n),
                     steps,
-                    codes: flags,
                 };
             }
             Progress::Accesses(a, rd, address) => {
-                let moved = access_to(
-                    values,
-                    marks,
-                    memory,
-                    policy.regions.count,
-                    &policy.regions.sizes,
-                    bases,
-                    &policy.regions.fields,
-                    &policy.fields.elements,
-                    &policy.fields.permissions,
-                    &policy.fields.offsets,
-                    &policy.fields.counts,
-                    frame,
-                    a,
-                    rd,
-                    address,
-                );
-                match moved {
+                match access_to(policy, bases, frame, registers, memory, a, rd, address) {
                     Moved::Done => {}
                     Moved::Missed(n) => {
                         return Ended {
                             end: End::Fault(n),
                             steps,
-                            codes: flags,
                         };
                     }
                 }
-                let to = due(control);
-                match to {
-                    Destination::To(w) => {
-                        control = Control {
-                            at: w,
-                            pending: Pending::Nothing,
-                        };
-                        steps += 1;
+                match due(control) {
+                    Destination::To(at) => {
+                        control = Control { at, pending: None };
                     }
                     Destination::Caller => {
                         return Ended {
                             end: End::Returned,
                             steps: steps + 1,
-                            codes: flags,
                         };
                     }
                 }
@@ -154,7 +118,6 @@ pub fn run_steps(
     }
     Ended {
         end: End::Spent,
-        steps,
-        codes: flags,
+        steps: allowance,
     }
 }
