@@ -10,7 +10,7 @@ use lib.Dec.{eqb}
 use lib.ListN.{length, get_or, set, length-set}
 use lib.Seq.{get_or-set_same, get_or-set_other}
 use Rattle.v8.proofs.Choice.{cond_both}
-use Rattle.policy.specs.Policy.{size_of, count_of, place_of, field_at, field_end}
+use Rattle.policy.specs.Policy.{size_of, count_of, place_of, no_field, field_at, field_end}
 use Rattle.v8.specs.Numbers.{acceptance}
 use Rattle.policy.specs.Build.{with_field, field_number, built}
 use Rattle.policy.specs.Laws.{FieldRules, WellFormed, FieldAccepted, Sized, Sound, FieldSound}
@@ -55,37 +55,13 @@ module _ (p : Policy) (r : ℕ) (f : Field) (s : Sized p) (a : FieldAccepted p r
   count_other : (q : ℕ) → (q ≡ r → ⊥) → count_of grown q ≡ count_of p q
   count_other q d = get_or-set_other p.regions.fields r q (count + 1) 0 d
 
-  here : (xs : List ℕ) (v : ℕ) → length xs ≡ 128 → get_or (set xs place v) place 0 ≡ v
-  here xs v e = get_or-set_same xs place v 0 (omega (arith, place_in))
-
   field_here : field_at grown place ≡ f
   unfolding field_at
-  field_here =
-      simp (
-        here p.fields.elements f.element s.elements,
-        here p.fields.permissions f.permission s.permissions,
-        here p.values.targets f.target s.targets,
-        here p.fields.offsets f.offset.0 s.offsets,
-        here p.fields.counts f.count s.counts,
-        here p.values.lows f.lo s.lows,
-        here p.values.highs f.hi s.highs,
-      )
-
-  other : (i : ℕ) → (i ≡ place → ⊥) → (xs : List ℕ) (v : ℕ) → get_or (set xs place v) i 0 ≡ get_or xs i 0
-  other i d xs v = get_or-set_other xs place i v 0 d
+  field_here = get_or-set_same p.fields place f no_field (omega (arith, s.places, place_in))
 
   field_other : (i : ℕ) → (i ≡ place → ⊥) → field_at grown i ≡ field_at p i
   unfolding field_at
-  field_other i d =
-      simp (
-        other i d p.fields.elements f.element,
-        other i d p.fields.permissions f.permission,
-        other i d p.values.targets f.target,
-        other i d p.fields.offsets f.offset.0,
-        other i d p.fields.counts f.count,
-        other i d p.values.lows f.lo,
-        other i d p.values.highs f.hi,
-      )
+  field_other i d = get_or-set_other p.fields place i f no_field d
 
   -- the fields of the policy given stand at other places
   elsewhere : (q k : ℕ) → q < p.regions.count → k < count_of p q → place_of q k ≡ place → ⊥
@@ -135,13 +111,7 @@ module _ (p : Policy) (r : ℕ) (f : Field) (s : Sized p) (a : FieldAccepted p r
             record {
               sizes = s.sizes;
               fields = simp length-set s.fields;
-              elements = simp length-set s.elements;
-              permissions = simp length-set s.permissions;
-              targets = simp length-set s.targets;
-              offsets = simp length-set s.offsets;
-              counts = simp length-set s.counts;
-              lows = simp length-set s.lows;
-              highs = simp length-set s.highs;
+              places = simp length-set s.places;
             };
         ok =
             passes grown

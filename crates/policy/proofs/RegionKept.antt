@@ -29,13 +29,7 @@ empty_sound =
           record {
             sizes = refl;
             fields = refl;
-            elements = refl;
-            permissions = refl;
-            targets = refl;
-            offsets = refl;
-            counts = refl;
-            lows = refl;
-            highs = refl;
+            places = refl;
           };
       ok = refl;
     }
@@ -117,13 +111,7 @@ module _ (p : Policy) (size : ℕ) (s : Sized p) (a : RegionAccepted p size) whe
             record {
               sizes = simp length-set s.sizes;
               fields = simp length-set s.fields;
-              elements = s.elements;
-              permissions = s.permissions;
-              targets = s.targets;
-              offsets = s.offsets;
-              counts = s.counts;
-              lows = s.lows;
-              highs = s.highs;
+              places = s.places;
             };
         ok =
             passes next

@@ -14,20 +14,19 @@ use Rattle.v8.proofs.Choice.{cond_went, cond_both, or_went, or_failed}
 use Rattle.v8.specs.Search.{first}
 use Rattle.v8.proofs.Search.{first_from, first_passes, first_least, first_is, neither_less, needed_le}
 use Rattle.policy.specs.Element.{width_of}
-use Rattle.policy.specs.Policy.{count_of, place_of, elements_end, field_at}
+use Rattle.policy.specs.Policy.{count_of, place_of, no_field, field_end, field_at}
 use Rattle.policy_search.specs.Find.{holds_in, stop_of, holder_in, ends_at, last_place, found_at, find_in, looked_at, find_field, field_holding, fields_looked}
 use Rattle.policy.specs.Laws.{WellFormed, Holds}
 use Rattle.policy_search.specs.Laws.{FoundHere, FoundHolds, NoneHolds, EndsEarly, Ends, UpToEnd, OneCount, CountsLooked, FoundLast, Finds}
 use Rattle.policy.specs.declared.Policy.{Policy}
 use Rattle.policy_search.specs.declared.Search.{Search}
-use Rattle.policy_search.specs.declared.Found.{Found}
-use Rattle.policy_search.specs.declared.Found.TheVariants.{At, Nothing}
+use Rattle.std.specs.Prelude.{Option, Some, None}
 use Rattle.policy.proofs.Bytes.{begins, before, held_by_one}
 
-not_found : (i : ℕ) → ◌≡◌ {A = Found} Nothing (At i) → ⊥
+not_found : (i : ℕ) → ◌≡◌ {A = Option ℕ} None (Some i) → ⊥
 not_found i z = let y : ◌≡◌ {A = ℕ} 0 1 = cc in omega arith
 
-found_is : (i j : ℕ) → At i ≡ At j → i ≡ j
+found_is : (i j : ℕ) → Some i ≡ Some j → i ≡ j
 found_is i j e = cc
 
 -- what is found, of all that a search gives
@@ -45,17 +44,17 @@ record Stop (n r stop : ℕ) : Type 0 where
 
 module _ (p : Policy) (r low end : ℕ) where
   abbrev holds_at : ℕ → Bool
-  holds_at = holds_in p.fields.elements p.fields.offsets p.fields.counts low end
+  holds_at = holds_in p.fields low end
 
   abbrev ends : ℕ → Bool
-  ends = ends_at p.fields.elements p.fields.offsets p.fields.counts low end
+  ends = ends_at p.fields low end
 
   abbrev stop : ℕ
   stop = stop_of p.regions.fields r
 
   -- where the search ends
   abbrev place : ℕ
-  place = last_place p.regions.fields p.fields.elements p.fields.offsets p.fields.counts r low end
+  place = last_place p.regions.fields p.fields r low end
 
   stop_is : Stop (count_of p r) r stop
   unfolding stop_of
@@ -67,8 +66,8 @@ module _ (p : Policy) (r low end : ℕ) where
   holds_of : (i : ℕ) → holds_at i ≡ true → Holds (field_at p i) low end
   unfolding holds_in field_at
   holds_of i h = (
-    needed_le _ (get_or p.fields.offsets i 0) low h (λ e. simp e),
-    needed_le _ end (elements_end (get_or p.fields.elements i 0) (get_or p.fields.offsets i 0) (get_or p.fields.counts i 0)) h (λ e. simp (e, and-false)),
+    needed_le _ (get_or p.fields i no_field).offset.0 low h (λ e. simp e),
+    needed_le _ end (field_end (get_or p.fields i no_field)) h (λ e. simp (e, and-false)),
   )
 
   of_holds : (i : ℕ) → Holds (field_at p i) low end → holds_at i ≡ true
@@ -82,12 +81,12 @@ module _ (p : Policy) (r low end : ℕ) where
   place_from = first_from ends (16 * r) stop
 
   -- the search passed by a field: it does not hold the bytes, and does not begin past them
-  passed : (i : ℕ) → 16 * r ≤ i → i < place → (holds_at i ≡ false) × (ltb low (get_or p.fields.offsets i 0) ≡ false)
-  passed i a b = or_failed (holds_at i) (ltb low (get_or p.fields.offsets i 0)) (first_least ends (16 * r) stop i a b)
+  passed : (i : ℕ) → 16 * r ≤ i → i < place → (holds_at i ≡ false) × (ltb low (get_or p.fields i no_field).offset.0 ≡ false)
+  passed i a b = or_failed (holds_at i) (ltb low (get_or p.fields i no_field).offset.0) (first_least ends (16 * r) stop i a b)
 
   -- the search ended at a field
-  ended : {C : Type 0} → place < stop → (holds_at place ≡ true → C) → (ltb low (get_or p.fields.offsets place 0) ≡ true → C) → C
-  ended l = or_went (holds_at place) (ltb low (get_or p.fields.offsets place 0)) (first_passes ends (16 * r) stop l)
+  ended : {C : Type 0} → place < stop → (holds_at place ≡ true → C) → (ltb low (get_or p.fields place no_field).offset.0 ≡ true → C) → C
+  ended l = or_went (holds_at place) (ltb low (get_or p.fields place no_field).offset.0) (first_passes ends (16 * r) stop l)
 
   -- .. and that one holds the bytes
   here : r < 8 → place < stop → holds_at place ≡ true → FoundHere p r low end place
@@ -124,7 +123,7 @@ module _ (p : Policy) (r low end : ℕ) where
     before : place < stop
     holds : holds_at place ≡ true
 
-  found_end : (i : ℕ) → find_field p r low end ≡ At i → FoundEnd i
+  found_end : (i : ℕ) → find_field p r low end ≡ Some i → FoundEnd i
   unfolding find_in
   found_end i e =
       cond_went _ _ _ _ e
@@ -184,11 +183,11 @@ module _ (p : Policy) (r low end : ℕ) where
     unfolding find_in holder_in
     early =
         rw (lt-ltb r 8 few)
-        (cond_both (λ (x : Found). x ≡ found_at lowest stop) (ltb place stop && holds_at place)
+        (cond_both (λ (x : Option ℕ). x ≡ found_at lowest stop) (ltb place stop && holds_at place)
         (λ t. let h = (and-eq-true_iff (ltb place stop) (holds_at place)).0 t in
         let z : lowest ≡ place = first_is holds_at (16 * r) stop place place_from (ltb-true _ _ h.0) h.1 (λ k a b. (passed k a b).0) in
         rw (z, h.0))
-        (λ t. cond_both (λ (x : Found). Nothing ≡ x) (ltb lowest stop) (λ u. absurd (not_lowest t (ltb-true lowest stop u))) (λ u. refl)))
+        (λ t. cond_both (λ (x : Option ℕ). None ≡ x) (ltb lowest stop) (λ u. absurd (not_lowest t (ltb-true lowest stop u))) (λ u. refl)))
 
     counts : UpToEnd p r low end (fields_looked p r low end)
     counts =
@@ -244,8 +243,8 @@ counts_looked p w r low end l = counts p r low end w l
 pub finds : Finds
 finds p w r k low end l m a h = decide (find_field p r low end) refl
   where
-    decide : (x : Found) → find_field p r low end ≡ x → find_field p r low end ≡ At (place_of r k)
-    decide (At i) e =
+    decide : (x : Option ℕ) → find_field p r low end ≡ x → find_field p r low end ≡ Some (place_of r k)
+    decide (Some i) e =
         let f = found_holds p r low end i e in
         rw (held_by_one p w r k f.index low end l m f.counted a h f.holds, ← f.here) e
-    decide Nothing e = absurd (none_holds p w r k low end l m e h)
+    decide None e = absurd (none_holds p w r k low end l m e h)

@@ -7,8 +7,7 @@ use borrow.Author.Tests.{ltb-true}
 use Rattle.policy.specs.declared.Policy.{Policy}
 use Rattle.policy_search.specs.declared.Search.{Search}
 use Rattle.policy_search.specs.declared.FieldSearch.{FieldSearch}
-use Rattle.policy_search.specs.declared.Found.{Found}
-use Rattle.policy_search.specs.declared.Found.TheVariants.{Nothing}
+use Rattle.std.specs.Prelude.{Option, None}
 use Rattle.policy.specs.Policy.{policy_ok}
 use Rattle.policy_search.specs.Find.{find_field, field_holding, fields_looked, search_of}
 use Rattle.policy.proofs.WellFormed.{obeys}
@@ -23,14 +22,14 @@ module _ (p : Policy) (r low end : ℕ) where
   same t = let g = (and-eq-true_iff (policy_ok p) (ltb r p.regions.count)).0 t in ends_early p (obeys p g.0) r low end (ltb-true r _ g.1)
 
   -- what is given of a search in a policy that obeys the rules
-  abbrev given : Found → ℕ → FieldSearch
+  abbrev given : Option ℕ → ℕ → FieldSearch
   given found looked = record { number = 0; found = found; looked = looked }
 
   accepted : tested ≡ true → (s : Search) → s ≡ record { found = find_field p r low end; looked = fields_looked p r low end } → given s.found s.looked ≡ search_of p r low end
   unfolding search_of
   accepted t s e = rw (t, ← same t) (ap (λ (x : Search). given x.found x.looked) e)
 
-  refused : tested ≡ false → record { number = 20; found = Nothing; looked = 0 } ≡ search_of p r low end
+  refused : tested ≡ false → record { number = 20; found = None; looked = 0 } ≡ search_of p r low end
   unfolding search_of
   refused t = rw t
 

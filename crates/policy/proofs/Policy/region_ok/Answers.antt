@@ -1,5 +1,4 @@
--- The test of a region is the one that is defined. Invariant: the fields below k obey the rules, and `end` is where they end. Measure: the
--- fields left.
+-- The test of a region is the one that is defined. Invariant: the fields below k obey the rules, and `end` is where they end. 
 use Prim.Native.Nat.{ℕ, ◌≤◌}
 use mathlib.Core.Bool.{true, and-false}
 use mathlib.Core.Path.{◌≡◌, refl, sym, ◌∙◌}
@@ -31,24 +30,21 @@ returns-then-count-gt16 c = simp (sym c.size_ok.ensures ∙ c.if-not-size_ok.fal
 pub loop-k-init : goal.loop-k-init
 loop-k-init c = (search rules, all_none _, end_first _ _)
 
-pub field_in-f-requires : goal.field_in-f-requires
-field_in-f-requires c = omega arith
-
 pub returns-then-not-field_follows : goal.returns-then-not-field_follows
 unfolding region_ok field_at
 returns-then-not-field_follows c =
     let a = c.args in
-    let e = sym (follows_is a.p a.r c.loop-k.k _ _ c.field_in-f.ensures c.loop-k.invariant.2) ∙ sym c.field_follows.ensures ∙ c.if-not-field_follows.true in
-    simp (all_not (field_at_ok a.p a.r) _ _ c.loop-k-test.true e, and-false)
+    let e = sym (follows_is a.self.now a.r c.loop-k.k _ _ refl c.loop-k.invariant.2) ∙ sym c.field_follows.ensures ∙ c.if-not-field_follows.true in
+    simp (all_not (field_at_ok a.self.now a.r) _ _ c.loop-k-test.true e, and-false)
 
 pub loop-k-preserved : goal.loop-k-preserved
 unfolding field_at
 loop-k-preserved c =
     let a = c.args in
-    let e = sym (follows_is a.p a.r c.loop-k.k _ _ c.field_in-f.ensures c.loop-k.invariant.2) ∙ sym c.field_follows.ensures ∙ c.if-not-field_follows.false in (
+    let e = sym (follows_is a.self.now a.r c.loop-k.k _ _ refl c.loop-k.invariant.2) ∙ sym c.field_follows.ensures ∙ c.if-not-field_follows.false in (
       omega (arith, c.loop-k-test.true),
       all_more _ _ c.loop-k.invariant.1 e,
-      end_next a.p a.r c.loop-k.k _ _ c.field_in-f.ensures c.elements_end-end.ensures,
+      end_next a.self.now a.r c.loop-k.k _ _ refl c.end-end.ensures,
     )
 
 pub returns : goal.returns

@@ -1,4 +1,4 @@
-use Prim.Native.Nat.{◌≤◌, ◌-◌}
+use Prim.Native.Nat.{◌≤◌}
 use mathlib.Core.Bool.{true}
 use mathlib.Core.Path.{◌≡◌}
 use Rattle.v8.specs.Search.{all}
@@ -6,7 +6,4 @@ use Rattle.policy.specs.Policy.{field_at_ok, end_before}
 use Rattle.policy.proofs.Policy.region_ok.Given as goal
 
 abbrev pub invariant-loop-k : goal.invariant-loop-k
-invariant-loop-k l = (l.k ≤ l.count) × (all (field_at_ok l.p l.r) l.k ≡ true) × (l.end ≡ end_before l.p l.r l.k)
-
-abbrev pub decreases-loop-k : goal.decreases-loop-k
-decreases-loop-k l = l.count - l.k
+invariant-loop-k l = (l.k ≤ l.count) × (all (field_at_ok l.self l.r) l.k ≡ true) × (l.end ≡ end_before l.self l.r l.k)

@@ -20,7 +20,7 @@ pub returns-then-not-region_ok : goal.returns-then-not-region_ok
 unfolding policy_ok
 returns-then-not-region_ok c =
     simp (
-      all_not (region_ok c.args.self) _ _ c.loop-r-test.true (sym c.region_ok.ensures ∙ c.if-not-region_ok.true),
+      all_not (region_ok c.args.self.now) _ _ c.loop-r-test.true (sym c.region_ok.ensures ∙ c.if-not-region_ok.true),
       and-false,
     )
 

@@ -4,4 +4,4 @@ use Rattle.policy.proofs.form.field_ok.Goals as goal
 
 pub returns : goal.returns
 unfolding field_ok
-returns c = simp (c.width_of-width.ensures.0, c.elements_end-end.ensures, c.values_ok-values.ensures)
+returns c = simp (c.width_of-width.ensures.0, c.end-end.ensures, c.values_ok-values.ensures)

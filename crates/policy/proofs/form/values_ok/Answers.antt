@@ -5,9 +5,9 @@ use Rattle.policy.specs.Element.{least_of, most_of}
 use Rattle.policy.specs.Policy.{values_ok}
 use Rattle.policy.proofs.form.values_ok.Goals as goal
 
-pub returns-then-element-lt6 : goal.returns-then-element-lt6
+pub returns-then-f-lt6 : goal.returns-then-f-lt6
 unfolding values_ok least_of most_of
-returns-then-element-lt6 c = simp (lt-ltb _ _ c.if-element-lt6.true)
+returns-then-f-lt6 c = simp (lt-ltb _ _ c.if-f-lt6.true)
 
 pub returns : goal.returns
 unfolding values_ok least_of most_of
