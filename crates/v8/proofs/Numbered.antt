@@ -18,11 +18,11 @@ use Rattle.v8.specs.declared.ShiftOp.{ShiftOp}
 use Rattle.v8.specs.declared.ShiftOp.TheVariants.{Sll, Srl, Sra}
 use Rattle.v8.specs.declared.LoadOp.TheVariants.{Ld, Ldub, Lduh, Ldsb, Ldsh}
 use Rattle.v8.specs.declared.StoreOp.TheVariants.{St, Stb, Sth}
+use Rattle.v8.specs.declared.Operand.{Operand}
 use Rattle.v8.specs.declared.Access.{Access}
 use Rattle.v8.specs.declared.Access.TheVariants.{Loads, Stores}
 use Rattle.v8.specs.declared.Reading.{Reading}
-use Rattle.v8.specs.declared.read.OperandReading.{OperandReading}
-use Rattle.v8.specs.declared.read.OperandReading.TheVariants.{Second, Reserved}
+use Rattle.std.specs.Prelude.{Option, Some, None}
 use Rattle.v8.specs.Read.{reading_of, predicted_of, format00, format10, format11, operand_of, count_of, alu_with, shift_with, memory_with, alu_op_of, privileged10, privileged11}
 use Rattle.v8.specs.Laws.{is_privileged, NumberedBy, ReadsNumbered}
 
@@ -31,17 +31,17 @@ plain : (p : Bool) → p ≡ false → not_read ≡ cond p privileged not_read
 plain p e = rw e
 
 -- instructions, by their second operand
-alu-with : (p : Bool) (op : AluOp) (cc : Bool) (w : ℕ) (x : OperandReading) → p ≡ false → NumberedBy p (alu_with op cc w x)
-alu-with p op cc w (Second x) e = e
-alu-with p op cc w Reserved e = plain p e
+alu-with : (p : Bool) (op : AluOp) (cc : Bool) (w : ℕ) (x : Option Operand) → p ≡ false → NumberedBy p (alu_with op cc w x)
+alu-with p op cc w (Some x) e = e
+alu-with p op cc w None e = plain p e
 
-shift-with : (p : Bool) (op : ShiftOp) (w : ℕ) (x : OperandReading) → p ≡ false → NumberedBy p (shift_with op w x)
-shift-with p op w (Second x) e = e
-shift-with p op w Reserved e = plain p e
+shift-with : (p : Bool) (op : ShiftOp) (w : ℕ) (x : Option Operand) → p ≡ false → NumberedBy p (shift_with op w x)
+shift-with p op w (Some x) e = e
+shift-with p op w None e = plain p e
 
-memory-with : (p : Bool) (a : Access) (w : ℕ) (x : OperandReading) → p ≡ false → NumberedBy p (memory_with a w x)
-memory-with p a w (Second x) e = e
-memory-with p a w Reserved e = plain p e
+memory-with : (p : Bool) (a : Access) (w : ℕ) (x : Option Operand) → p ≡ false → NumberedBy p (memory_with a w x)
+memory-with p a w (Some x) e = e
+memory-with p a w None e = plain p e
 
 -- no opcode of theirs is privileged
 shift_plain : (op : ShiftOp) → privileged10 (shift_at op) ≡ false

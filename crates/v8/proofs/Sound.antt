@@ -14,15 +14,15 @@ use Rattle.v8.specs.declared.Edition.TheVariants.{V8, V9}
 use Rattle.v8.specs.declared.AluOp.{AluOp}
 use Rattle.v8.specs.declared.ShiftOp.{ShiftOp}
 use Rattle.v8.specs.declared.Operand.TheVariants.{Reg, Imm}
+use Rattle.v8.specs.declared.Operand.{Operand}
 use Rattle.v8.specs.declared.Access.{Access}
-use Rattle.v8.specs.declared.read.OperandReading.{OperandReading}
-use Rattle.v8.specs.declared.read.OperandReading.TheVariants.{Second, Reserved}
+use Rattle.std.specs.Prelude.{Option, Some, None}
 use Rattle.v8.specs.Read.{reading_of, predicted_of, format00, format10, format11, operand_of, count_of, alu_with, shift_with, memory_with, alu_op_of, privileged10, privileged11, refused}
 use Rattle.v8.specs.Laws.{OperandSmall, ReadingSound, ReadsSound}
 
-abbrev SecondSmall : OperandReading → Type 0
-SecondSmall (Second x) = OperandSmall x
-SecondSmall Reserved = Unit {0}
+abbrev SecondSmall : Option Operand → Type 0
+SecondSmall (Some x) = OperandSmall x
+SecondSmall None = Unit {0}
 
 extended : (x : ℕ) → x < 2 ^ 13 → sign_extend 13 x < 4294967296
 unfolding sign_extend
@@ -40,18 +40,18 @@ count_small w =
     cond_both SecondSmall (eqb (unused_of w) 0)
     (λ _. cond_both SecondSmall (eqb (i_of w) 1) (λ _. omega arith) (λ _. omega arith)) (λ _. tt)
 
-alu-with : (op : AluOp) (cc : Bool) (w : ℕ) (x : OperandReading) → SecondSmall x → ReadingSound (alu_with op cc w x)
-alu-with op cc w (Second x) l = (omega arith, omega arith, l)
-alu-with op cc w Reserved l = refl
+alu-with : (op : AluOp) (cc : Bool) (w : ℕ) (x : Option Operand) → SecondSmall x → ReadingSound (alu_with op cc w x)
+alu-with op cc w (Some x) l = (omega arith, omega arith, l)
+alu-with op cc w None l = refl
 
-shift-with : (op : ShiftOp) (w : ℕ) (x : OperandReading) → SecondSmall x → ReadingSound (shift_with op w x)
-shift-with op w (Second x) l = (omega arith, omega arith, l)
-shift-with op w Reserved l = refl
+shift-with : (op : ShiftOp) (w : ℕ) (x : Option Operand) → SecondSmall x → ReadingSound (shift_with op w x)
+shift-with op w (Some x) l = (omega arith, omega arith, l)
+shift-with op w None l = refl
 
-memory-with : (a : Access) (w : ℕ) (x : OperandReading) → SecondSmall x → ReadingSound (memory_with a w x)
-memory-with a w (Second (Reg r)) l = (omega arith, omega arith, l)
-memory-with a w (Second (Imm v)) l = (omega arith, omega arith, l)
-memory-with a w Reserved l = refl
+memory-with : (a : Access) (w : ℕ) (x : Option Operand) → SecondSmall x → ReadingSound (memory_with a w x)
+memory-with a w (Some (Reg r)) l = (omega arith, omega arith, l)
+memory-with a w (Some (Imm v)) l = (omega arith, omega arith, l)
+memory-with a w None l = refl
 
 refused_with : (t : Bool) → ReadingSound (refused t)
 refused_with true = refl

@@ -28,8 +28,7 @@ use Rattle.v8.specs.declared.Operand.{Operand}
 use Rattle.v8.specs.declared.Operand.TheVariants.{Reg, Imm}
 use Rattle.v8.specs.declared.Displacement.{Displacement}
 use Rattle.v8.specs.declared.Displacement.TheVariants.{Index, Bytes}
-use Rattle.writer.specs.declared.Part.{Part}
-use Rattle.writer.specs.declared.Part.TheVariants.{Bits}
+use Rattle.std.specs.Prelude.{Option, Some}
 
 signed_fits : (n i k v : ℕ) → i + v % 2 ^ n < 2 ^ k → Fits k (signed_bits n i v)
 unfolding signed_bits
@@ -57,7 +56,7 @@ branch_fits V8 (Predicted hint) v = tt
 branch_fits V9 (Predicted true) v = signed_fits 19 (1 * 2 ^ 22 + 2 ^ 19) 25 v (omega arith)
 branch_fits V9 (Predicted false) v = signed_fits 19 (1 * 2 ^ 22 + 0) 25 v (omega arith)
 
-pub branch_below : (e : Edition) (x : Bicc) (b : ℕ) {low : Part} → low ≡ branch_bits e x.form x.distance.0 → low ≡ Bits b → b < 2 ^ 25
+pub branch_below : (e : Edition) (x : Bicc) (b : ℕ) {low : Part} → low ≡ branch_bits e x.form x.distance.0 → low ≡ Some b → b < 2 ^ 25
 branch_below e x b h k = rw (← h, k) at (branch_fits e x.form x.distance.0)
 
 pub alu_small : (op : AluOp) → alu_code op < 8

@@ -37,19 +37,15 @@ use Rattle.v8.specs.declared.Instruction.{Instruction}
 use Rattle.v8.specs.declared.Instruction.TheVariants.{Plain, Return}
 use Rattle.v8.specs.declared.Reading.{Reading}
 use Rattle.v8.specs.declared.Reading.TheVariants.{Read}
-use Rattle.writer.specs.declared.Writing.TheVariants.{Written}
-use Rattle.v8.specs.declared.read.OperandReading.{OperandReading}
-use Rattle.v8.specs.declared.read.OperandReading.TheVariants.{Second, Reserved}
-use Rattle.writer.specs.declared.Part.{Part}
-use Rattle.writer.specs.declared.Part.TheVariants.{Bits}
+use Rattle.std.specs.Prelude.{Option, Some, None}
 
 read : {x y : Instruction} → Read x ≡ Read y → x ≡ y
 read e = cc
 
-second : {x y : Operand} → Second x ≡ Second y → x ≡ y
+second : {x y : Operand} → Some x ≡ Some y → x ≡ y
 second e = cc
 
-reserved : {A : Type 0} {x : Operand} → Reserved ≡ Second x → A
+reserved : {A : Type 0} {x : Operand} → None ≡ Some x → A
 reserved e = let z : ◌≡◌ {A = ℕ} 0 1 = cc in absurd (omega arith)
 
 -- ---- the parts
@@ -68,11 +64,11 @@ extended n f h k =
     multiple = add_comm f (2 ^ 32 - 2 ^ n) ∙ ap (λ (m : ℕ). m + f) (ap (λ (m : ℕ). 2 ^ m - 2 ^ n) (whole n h) ∙ high_ones (32 - n) n)
 
 -- a sign-extended field is written as the field
-signed_kept : (n i f : ℕ) → sign_extend n f % 2 ^ n ≡ f → signed_bits n i (sign_extend n f) ≡ Bits (i + f)
+signed_kept : (n i f : ℕ) → sign_extend n f % 2 ^ n ≡ f → signed_bits n i (sign_extend n f) ≡ Some (i + f)
 unfolding signed_bits
 signed_kept n i f e = simp (e, eq-eqb (sign_extend n f) _ refl)
 
-five_kept : (i v : ℕ) → v < 32 → five_bits i v ≡ Bits (i + v)
+five_kept : (i v : ℕ) → v < 32 → five_bits i v ≡ Some (i + v)
 unfolding five_bits
 five_kept i v h = simp (lt-ltb v 32 h)
 
@@ -89,27 +85,27 @@ low_five w h =
 low_reg : (w : ℕ) → (i_of w ≡ 1 → ⊥) → unused_of w ≡ 0 → 0 + rs2_of w ≡ w % 2 ^ 14
 low_reg w h u = let i : i_of w ≡ 0 = omega arith in let l = low_five w u in omega arith
 
-operand_kept : (w : ℕ) (x : Operand) → operand_of w ≡ Second x → operand_bits x ≡ Bits (w % 2 ^ 14)
+operand_kept : (w : ℕ) (x : Operand) → operand_of w ≡ Some x → operand_bits x ≡ Some (w % 2 ^ 14)
 unfolding operand_of
 operand_kept w x e =
     cond_went (eqb (i_of w) 1) _ _ _ e
-    (λ t q. rw (← second q) (signed_kept 13 i_bit (simm13_of w) (extended 13 (simm13_of w) (omega arith) (omega arith)) ∙ ap Bits (low_imm w (eqb-true _ _ t))))
+    (λ t q. rw (← second q) (signed_kept 13 i_bit (simm13_of w) (extended 13 (simm13_of w) (omega arith) (omega arith)) ∙ ap Some (low_imm w (eqb-true _ _ t))))
     (λ f q.
     cond_went (eqb (unused_of w) 0) _ _ _ q
-    (λ t q. rw (← second q) (five_kept 0 (rs2_of w) (omega arith) ∙ ap Bits (low_reg w (eqb-false _ _ f) (eqb-true _ _ t))))
+    (λ t q. rw (← second q) (five_kept 0 (rs2_of w) (omega arith) ∙ ap Some (low_reg w (eqb-false _ _ f) (eqb-true _ _ t))))
     (λ g q. reserved q))
 
 low_count : (w : ℕ) → i_of w ≡ 1 → unused_of w ≡ 0 → i_bit + rs2_of w ≡ w % 2 ^ 14
 low_count w h u = let l = low_five w u in omega arith
 
-count_kept : (w : ℕ) (x : Operand) → count_of w ≡ Second x → count_bits x ≡ Bits (w % 2 ^ 14)
+count_kept : (w : ℕ) (x : Operand) → count_of w ≡ Some x → count_bits x ≡ Some (w % 2 ^ 14)
 unfolding count_of
 count_kept w x e =
     cond_went (eqb (unused_of w) 0) _ _ _ e
     (λ g q.
     cond_went (eqb (i_of w) 1) _ _ _ q
-    (λ t q. rw (← second q) (five_kept i_bit (rs2_of w) (omega arith) ∙ ap Bits (low_count w (eqb-true _ _ t) (eqb-true _ _ g))))
-    (λ t q. rw (← second q) (five_kept 0 (rs2_of w) (omega arith) ∙ ap Bits (low_reg w (eqb-false _ _ t) (eqb-true _ _ g)))))
+    (λ t q. rw (← second q) (five_kept i_bit (rs2_of w) (omega arith) ∙ ap Some (low_count w (eqb-true _ _ t) (eqb-true _ _ g))))
+    (λ t q. rw (← second q) (five_kept 0 (rs2_of w) (omega arith) ∙ ap Some (low_reg w (eqb-false _ _ t) (eqb-true _ _ g)))))
     (λ g q. reserved q)
 
 displacement_kept : (x : Operand) → displacement_bits (displacement_of x) ≡ operand_bits x
@@ -127,30 +123,30 @@ unpacked w =
     let d3 : w / 16384 / 32 ≡ w / 524288 = omega arith in
     omega arith
 
-packed_kept : (w op op3 : ℕ) (low : Part) → op_of w ≡ op → op3_of w ≡ op3 → low ≡ Bits (w % 2 ^ 14) → packed op (rd_of w) op3 (rs1_of w) low ≡ Written w
+packed_kept : (w op op3 : ℕ) (low : Option ℕ) → op_of w ≡ op → op3_of w ≡ op3 → low ≡ Some (w % 2 ^ 14) → packed op (rd_of w) op3 (rs1_of w) low ≡ Some w
 unfolding packed
 packed_kept w op op3 low p q r =
     rw (← p, ← q, r)
-    (simp (lt-ltb (rd_of w) 32 (omega arith), lt-ltb (rs1_of w) 32 (omega arith)) (ap Written (unpacked w)))
+    (simp (lt-ltb (rd_of w) 32 (omega arith), lt-ltb (rs1_of w) 32 (omega arith)) (ap Some (unpacked w)))
 
-alu_kept : (v : Edition) (w : ℕ) (op : AluOp) (cc : Bool) (x : Instruction) (o : OperandReading) → op_of w ≡ 2 → op3_of w ≡ alu_code_cc op cc → operand_of w ≡ o → alu_with op cc w o ≡ Read x → writing_of v x ≡ Written w
+alu_kept : (v : Edition) (w : ℕ) (op : AluOp) (cc : Bool) (x : Instruction) (o : Option Operand) → op_of w ≡ 2 → op3_of w ≡ alu_code_cc op cc → operand_of w ≡ o → alu_with op cc w o ≡ Read x → writing_of v x ≡ Some w
 unfolding writing_of
-alu_kept v w op cc x (Second o) p q r e = rw (← read e) (packed_kept w 2 _ _ p q (operand_kept w o r))
-alu_kept v w op cc x Reserved p q r e = unread e
+alu_kept v w op cc x (Some o) p q r e = rw (← read e) (packed_kept w 2 _ _ p q (operand_kept w o r))
+alu_kept v w op cc x None p q r e = unread e
 
-shift_kept : (v : Edition) (w : ℕ) (op : ShiftOp) (x : Instruction) (o : OperandReading) → op_of w ≡ 2 → op3_of w ≡ shift_code op → count_of w ≡ o → shift_with op w o ≡ Read x → writing_of v x ≡ Written w
+shift_kept : (v : Edition) (w : ℕ) (op : ShiftOp) (x : Instruction) (o : Option Operand) → op_of w ≡ 2 → op3_of w ≡ shift_code op → count_of w ≡ o → shift_with op w o ≡ Read x → writing_of v x ≡ Some w
 unfolding writing_of
-shift_kept v w op x (Second o) p q r e = rw (← read e) (packed_kept w 2 _ _ p q (count_kept w o r))
-shift_kept v w op x Reserved p q r e = unread e
+shift_kept v w op x (Some o) p q r e = rw (← read e) (packed_kept w 2 _ _ p q (count_kept w o r))
+shift_kept v w op x None p q r e = unread e
 
-memory_kept : (v : Edition) (w : ℕ) (a : Access) (x : Instruction) (o : OperandReading) → op_of w ≡ 3 → op3_of w ≡ access_code a → operand_of w ≡ o → memory_with a w o ≡ Read x → writing_of v x ≡ Written w
+memory_kept : (v : Edition) (w : ℕ) (a : Access) (x : Instruction) (o : Option Operand) → op_of w ≡ 3 → op3_of w ≡ access_code a → operand_of w ≡ o → memory_with a w o ≡ Read x → writing_of v x ≡ Some w
 unfolding writing_of
-memory_kept v w a x (Second o) p q r e = rw (← read e) (packed_kept w 3 _ _ p q (displacement_kept o ∙ operand_kept w o r))
-memory_kept v w a x Reserved p q r e = unread e
+memory_kept v w a x (Some o) p q r e = rw (← read e) (packed_kept w 3 _ _ p q (displacement_kept o ∙ operand_kept w o r))
+memory_kept v w a x None p q r e = unread e
 
-return_kept : (v : Edition) (w : ℕ) (x : Instruction) → w ≡ leaf_return → Read Return ≡ Read x → writing_of v x ≡ Written w
+return_kept : (v : Edition) (w : ℕ) (x : Instruction) → w ≡ leaf_return → Read Return ≡ Read x → writing_of v x ≡ Some w
 unfolding writing_of
-return_kept v w x h e = rw (← read e) (ap Written (sym h))
+return_kept v w x h e = rw (← read e) (ap Some (sym h))
 
 -- ---- each is written with the opcode that it is read with
 
@@ -174,7 +170,7 @@ access-code (Stores Sth) = refl
 
 -- what is read is written back
 abbrev Kept : Edition → Instruction → ℕ → Reading → Type 0
-Kept v x w r = r ≡ Read x → writing_of v x ≡ Written w
+Kept v x w r = r ≡ Read x → writing_of v x ≡ Some w
 
 format10_kept : (v : Edition) (w : ℕ) (x : Instruction) → op_of w ≡ 2 → Kept v x w (format10 w)
 format10_kept v w x p =
@@ -190,10 +186,10 @@ format11_kept v w x p = format11_cases (Kept v x w) w (λ a e. memory_kept v w a
 
 -- ---- format 00
 
-sethi_kept : (v : Edition) (w : ℕ) → op_of w ≡ 0 → op2_of w ≡ 4 → writing_of v (Plain (Sethi (rd_of w) (low22_of w))) ≡ Written w
+sethi_kept : (v : Edition) (w : ℕ) → op_of w ≡ 0 → op2_of w ≡ 4 → writing_of v (Plain (Sethi (rd_of w) (low22_of w))) ≡ Some w
 unfolding writing_of sethi_word
 sethi_kept v w h k =
-    simp (lt-ltb (rd_of w) 32 (omega arith), lt-ltb (low22_of w) (2 ^ 22) (omega arith)) (ap Written (sum w h k))
+    simp (lt-ltb (rd_of w) 32 (omega arith), lt-ltb (low22_of w) (2 ^ 22) (omega arith)) (ap Some (sum w h k))
   where
     sum : (w : ℕ) → op_of w ≡ 0 → op2_of w ≡ 4 → rd_of w * 2 ^ 25 + 4 * 2 ^ 22 + low22_of w ≡ w
     sum w h k = omega arith
@@ -216,13 +212,13 @@ branch_sum : (w : ℕ) (t : Bool) → eqb (annul_of w) 1 ≡ t → op_of w ≡ 0
 branch_sum w true e h = branch_fields w 1 h (eqb-true (annul_of w) 1 e)
 branch_sum w false e h = branch_fields w 0 h (clear (w / 2 ^ 29) (eqb-false (annul_of w) 1 e))
 
-branch_kept : (v : Edition) (w : ℕ) (x : Instruction) (form : BranchForm) (d : ℕ) → op_of w ≡ 0 → branch_bits v form d ≡ Bits (w % 2 ^ 25) → Kept v x w (branch_of w form d)
+branch_kept : (v : Edition) (w : ℕ) (x : Instruction) (form : BranchForm) (d : ℕ) → op_of w ≡ 0 → branch_bits v form d ≡ Some (w % 2 ^ 25) → Kept v x w (branch_of w form d)
 unfolding writing_of
-branch_kept v w x form d h b e = rw (← read e, b) (simp (lt-ltb (cond_of w) 16 (omega arith)) (ap Written (branch_sum w _ refl h)))
+branch_kept v w x form d h b e = rw (← read e, b) (simp (lt-ltb (cond_of w) 16 (omega arith)) (ap Some (branch_sum w _ refl h)))
 
 -- the distance of either form, a field f of n bits below `head`
-distance_kept : (w n head f : ℕ) → n ≤ 32 → f < 2 ^ n → head + f ≡ w % 2 ^ 25 → signed_bits n head (sign_extend n f) ≡ Bits (w % 2 ^ 25)
-distance_kept w n head f h k s = signed_kept n head f (extended n f h k) ∙ ap Bits s
+distance_kept : (w n head f : ℕ) → n ≤ 32 → f < 2 ^ n → head + f ≡ w % 2 ^ 25 → signed_bits n head (sign_extend n f) ≡ Some (w % 2 ^ 25)
+distance_kept w n head f h k s = signed_kept n head f (extended n f h k) ∙ ap Some s
 
 predicted_fields : (w n : ℕ) → predict_of w ≡ n → op2_of w ≡ 1 → cc_of w ≡ 0 → 1 * 2 ^ 22 + n * 2 ^ 19 + low19_of w ≡ w % 2 ^ 25
 predicted_fields w n p h k =

@@ -35,35 +35,32 @@ use Rattle.v8.specs.declared.Operation.{Operation}
 use Rattle.v8.specs.declared.Operation.TheVariants.{Sethi, Alu, Shift, Memory}
 use Rattle.v8.specs.declared.Instruction.TheVariants.{Plain, Branch, Return}
 use Rattle.v8.specs.declared.Reading.TheVariants.{Read}
-use Rattle.writer.specs.declared.Writing.TheVariants.{Written, Unwritable}
-use Rattle.v8.specs.declared.read.OperandReading.TheVariants.{Second}
-use Rattle.writer.specs.declared.Part.{Part}
-use Rattle.writer.specs.declared.Part.TheVariants.{Bits, OutOfRange}
+use Rattle.std.specs.Prelude.{Option, Some, None}
 
-unwritable : {A : Type 0} {w : ℕ} → Unwritable ≡ Written w → A
+unwritable : {A : Type 0} {w : ℕ} → None ≡ Some w → A
 unwritable e = let z : ◌≡◌ {A = ℕ} 0 1 = cc in absurd (omega arith)
 
-out_of_range : {A : Type 0} {b : ℕ} → OutOfRange ≡ Bits b → A
+out_of_range : {A : Type 0} {b : ℕ} → None ≡ Some b → A
 out_of_range e = let z : ◌≡◌ {A = ℕ} 0 1 = cc in absurd (omega arith)
 
-written : {a b : ℕ} → Written a ≡ Written b → a ≡ b
+written : {a b : ℕ} → Some a ≡ Some b → a ≡ b
 written e = cc
 
-bits : {a b : ℕ} → Bits a ≡ Bits b → a ≡ b
+bits : {a b : ℕ} → Some a ≡ Some b → a ≡ b
 bits e = cc
 
 -- ---- the parts
 
 -- a signed number that fits is the sign extension of its bits
-signed-bits : {A : Type 0} (n i v b : ℕ) → signed_bits n i v ≡ Bits b → (v ≡ sign_extend n (v % 2 ^ n) → i + v % 2 ^ n ≡ b → A) → A
+signed-bits : {A : Type 0} (n i v b : ℕ) → signed_bits n i v ≡ Some b → (v ≡ sign_extend n (v % 2 ^ n) → i + v % 2 ^ n ≡ b → A) → A
 unfolding signed_bits
 signed-bits n i v b e k = cond_went (eqb v (sign_extend n (v % 2 ^ n))) _ _ _ e (λ t q. k (eqb-true _ _ t) (bits q)) (λ t q. out_of_range q)
 
-five-bits : {A : Type 0} (i v b : ℕ) → five_bits i v ≡ Bits b → (v < 32 → i + v ≡ b → A) → A
+five-bits : {A : Type 0} (i v b : ℕ) → five_bits i v ≡ Some b → (v < 32 → i + v ≡ b → A) → A
 unfolding five_bits
 five-bits i v b e k = cond_went (ltb v 32) _ _ _ e (λ t q. k (ltb-true _ _ t) (bits q)) (λ t q. out_of_range q)
 
-reg_read : (r b : ℕ) → r < 32 → 0 + r ≡ b → operand_of b ≡ Second (Reg r)
+reg_read : (r b : ℕ) → r < 32 → 0 + r ≡ b → operand_of b ≡ Some (Reg r)
 unfolding operand_of
 reg_read r b h e =
     let i : i_of b ≡ 0 = omega arith in
@@ -71,18 +68,18 @@ reg_read r b h e =
     let n : rs2_of b ≡ r = omega arith in
     simp (i, u, n)
 
-imm_read : (v b : ℕ) → v ≡ sign_extend 13 (v % 2 ^ 13) → i_bit + v % 2 ^ 13 ≡ b → operand_of b ≡ Second (Imm v)
+imm_read : (v b : ℕ) → v ≡ sign_extend 13 (v % 2 ^ 13) → i_bit + v % 2 ^ 13 ≡ b → operand_of b ≡ Some (Imm v)
 unfolding operand_of
 imm_read v b h e =
     let i : i_of b ≡ 1 = omega arith in
     let n : simm13_of b ≡ v % 2 ^ 13 = omega arith in
     simp (i, n, ← h)
 
-operand_read : (x : Operand) (b : ℕ) → operand_bits x ≡ Bits b → operand_of b ≡ Second x
+operand_read : (x : Operand) (b : ℕ) → operand_bits x ≡ Some b → operand_of b ≡ Some x
 operand_read (Reg r) b e = five-bits 0 r b e (reg_read r b)
 operand_read (Imm v) b e = signed-bits 13 i_bit v b e (imm_read v b)
 
-count_reg : (r b : ℕ) → r < 32 → 0 + r ≡ b → count_of b ≡ Second (Reg r)
+count_reg : (r b : ℕ) → r < 32 → 0 + r ≡ b → count_of b ≡ Some (Reg r)
 unfolding count_of
 count_reg r b h e =
     let i : i_of b ≡ 0 = omega arith in
@@ -90,7 +87,7 @@ count_reg r b h e =
     let n : rs2_of b ≡ r = omega arith in
     simp (i, u, n)
 
-count_imm : (v b : ℕ) → v < 32 → i_bit + v ≡ b → count_of b ≡ Second (Imm v)
+count_imm : (v b : ℕ) → v < 32 → i_bit + v ≡ b → count_of b ≡ Some (Imm v)
 unfolding count_of
 count_imm v b h e =
     let d : b / 2 ^ 5 ≡ 256 = omega arith in
@@ -99,7 +96,7 @@ count_imm v b h e =
     let n : rs2_of b ≡ v = omega arith in
     simp (i, u, n)
 
-count_read : (x : Operand) (b : ℕ) → count_bits x ≡ Bits b → count_of b ≡ Second x
+count_read : (x : Operand) (b : ℕ) → count_bits x ≡ Some b → count_of b ≡ Some x
 count_read (Reg r) b e = five-bits 0 r b e (count_reg r b)
 count_read (Imm v) b e = five-bits i_bit v b e (count_imm v b)
 
@@ -127,35 +124,35 @@ count_low w = simp (low_i w, low_unused w, low_rs2 w)
 -- ---- words of the formats 10 and 11
 
 -- the fields of a packed word
-record Packed (op rd op3 rs1 w : ℕ) (low : Part) : Type 0 where
+record Packed (op rd op3 rs1 w : ℕ) (low : Option ℕ) : Type 0 where
   b : ℕ
-  is : low ≡ Bits b
+  is : low ≡ Some b
   op_is : op_of w ≡ op
   rd_is : rd_of w ≡ rd
   op3_is : op3_of w ≡ op3
   rs1_is : rs1_of w ≡ rs1
   low_is : w % 2 ^ 14 ≡ b
 
-fields : (op rd op3 rs1 w b : ℕ) → op < 4 → op3 < 64 → b < 2 ^ 14 → rd < 32 → rs1 < 32 → pack_of op rd op3 rs1 b ≡ w → Packed op rd op3 rs1 w (Bits b)
+fields : (op rd op3 rs1 w b : ℕ) → op < 4 → op3 < 64 → b < 2 ^ 14 → rd < 32 → rs1 < 32 → pack_of op rd op3 rs1 b ≡ w → Packed op rd op3 rs1 w (Some b)
 unfolding pack_of
 fields op rd op3 rs1 w b h k l m n e =
     record { b = b; is = refl; op_is = omega arith; rd_is = omega arith; op3_is = omega arith; rs1_is = omega arith; low_is = omega arith }
 
-parts : (op rd op3 rs1 w : ℕ) (low : Part) → op < 4 → op3 < 64 → Fits 14 low → packed op rd op3 rs1 low ≡ Written w → Packed op rd op3 rs1 w low
+parts : (op rd op3 rs1 w : ℕ) (low : Option ℕ) → op < 4 → op3 < 64 → Fits 14 low → packed op rd op3 rs1 low ≡ Some w → Packed op rd op3 rs1 w low
 unfolding packed
-parts op rd op3 rs1 w (Bits b) h k l e =
+parts op rd op3 rs1 w (Some b) h k l e =
     cond_went (ltb rd 32) _ _ _ e
     (λ t q.
     cond_went (ltb rs1 32) _ _ _ q
     (λ u q. fields op rd op3 rs1 w b h k l (ltb-true _ _ t) (ltb-true _ _ u) (written q))
     (λ u q. unwritable q))
     (λ t q. unwritable q)
-parts op rd op3 rs1 w OutOfRange h k l e = unwritable e
+parts op rd op3 rs1 w None h k l e = unwritable e
 
-operand_at : {op rd op3 rs1 w : ℕ} (x : Operand) → Packed op rd op3 rs1 w (operand_bits x) → operand_of w ≡ Second x
+operand_at : {op rd op3 rs1 w : ℕ} (x : Operand) → Packed op rd op3 rs1 w (operand_bits x) → operand_of w ≡ Some x
 operand_at {w = w} x p = sym (operand_low w) ∙ ap operand_of p.low_is ∙ operand_read x p.b p.is
 
-count_at : {op rd op3 rs1 w : ℕ} (x : Operand) → Packed op rd op3 rs1 w (count_bits x) → count_of w ≡ Second x
+count_at : {op rd op3 rs1 w : ℕ} (x : Operand) → Packed op rd op3 rs1 w (count_bits x) → count_of w ≡ Some x
 count_at {w = w} x p = sym (count_low w) ∙ ap count_of p.low_is ∙ count_read x p.b p.is
 
 -- an address's second part is read as an operand
@@ -228,7 +225,7 @@ sethi_fields e rd imm22 w p q r =
     let v : low22_of w ≡ imm22 = omega arith in
     simp (op, op2, d, v)
 
-sethi_back : (e : Edition) (rd imm22 w : ℕ) → sethi_word rd imm22 ≡ Written w → reading_of e w ≡ Read (Plain (Sethi rd imm22))
+sethi_back : (e : Edition) (rd imm22 w : ℕ) → sethi_word rd imm22 ≡ Some w → reading_of e w ≡ Read (Plain (Sethi rd imm22))
 unfolding sethi_word
 sethi_back e rd imm22 w p =
     cond_went (ltb rd 32) _ _ _ p
@@ -265,7 +262,7 @@ predicted_read false v b w h l x s =
     let p = predicted_fields 0 (v % 2 ^ 19) b w (omega arith) (omega arith) l s in
     simp (h, p.op2_is, p.cc_is, p.hint_is, p.low_is, ← x)
 
-form_read : (e : Edition) (form : BranchForm) (v b w : ℕ) → branch_bits e form v ≡ Bits b → op_of w ≡ 0 → w % 2 ^ 25 ≡ b → reading_of e w ≡ branch_of w form v
+form_read : (e : Edition) (form : BranchForm) (v b w : ℕ) → branch_bits e form v ≡ Some b → op_of w ≡ 0 → w % 2 ^ 25 ≡ b → reading_of e w ≡ branch_of w form v
 form_read e Unpredicted v b w p h l = signed-bits 22 (2 * 2 ^ 22) v b p (unpredicted_read e v b w h l)
 form_read V8 (Predicted hint) v b w p h l = out_of_range p
 form_read V9 (Predicted hint) v b w p h l = signed-bits 19 (1 * 2 ^ 22 + cond hint (2 ^ 19) 0) v b p (predicted_read hint v b w h l)
@@ -284,7 +281,7 @@ branch_fields n cnd b w h k l e =
     top : w / 2 ^ 29 ≡ n
     top = omega arith
 
-branch_read : (e : Edition) (annul : Bool) (cnd : ℕ) (form : BranchForm) (v b w : ℕ) → branch_bits e form v ≡ Bits b → cnd < 16 → b < 2 ^ 25 → cond annul (2 ^ 29) 0 + cnd * 2 ^ 25 + b ≡ w → reading_of e w ≡ Read (Branch (record { annul = annul; cond = cnd; distance = record { 0 = v }; form = form }))
+branch_read : (e : Edition) (annul : Bool) (cnd : ℕ) (form : BranchForm) (v b w : ℕ) → branch_bits e form v ≡ Some b → cnd < 16 → b < 2 ^ 25 → cond annul (2 ^ 29) 0 + cnd * 2 ^ 25 + b ≡ w → reading_of e w ≡ Read (Branch (record { annul = annul; cond = cnd; distance = record { 0 = v }; form = form }))
 branch_read e true cnd form v b w p h k s =
     let f = branch_fields 1 cnd b w (omega arith) h k s in
     form_read e form v b w p f.op_is f.low_is ∙ rw (f.annul_is, f.cond_is)
@@ -292,18 +289,18 @@ branch_read e false cnd form v b w p h k s =
     let f = branch_fields 0 cnd b w (omega arith) h k s in
     form_read e form v b w p f.op_is f.low_is ∙ rw (f.annul_is, f.cond_is)
 
-branch_back : (e : Edition) (annul : Bool) (cnd : ℕ) (form : BranchForm) (v w : ℕ) (low : Part) → branch_bits e form v ≡ low → Fits 25 low → branch_word annul cnd low ≡ Written w → reading_of e w ≡ Read (Branch (record { annul = annul; cond = cnd; distance = record { 0 = v }; form = form }))
-branch_back e annul cnd form v w (Bits b) l k p =
+branch_back : (e : Edition) (annul : Bool) (cnd : ℕ) (form : BranchForm) (v w : ℕ) (low : Option ℕ) → branch_bits e form v ≡ low → Fits 25 low → branch_word annul cnd low ≡ Some w → reading_of e w ≡ Read (Branch (record { annul = annul; cond = cnd; distance = record { 0 = v }; form = form }))
+branch_back e annul cnd form v w (Some b) l k p =
     cond_went (ltb cnd 16) _ _ _ p (λ t q. branch_read e annul cnd form v b w l (ltb-true _ _ t) k (written q)) (λ t q. unwritable q)
-branch_back e annul cnd form v w OutOfRange l k p = unwritable p
+branch_back e annul cnd form v w None l k p = unwritable p
 
 -- ---- all
 
-return_back : (e : Edition) (w : ℕ) → Written 0x81C3E008 ≡ Written w → reading_of e w ≡ Read Return
+return_back : (e : Edition) (w : ℕ) → Some 0x81C3E008 ≡ Some w → reading_of e w ≡ Read Return
 unfolding reading_of format10
 return_back e w p = rw (← written p)
 
-operation_back : (e : Edition) (x : Operation) (w : ℕ) → operation_word x ≡ Written w → reading_of e w ≡ Read (Plain x)
+operation_back : (e : Edition) (x : Operation) (w : ℕ) → operation_word x ≡ Some w → reading_of e w ≡ Read (Plain x)
 operation_back e (Sethi rd imm22) w q = sethi_back e rd imm22 w q
 operation_back e (Alu op cc rd rs1 x) w q =
     let p = parts 2 rd (alu_code_cc op cc) rs1 w (operand_bits x) (omega arith) (alu_cc_small op cc) (operand_fits x) q in

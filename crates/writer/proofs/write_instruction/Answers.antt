@@ -1,11 +1,11 @@
 -- Each kind of instruction is written by its own case.
 use mathlib.Core.Path.{◌≡◌, ap}
-use Rattle.writer.specs.declared.Writing.{Writing}
+use Rattle.std.specs.Prelude.{Option}
 use Rattle.writer.specs.Write.{write_number, writing_of}
 use Rattle.writer.proofs.write_instruction.Goals as goal
 
 -- the same writing has the same number
-same_number : {x y : Writing} → x ≡ y → write_number x ≡ write_number y
+same_number : {x y : Option ℕ} → x ≡ y → write_number x ≡ write_number y
 same_number e = ap write_number e
 
 pub returns-in-Plain : goal.returns-in-Plain

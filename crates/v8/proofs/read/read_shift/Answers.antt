@@ -1,9 +1,0 @@
--- Shifts, by the two answers of count_of.
-use Rattle.v8.proofs.read.read_shift.Goals as goal
-
-pub returns-in-Second : goal.returns-in-Second
-returns-in-Second c =
-    rw (← c.count_of.ensures, c.in-Second.is, c.rs1_of-rs1.ensures, c.rd_of-rd.ensures)
-
-pub returns-in-Reserved : goal.returns-in-Reserved
-returns-in-Reserved c = rw (← c.count_of.ensures, c.in-Reserved.is)
