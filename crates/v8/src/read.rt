@@ -17,6 +17,7 @@ use crate::{
 pub const LEAF_RETURN: u32 = 0x81C3_E008;
 
 // The second operand of arithmetic, logic, loads and stores; none where bits that must be zero are not.
+#[tactic(auto, unfolding(crate::specs::Read::operand_of))]
 fn operand_of(w: u32) -> Option<Operand>
     ensures { result ≡ operand_of w }
 {
@@ -30,6 +31,7 @@ fn operand_of(w: u32) -> Option<Operand>
 }
 
 // The count of a shift; none where bits that must be zero are not.
+#[tactic(auto, unfolding(crate::specs::Read::count_of))]
 fn count_of(w: u32) -> Option<Operand>
     ensures { result ≡ count_of w }
 {
@@ -72,6 +74,7 @@ fn read_predicted(edition: Edition, w: u32) -> Reading
 }
 
 // SETHI and branches.
+#[tactic(auto, unfolding(crate::specs::Read::format00))]
 fn read_format_00(edition: Edition, w: u32) -> Reading
     ensures { result ≡ format00 edition w }
 {
@@ -135,6 +138,7 @@ fn read_shift(op: ShiftOp, w: u32) -> Reading
 }
 
 // Arithmetic, logic, shifts and the leaf return; privileged words by their opcode alone.
+#[tactic(auto, unfolding(crate::specs::Read::format10))]
 fn read_format_10(w: u32) -> Reading
     ensures { result ≡ format10 w }
 {
@@ -181,6 +185,7 @@ fn read_access(access: Access, w: u32) -> Reading
 }
 
 // Loads and stores; privileged words by their opcode alone.
+#[tactic(auto, unfolding(crate::specs::Read::format11))]
 fn read_format_11(w: u32) -> Reading
     ensures { result ≡ format11 w }
 {
@@ -200,6 +205,7 @@ fn read_format_11(w: u32) -> Reading
 
 // Reads a word, as a terminal of the edition does: an instruction of the subset, or the number of the
 // refusal.
+#[tactic(auto, unfolding(crate::specs::Read::reading_of))]
 pub fn read_word(edition: Edition, w: u32) -> Reading
     ensures reading { result ≡ reading_of edition w }
     ensures number { read_number result ≡ read_number (reading_of edition w) }
