@@ -9,7 +9,7 @@ pub const BIAS: u32 = 2147483648;
 pub fn excess(x: u32) -> u32
     ensures { result ≡ excess x }
 {
-    if x < BIAS { x + BIAS } else { x - BIAS }
+    x.wrapping_add(BIAS)
 }
 
 // A field of `bits` bits, sign-extended to 32 bits.
@@ -21,5 +21,5 @@ pub fn sign_extend(bits: u32, x: u32) -> u32
     if x < half {
         return x;
     }
-    x + (4294967295 - half - (half - 1))
+    x.wrapping_sub(1 << bits)
 }
