@@ -35,13 +35,15 @@ fn operand_of(w: u32) -> Option<Operand>
 fn count_of(w: u32) -> Option<Operand>
     ensures { result ≡ count_of w }
 {
-    if unused_of(w) == 0 {
-        if i_of(w) == 1 {
-            return Some(Operand::Imm(rs2_of(w) as u32));
-        }
-        return Some(Operand::Reg(rs2_of(w)));
+    if unused_of(w) != 0 {
+        return None;
     }
-    None
+    let rs2 = rs2_of(w);
+    Some(if i_of(w) == 1 {
+        Operand::Imm(rs2 as u32)
+    } else {
+        Operand::Reg(rs2)
+    })
 }
 
 // A branch of a form, by its distance.
@@ -62,14 +64,11 @@ fn read_predicted(edition: Edition, w: u32) -> Reading
     ensures { result ≡ predicted_of edition w }
 {
     match edition {
-        Edition::V8 => Reading::Unread(NOT_READ),
-        Edition::V9 => {
-            if cc_of(w) == 0 {
-                let hint = predict_of(w) == 1;
-                return branch_of(w, BranchForm::Predicted(hint), sign_extend(19, low19_of(w)));
-            }
-            Reading::Unread(NOT_READ)
+        Edition::V9 if cc_of(w) == 0 => {
+            let form = BranchForm::Predicted(predict_of(w) == 1);
+            branch_of(w, form, sign_extend(19, low19_of(w)))
         }
+        _ => Reading::Unread(NOT_READ),
     }
 }
 
@@ -150,23 +149,20 @@ fn read_format_10(w: u32) -> Reading
         0x26 => read_shift(ShiftOp::Srl, w),
         0x27 => read_shift(ShiftOp::Sra, w),
         0x29..=0x2B | 0x31..=0x33 | 0x39 => Reading::Unread(PRIVILEGED),
-        0x38 => {
-            if w == LEAF_RETURN {
-                Reading::Read(Instruction::Return)
-            } else {
-                Reading::Unread(NOT_READ)
-            }
-        }
+        0x38 if w == LEAF_RETURN => Reading::Read(Instruction::Return),
         _ => Reading::Unread(NOT_READ),
     }
 }
 
-fn displacement_of(x: Operand) -> Displacement
-    ensures { result ≡ displacement_of x }
-{
-    match x {
-        Operand::Reg(r) => Displacement::Index(r),
-        Operand::Imm(v) => Displacement::Bytes(ByteOffset(v)),
+// An operand as the second part of an address.
+impl From<Operand> for Displacement {
+    ghost from_gives = { λ x d. d ≡ displacement_of x };
+
+    fn from(x: Operand) -> Displacement {
+        match x {
+            Operand::Reg(r) => Displacement::Index(r),
+            Operand::Imm(v) => Displacement::Bytes(ByteOffset(v)),
+        }
     }
 }
 
@@ -180,7 +176,7 @@ fn read_access(access: Access, w: u32) -> Reading
         access,
         rd: rd_of(w),
         rs1: rs1_of(w),
-        displacement: displacement_of(x),
+        displacement: x.into(),
     }))
 }
 
