@@ -11,9 +11,8 @@ use Rattle.v8.proofs.Choice.{cond_went, and_went}
 use Rattle.v8.proofs.Search.{first_passes}
 use Rattle.v8.specs.declared.Access.{Access}
 use Rattle.policy.specs.declared.Policy.{Policy}
-use Rattle.policy_search.specs.declared.Found.{Found}
-use Rattle.policy_search.specs.declared.Found.TheVariants as Found·
-use Rattle.policy.specs.declared.Fields.{Fields}
+use Rattle.std.specs.Prelude.{Option, Some, None}
+use Rattle.policy.specs.declared.Field.{Field}
 use Rattle.policy_search.specs.Find.{find_field}
 use Rattle.memory.specs.Frame.{scratch_count, scratch_offset, is_scratch, scratch_at}
 use Rattle.memory.proofs.Scratch.{scratch_offsets, scratch_words}
@@ -27,13 +26,13 @@ not_scratch : {C : Type 0} (k : ℕ) → ◌≡◌ {A = Located} Nowhere (Scratc
 not_scratch k e = let z : ◌≡◌ {A = ℕ} 0 1 = cc in absurd (omega arith)
 
 -- what is located in a region is no scratch word
-not_in_region : {C : Type 0} (fields : Fields) (a : Access) (r offset k : ℕ) (f : Found) → located fields a r offset f ≡ Scratch k → C
-not_in_region fields a r offset k (Found·.At place) e =
+not_in_region : {C : Type 0} (fields : List Field) (a : Access) (r offset k : ℕ) (f : Option ℕ) → located fields a r offset f ≡ Scratch k → C
+not_in_region fields a r offset k (Some place) e =
     cond_went (touches fields a place) _ _ _ e (λ _ h. never h) (λ _ h. not_scratch k h)
   where
     never : {C : Type 0} → At r (record { 0 = offset }) ≡ Scratch k → C
     never e = let z : ◌≡◌ {A = ℕ} 0 1 = cc in absurd (omega arith)
-not_in_region fields a r offset k Found·.Nothing e = not_scratch k e
+not_in_region fields a r offset k None e = not_scratch k e
 
 -- a scratch word that an access outside the regions lies at
 in_frame_lem : (frame : ℕ) (a : Access) (address k : ℕ) → in_frame frame a address ≡ Scratch k

@@ -16,8 +16,7 @@ use Rattle.v8.specs.declared.StoreOp.TheVariants.{St, Stb, Sth}
 use Rattle.v8.specs.declared.Access.{Access}
 use Rattle.v8.specs.declared.Access.TheVariants.{Loads, Stores}
 use Rattle.policy.specs.declared.Policy.{Policy}
-use Rattle.policy_search.specs.declared.Found.{Found}
-use Rattle.policy_search.specs.declared.Found.TheVariants as Found·
+use Rattle.std.specs.Prelude.{Option, Some, None}
 use Rattle.policy.specs.Policy.{place_of, field_at}
 use Rattle.policy_search.specs.Find.{find_field}
 use Rattle.policy.specs.Laws.{WellFormed}
@@ -82,7 +81,7 @@ module _ (p : Policy) (bases : List ℕ) (a : Access) (address : ℕ) where
   unfolding region_in
   inside l = first_passes (inside_region p.regions.sizes bases address) 0 p.regions.count l
 
-  at_place : region < p.regions.count → (place : ℕ) → find_field p region rest (rest + access_width a) ≡ Found·.At place
+  at_place : region < p.regions.count → (place : ℕ) → find_field p region rest (rest + access_width a) ≡ Some place
       → touches p.fields a place ≡ true → Allowed p bases a address region rest
   unfolding field_at
   at_place l place f t =
@@ -105,13 +104,13 @@ module _ (p : Policy) (bases : List ℕ) (a : Access) (address : ℕ) where
     same : (region ≡ r) × (rest ≡ offset) → Allowed p bases a address region rest → Allowed p bases a address r offset
     same s x = subst (λ (q : ℕ). Allowed p bases a address q offset) s.0 (subst (λ (o : ℕ). Allowed p bases a address region o) s.1 x)
 
-    by_found : region < p.regions.count → (f : Found) → find_field p region rest (rest + access_width a) ≡ f
+    by_found : region < p.regions.count → (f : Option ℕ) → find_field p region rest (rest + access_width a) ≡ f
         → located p.fields a region rest f ≡ At r (record { 0 = offset }) → Allowed p bases a address r offset
-    by_found l (Found·.At place) f h =
+    by_found l (Some place) f h =
         cond_went (touches p.fields a place) _ _ _ h
         (λ t g. same (region_is region r rest offset g) (at_place l place f t))
         (λ _ g. not_there r offset g)
-    by_found l Found·.Nothing f h = not_there r offset h
+    by_found l None f h = not_there r offset h
 
 -- what is located is allowed
 pub located_allowed : LocatedAllowed
@@ -156,7 +155,7 @@ module _ (p : Policy) (bases : List ℕ) (wf : WellFormed p) (a : Access) (addre
           let l = not_above lowest (ltb-false r lowest t) x.region in
           disjoint lowest r address l x.region (first_passes passes 0 p.regions.count l) in-region
 
-  field_found : find_field p r offset (offset + access_width a) ≡ Found·.At (place_of r x.field)
+  field_found : find_field p r offset (offset + access_width a) ≡ Some (place_of r x.field)
   field_found = finds p wf r x.field offset (offset + access_width a) x.region x.field_is (more (width_some a)) x.holds
     where
       more : {w : ℕ} → 1 ≤ w → offset < offset + w

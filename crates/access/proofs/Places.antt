@@ -7,15 +7,15 @@ use lib.Dec.{leb, ltb}
 use borrow.Author.Tests.{leb-true, ltb-true}
 use native.Mathlib.Omega.{arith}
 use Rattle.policy.specs.declared.Policy.{Policy}
-use Rattle.policy_search.specs.declared.Found.TheVariants.{At}
-use Rattle.policy.specs.Policy.{fields_from, values_from}
+use Rattle.std.specs.Prelude.{Some}
+use Rattle.policy.specs.declared.Field.{Field}
 use Rattle.policy_search.specs.Find.{find_in}
 use Rattle.policy_search.proofs.FoundField.{found_holds}
 use Rattle.access.specs.Locate.{Near}
 
-pub place_small : (fields elements offsets counts : List ℕ) (r low end place : ℕ) → find_in fields elements offsets counts r low end ≡ At place → place < 128
-place_small fields elements offsets counts r low end place e =
-    let p : Policy = record { regions = record { count = 0; sizes = []; fields = fields }; fields = fields_from elements [] offsets counts; values = values_from [] [] [] } in
+pub place_small : (counts : List ℕ) (fields : List Field) (r low end place : ℕ) → find_in counts fields r low end ≡ Some place → place < 128
+place_small counts fields r low end place e =
+    let p : Policy = record { regions = record { count = 0; sizes = []; fields = counts }; fields = fields } in
     let h = found_holds p r low end place e in
     omega (arith, h.here, h.region_most, h.index_most)
 

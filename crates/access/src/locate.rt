@@ -1,6 +1,6 @@
 // Where an access lies: the region that its address is in, and there the field that serves it; or the
 // scratch word of the frame.
-ghost use Rattle.std.specs.Prelude.{◌≡◌, ◌≤◌, ◌<◌, length, get_or, IfSome, IsNone};
+ghost use Rattle.std.specs.Prelude.{◌≡◌, ◌≤◌, ◌<◌, length, get_or, IfSome, IfNone};
 ghost use Rattle.access.specs.Layout.{layout_of};
 ghost use Rattle.access.specs.Locate.{Near, region_in, locate_in, in_frame, locate};
 
@@ -17,8 +17,8 @@ fn region_at(regions: &Regions, bases: &[u32], address: u32) -> Option<u8>
     requires { (regions.now.count ≤ 8) × (regions.now.count ≤ length bases.now) }
     ensures found { IfSome result
         (λ r. (r ≡ region_in regions.now.count regions.now.sizes bases.now address) × (r < regions.now.count) × Near (get_or bases.now r 0) address) }
-    ensures none { IsNone result
-        → region_in regions.now.count regions.now.sizes bases.now address ≡ regions.now.count }
+    ensures none { IfNone result
+        (region_in regions.now.count regions.now.sizes bases.now address ≡ regions.now.count) }
 {
     for r in 0..regions.count {
         let i = r as usize;
@@ -38,13 +38,12 @@ fn locate_in(policy: &Policy, a: Access, region: u8, offset: ByteOffset) -> Loca
 {
     let end = ByteOffset(offset.0 + width_of(a));
     let search = find_in(policy, region, offset, end);
-    if let Some(place) = search.found {
-        if place < 128 {
-            let f = policy.fields[place];
-            if serves_element(a, f.element) & allowed(a, f.permission) {
-                return Located::At(region, offset);
-            }
-        }
+    let Some(place) = search.found else {
+        return Located::Nowhere;
+    };
+    let f = policy.fields[place];
+    if serves_element(a, f.element) & allowed(a, f.permission) {
+        return Located::At(region, offset);
     }
     Located::Nowhere
 }

@@ -1,19 +1,17 @@
 -- A region that the address lies in, then a field there; or else the frame.
-use Rattle.access.specs.Locate.{locate}
-use borrow.Author.Tests.{lt-ltb, le-ltb}
 use native.Mathlib.Omega.{arith}
+use borrow.Author.Tests.{lt-ltb, le-ltb}
+use Rattle.access.specs.Locate.{locate}
 use Rattle.access.proofs.locate.locate_access.Goals as goal
 
-pub overflow_sub-offset : goal.overflow_sub-offset
-overflow_sub-offset c = (c.region_at-r.ensures.near c.if-r-regions.true).above
-
-pub locate_in-requires : goal.locate_in-requires
-locate_in-requires c = let n = c.region_at-r.ensures.near c.if-r-regions.true in (c.requires.2, c.requires.3, omega arith)
-
-pub returns-then-r-regions : goal.returns-then-r-regions
+pub returns-in-Some : goal.returns-in-Some
 unfolding locate
-returns-then-r-regions c = rw (← c.region_at-r.ensures.is, lt-ltb _ _ c.if-r-regions.true) c.locate_in.ensures
+returns-in-Some c =
+    let f = c.in-Some.ensures.found in
+    rw (← f.0, lt-ltb _ _ f.1) c.locate_in.ensures
 
-pub returns : goal.returns
+pub returns-in-None : goal.returns-in-None
 unfolding locate
-returns c = rw (← c.region_at-r.ensures.is, le-ltb _ _ c.if-r-regions.false) c.in_frame.ensures
+returns-in-None c =
+    let n = c.args.policy.now.regions.count in
+    rw (c.in-None.ensures.none, le-ltb n n (omega arith)) c.in_frame.ensures

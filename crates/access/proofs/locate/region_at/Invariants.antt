@@ -1,11 +1,9 @@
 use Rattle.access.specs.Locate.{inside_region, region_in}
 use Rattle.v8.specs.Search.{first}
 use mathlib.Core.Path.{◌≡◌}
-use Prim.Native.Nat.{◌-◌, ◌≤◌}
+use Prim.Native.Nat.{◌≤◌}
 use Rattle.access.proofs.locate.region_at.Given as goal
 
 abbrev pub invariant-loop-r : goal.invariant-loop-r
-invariant-loop-r l = (l.r ≤ l.regions) × (region_in l.regions l.sizes l.bases l.address ≡ first (inside_region l.sizes l.bases l.address) l.r l.regions)
-
-abbrev pub decreases-loop-r : goal.decreases-loop-r
-decreases-loop-r l = l.regions - l.r
+invariant-loop-r l = (l.r ≤ l.regions.count)
+    × (region_in l.regions.count l.regions.sizes l.bases l.address ≡ first (inside_region l.regions.sizes l.bases l.address) l.r l.regions.count)
