@@ -1,7 +1,10 @@
--- Results are words. A shift that copies bit 31 is, of a negative word, the complement of the shifted complement: so the code
--- computes it, and so its result is seen to be a word.
-use Prim.Native.Nat.{ℕ, ◌+◌, ◌-◌, ◌*◌, ◌/◌, ◌%◌, ◌^◌, ◌<◌}
-use mathlib.Core.Path.{◌≡◌, sym, ap, ◌∙◌}
+-- Results are words. A shift that copies bit 31 is, of a negative word, the complement of the shifted complement: so the machine's
+-- signed shift gives it, and so its result is seen to be a word.
+use Prim.Native.Nat.{ℕ, suc, ◌+◌, ◌-◌, ◌*◌, ◌/◌, ◌%◌, ◌^◌, ◌<◌}
+use mathlib.Core.Path.{◌≡◌, refl, sym, ap, ◌∙◌}
+use mathlib.Core.Bool.{Bool, true, false}
+use lib.Dec.{ltb}
+use borrow.Author.Tests.{ltb-true, ltb-false, lt-leb, le-leb}
 use native.Mathlib.Omega.{arith}
 use native.Mathlib.Nat.{div-eq_of_lt-le, div-lt_iff_lt-mul, div-add-mod', mod-lt}
 use lib.Bits.{and_lt, or_lt, xor_lt}
@@ -9,7 +12,8 @@ use lib.Pow.{shr_le, pow-add, pow_pos, pow_mono}
 use Rattle.v8.proofs.Choice.{cond_both}
 use Rattle.v8.specs.declared.AluOp.TheVariants.{Add, And, Or, Xor, Sub, Andn, Orn, Xnor}
 use Rattle.v8.specs.declared.ShiftOp.TheVariants.{Sll, Srl, Sra}
-use Rattle.alu.specs.Result.{not32, srl32, bit31}
+use Rattle.std.specs.Int.{w32, cast_signed, cast_unsigned, int_shr}
+use Rattle.alu.specs.Result.{not32, srl32, sra32, bit31}
 use Rattle.alu.specs.Laws.{AluSmall, ShiftSmall, SethiSmall}
 
 not_small : (y : ℕ) → not32 y < 4294967296
@@ -53,7 +57,7 @@ powers s h = sym (pow-add 2 (32 - s) s) ∙ ap (λ (n : ℕ). 2 ^ n) (whole s h)
     whole s h = omega arith
 
 -- the complement of the shifted complement has the vacated bits set
-pub fills : (x s : ℕ) → x < 4294967296 → s < 32 → not32 (not32 x / 2 ^ s) ≡ x / 2 ^ s + (4294967296 - 2 ^ (32 - s))
+fills : (x s : ℕ) → x < 4294967296 → s < 32 → not32 (not32 x / 2 ^ s) ≡ x / 2 ^ s + (4294967296 - 2 ^ (32 - s))
 fills x s h k = omega (arith, quotient, within (2 ^ s) (2 ^ (32 - s)) (not32 x) (pow_pos s) word, pow_mono {i = 32 - s} {j = 32} (omega arith))
   where
     word : not32 x < 2 ^ (32 - s) * 2 ^ s
@@ -64,6 +68,17 @@ fills x s h k = omega (arith, quotient, within (2 ^ s) (2 ^ (32 - s)) (not32 x) 
 
     quotient : x / 2 ^ s ≡ 2 ^ (32 - s) - 1 - not32 x / 2 ^ s
     quotient = ap (λ (n : ℕ). n / 2 ^ s) (sym back) ∙ complement_div (2 ^ s) (2 ^ (32 - s)) (not32 x) (pow_pos s) word
+
+-- the shift of the signed number that a word stands for
+pub signed_shift : (x s : ℕ) → x < 4294967296 → s < 32 → cast_unsigned w32 (int_shr (cast_signed w32 x) s) ≡ sra32 x s
+signed_shift x s h k = at (ltb x 2147483648) refl
+  where
+    past : (y : ℕ) → 4294967296 - suc y ≡ not32 y
+    past y = omega arith
+
+    at : (t : Bool) → ltb x 2147483648 ≡ t → cast_unsigned w32 (int_shr (cast_signed w32 x) s) ≡ sra32 x s
+    at true e = rw (e, lt-leb 2147483648 x (ltb-true x 2147483648 e))
+    at false e = rw (e, le-leb 2147483648 x (ltb-false x 2147483648 e), past x, past (not32 x / 2 ^ s)) (fills x s h k)
 
 srl_small : (x s : ℕ) → x < 4294967296 → srl32 x s < 4294967296
 srl_small x s h = omega (arith, shr_le x s)

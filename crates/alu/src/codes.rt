@@ -19,7 +19,7 @@ pub struct Codes {
 fn negative(x: u32) -> bool
     ensures { result ≡ bit31 x }
 {
-    2147483648 <= x
+    x.cast_signed().is_negative()
 }
 
 // Whether the signed result leaves 32 bits, from bit 31 of the operands and of the result.
@@ -29,12 +29,7 @@ fn overflow(op: AluOp, x: bool, y: bool, r: bool) -> bool
     match op {
         AluOp::Add => (x & y & !r) | (!x & !y & r),
         AluOp::Sub => (x & !y & !r) | (!x & y & r),
-        AluOp::And => false,
-        AluOp::Or => false,
-        AluOp::Xor => false,
-        AluOp::Andn => false,
-        AluOp::Orn => false,
-        AluOp::Xnor => false,
+        _ => false,
     }
 }
 
@@ -43,18 +38,14 @@ fn carry(op: AluOp, x: u32, y: u32) -> bool
     ensures { result ≡ carry_of op (bit31 x) (bit31 y) (bit31 (alu_of op x y)) }
 {
     match op {
-        AluOp::Add => 4294967296 <= x as u64 + y as u64,
+        AluOp::Add => x.overflowing_add(y).1,
         AluOp::Sub => x < y,
-        AluOp::And => false,
-        AluOp::Or => false,
-        AluOp::Xor => false,
-        AluOp::Andn => false,
-        AluOp::Orn => false,
-        AluOp::Xnor => false,
+        _ => false,
     }
 }
 
 // The codes that the code-setting form of an operation sets.
+#[tactic(auto, unfolding(crate::specs::Codes::codes_of))]
 pub fn codes_of(op: AluOp, x: u32, y: u32) -> Codes
     ensures { result ≡ codes_of op x y }
 {

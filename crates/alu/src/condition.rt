@@ -124,11 +124,11 @@ const CONDITIONS: [Condition; 16] = [
 ];
 
 // The condition that Bicc's four bits name: those of `k` modulo 16.
+#[tactic(auto, unfolding(crate::specs::Condition::condition_of))]
 pub fn condition_of(k: u8) -> Condition
     ensures { result ≡ condition_of k }
 {
-    let at = (k % 16) as usize;
-    CONDITIONS[at]
+    CONDITIONS[(k % 16) as usize]
 }
 
 // Whether the codes meet a rule.
@@ -152,10 +152,8 @@ pub fn holds(k: u8, f: Codes) -> bool
     ensures { result ≡ cond_holds k f }
 {
     let condition = condition_of(k);
-    let rule = condition.rule;
-    let met = rule_holds(rule, f);
-    let negated = condition.negated;
-    if negated { !met } else { met }
+    let met = rule_holds(condition.rule, f);
+    if condition.negated { !met } else { met }
 }
 
 // The condition that holds exactly where condition `k` does not.

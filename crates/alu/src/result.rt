@@ -9,16 +9,7 @@ use v8::{AluOp, ShiftOp};
 pub fn sum(x: u32, y: u32) -> u32
     ensures { result ≡ add32 x y }
 {
-    let low = (x as u64 + y as u64) % 4294967296;
-    low as u32
-}
-
-// The difference of two words, modulo 2^32.
-fn difference(x: u32, y: u32) -> u32
-    ensures { result ≡ sub32 x y }
-{
-    let low = (x as u64 + 4294967296 - y as u64) % 4294967296;
-    low as u32
+    x.wrapping_add(y)
 }
 
 // What an arithmetic or logic operation gives of its two operands.
@@ -30,24 +21,18 @@ pub fn alu(op: AluOp, x: u32, y: u32) -> u32
         AluOp::And => x & y,
         AluOp::Or => x | y,
         AluOp::Xor => x ^ y,
-        AluOp::Sub => difference(x, y),
+        AluOp::Sub => x.wrapping_sub(y),
         AluOp::Andn => x & !y,
         AluOp::Orn => x | !y,
         AluOp::Xnor => x ^ !y,
     }
 }
 
-// The word shifted right by `count` modulo 32, with copies of bit 31 shifted in: of a negative word
-// it is the complement that has zeros shifted in.
+// The word shifted right by `count` modulo 32, with copies of bit 31 shifted in.
 fn shift_signed(x: u32, count: u32) -> u32
     ensures { result ≡ sra32 x (count % 32) }
 {
-    let by = count % 32;
-    if 2147483648 <= x {
-        !(!x >> by)
-    } else {
-        x >> by
-    }
+    x.cast_signed().wrapping_shr(count).cast_unsigned()
 }
 
 // What a shift gives of a word and a count, of which the five low bits are used.
@@ -55,8 +40,8 @@ pub fn shift(op: ShiftOp, x: u32, count: u32) -> u32
     ensures { result ≡ shift_of op x count }
 {
     match op {
-        ShiftOp::Sll => x << (count % 32),
-        ShiftOp::Srl => x >> (count % 32),
+        ShiftOp::Sll => x.wrapping_shl(count),
+        ShiftOp::Srl => x.wrapping_shr(count),
         ShiftOp::Sra => shift_signed(x, count),
     }
 }

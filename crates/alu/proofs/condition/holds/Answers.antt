@@ -4,8 +4,8 @@ use mathlib.Core.Bool.{not}
 use mathlib.Core.Path.{ap}
 use Rattle.alu.proofs.condition.holds.Goals as goal
 
-pub returns-then-negated : goal.returns-then-negated
-returns-then-negated c = rw (← rows_hold c.args.k c.args.f, ← c.condition_of-condition.ensures, c.if-negated.true) (ap not c.rule_holds-met.ensures)
+pub returns-then-condition : goal.returns-then-condition
+returns-then-condition c = rw (← rows_hold c.args.k c.args.f, ← c.condition_of-condition.ensures, c.if-condition.true) (ap not c.rule_holds-met.ensures)
 
-pub returns-else-negated : goal.returns-else-negated
-returns-else-negated c = rw (← rows_hold c.args.k c.args.f, ← c.condition_of-condition.ensures, c.if-negated.false) c.rule_holds-met.ensures
+pub returns-else-condition : goal.returns-else-condition
+returns-else-condition c = rw (← rows_hold c.args.k c.args.f, ← c.condition_of-condition.ensures, c.if-condition.false) c.rule_holds-met.ensures

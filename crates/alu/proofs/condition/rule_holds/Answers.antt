@@ -1,4 +1,4 @@
--- Each rule has its formula.
+-- The two rules that compare N and V, by the definition of xor.
 use mathlib.Core.Bool.{xor}
 use Rattle.alu.proofs.condition.rule_holds.Goals as goal
 
@@ -9,6 +9,3 @@ returns-in-LessOrEqual c = rw c.in-LessOrEqual.is
 pub returns-in-Less : goal.returns-in-Less
 unfolding xor
 returns-in-Less c = rw c.in-Less.is
-
-pub returns-in-LowerOrSame : goal.returns-in-LowerOrSame
-returns-in-LowerOrSame c = rw c.in-LowerOrSame.is

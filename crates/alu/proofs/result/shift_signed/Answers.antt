@@ -1,12 +1,14 @@
--- Of a negative word, the complement of the shifted complement is what the definition says (`fills`).
+-- The shift of the signed number is what the definition says (`signed_shift`).
 use Prim.Native.Nat.{◌%◌}
-use borrow.Author.Tests.{le-leb, lt-leb}
 use native.Mathlib.Omega.{arith}
-use Rattle.alu.proofs.Words.{fills}
+use Rattle.std.specs.Int.{w32}
+use Rattle.std.proofs.lemmas.Int.{to_z-of_z}
+use Rattle.alu.proofs.Words.{signed_shift}
 use Rattle.alu.proofs.result.shift_signed.Goals as goal
 
-pub returns-then-x-ge2147483648 : goal.returns-then-x-ge2147483648
-returns-then-x-ge2147483648 c = rw (le-leb 2147483648 c.args.x c.if-x-ge2147483648.true) (fills c.args.x (c.args.count % 32) (omega arith) (omega arith))
-
-pub returns-else-x-ge2147483648 : goal.returns-else-x-ge2147483648
-returns-else-x-ge2147483648 c = rw (lt-leb 2147483648 c.args.x c.if-x-ge2147483648.false)
+pub returns : goal.returns
+returns c =
+    let a = to_z-of_z w32 c.cast_signed.result (record { sfits = c.cast_signed.type_inv }) in
+    let b = to_z-of_z w32 c.wrapping_shr.result (record { sfits = c.wrapping_shr.type_inv }) in
+    rw (c.cast_unsigned.ensures, b, c.wrapping_shr.ensures, a, c.cast_signed.ensures)
+    (signed_shift c.args.x (c.args.count % 32) (omega arith) (omega arith))
