@@ -8,6 +8,8 @@ pub mod reading;
 pub mod edition;
 // The policy that stands in a record.
 pub mod given;
+// What is judged, one thing after another.
+pub mod judging;
 
 // The most numbers of a record.
 pub const MOST_NUMBERS: usize = 747;

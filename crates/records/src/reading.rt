@@ -2,94 +2,83 @@
 ghost use Rattle.std.specs.Prelude.{◌≤◌};
 
 use crate::MOST_NUMBERS;
-use memory::load;
 use output::STDIN_FILENO;
-use v8::LoadOp;
-
-// Whether there is a record.
-#[derive(Clone, Copy)]
-pub enum Found {
-    Whole,
-    // The record is cut short, or it is too long.
-    Bad,
-    // There is no further record.
-    End,
-}
 
 // The numbers of a record; those that it does not have are 0.
+pub type Numbers = [u32; MOST_NUMBERS];
+
+// The record is cut short, or it is too long.
 #[derive(Clone, Copy)]
-pub struct Record {
-    pub numbers: [u32; MOST_NUMBERS],
-    pub found: Found,
+pub struct BadRecord;
+
+// The records of standard input, each with its numbers. After a bad one there is none.
+#[derive(Drop)]
+pub struct Records {
+    ended: bool,
 }
 
-// Fills a part with bytes that are read, and answers whether there were as many.
-pub fn fill(part: &mut [u8]) -> bool {
-    let n = io::read_full(STDIN_FILENO, part);
-    n == part.len()
-}
-
-// The numbers that stand in bytes.
-fn numbers_in(bytes: &[u8]) -> [u32; MOST_NUMBERS] {
-    let mut numbers = [0u32; MOST_NUMBERS];
-    let mut i = 0;
-    while i < MOST_NUMBERS {
-        let at = 4 * i;
-        if bytes.len() < at + 4 {
-            break;
-        }
-        numbers[i] = load(LoadOp::Ld, bytes, at);
-        i += 1;
+// Fills a part with bytes that are read, or fails where there are fewer.
+fn fill(part: &mut [u8]) -> Result<(), BadRecord> {
+    if io::read_full(STDIN_FILENO, part) < part.len() {
+        return Err(BadRecord);
     }
-    numbers
+    Ok(())
 }
 
-fn without_numbers(found: Found) -> Record {
-    let numbers = [0u32; MOST_NUMBERS];
-    Record { numbers, found }
-}
-
-// Reads the numbers that fill a part.
-fn numbers_read(part: &mut [u8]) -> Record {
-    if !fill(part) {
-        return without_numbers(Found::Bad);
-    }
-    let numbers = numbers_in(part);
-    Record {
-        numbers,
-        found: Found::Whole,
-    }
+// Reads so many bytes, with zeros after them.
+pub fn read_bytes<const N: usize>(length: usize) -> Result<[u8; N], BadRecord>
+    requires { length ≤ N }
+{
+    let mut bytes = [0; N];
+    fill(&mut bytes[..length])?;
+    Ok(bytes)
 }
 
 // Reads so many numbers.
-fn read_numbers(count: usize) -> Record {
+fn read_numbers(count: usize) -> Result<Numbers, BadRecord> {
     if MOST_NUMBERS < count {
-        return without_numbers(Found::Bad);
+        return Err(BadRecord);
     }
-    let mut room = [0u8; 4 * MOST_NUMBERS];
-    let end = 4 * count;
-    numbers_read(&mut room[..end])
+    let mut bytes = [0; 4 * MOST_NUMBERS];
+    fill(&mut bytes[..4 * count])?;
+    let mut numbers = [0; MOST_NUMBERS];
+    for (number, &bytes) in numbers.iter_mut().zip(bytes.as_chunks().0) {
+        *number = u32::from_be_bytes(bytes);
+    }
+    Ok(numbers)
 }
 
-// Reads the numbers of the next record.
-pub fn next_record() -> Record {
-    let mut head = [0u8; 4];
-    let n = io::read_full(STDIN_FILENO, &mut head);
-    if n == 0 {
-        return without_numbers(Found::End);
+impl Records {
+    pub fn new() -> Records {
+        Records { ended: false }
     }
-    if n < 4 {
-        return without_numbers(Found::Bad);
+}
+
+impl Iterator for Records {
+    type Item = Result<Numbers, BadRecord>;
+
+    fn next(&mut self) -> Option<Result<Numbers, BadRecord>> {
+        if self.ended {
+            return None;
+        }
+        let mut head = [0; 4];
+        let n = io::read_full(STDIN_FILENO, &mut head);
+        if n == 0 {
+            return None;
+        }
+        let record = if n < 4 {
+            Err(BadRecord)
+        } else {
+            read_numbers(u32::from_be_bytes(head) as usize)
+        };
+        self.ended = record.is_err();
+        Some(record)
     }
-    read_numbers(load(LoadOp::Ld, &head, 0) as usize)
 }
 
 // A count, or the most that it may be.
 pub fn count_of(number: u32, most: u32) -> usize
     ensures { result ≤ most }
 {
-    if most < number {
-        return most as usize;
-    }
-    number as usize
+    number.min(most) as usize
 }

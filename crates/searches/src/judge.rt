@@ -1,17 +1,15 @@
 // The searches of a list made again, and compared with those that are expected.
-ghost use Rattle.std.specs.Prelude.{◌+◌, ◌≤◌};
-
-use crate::record::{NUMBER, fields_end, fits, policy_of, region_of, search_count};
+use crate::record::{NUMBER, Search, fits, policy_of, region_of, searches_of};
+use output::print_wrong;
 use policy::Policy;
-use policy_search::{FieldSearch, Found, find_field};
-use records::MOST_NUMBERS;
+use policy_search::find_field;
+use records::judging::Wrong;
+use records::reading::{BadRecord, Numbers};
 use v8::ByteOffset;
 
-// What a list shows.
-#[derive(Clone, Copy)]
-pub enum Verdict {
-    // Each search gives the same.
-    Same,
+// What is wrong with a list.
+#[derive(Drop)]
+pub enum Fault {
     // The record is no list.
     Malformed,
     OtherNumber,
@@ -19,83 +17,56 @@ pub enum Verdict {
     OtherCount,
 }
 
-// Whether what is found in a region is what is expected: 0 for nothing, else 1 more than the field's
-// number there.
-fn same_field(found: Found, region: u8, expected: u32) -> bool {
-    match found {
-        Found::At(place) => {
-            if expected == 0 {
-                return false;
-            }
-            place == 16 * region as usize + (expected - 1) as usize
-        }
-        Found::Nothing => expected == 0,
+impl From<BadRecord> for Fault {
+    fn from(_bad: BadRecord) -> Fault {
+        Fault::Malformed
     }
 }
 
-fn same_count(looked: usize, expected: u32) -> bool {
-    looked == expected as usize
+impl Wrong for Fault {
+    fn print(&self, list: u64) {
+        let text: &[u8] = match self {
+            Fault::Malformed => b"not a list",
+            Fault::OtherNumber => b"other number",
+            Fault::OtherField => b"other field",
+            Fault::OtherCount => b"other count",
+        };
+        print_wrong(b"list", list, text);
+    }
 }
 
-// What a search shows that is expected at number `at`.
-fn judge_search(numbers: &[u32; MOST_NUMBERS], search: FieldSearch, at: usize) -> Verdict
-    requires { at + 4 ≤ 746 }
-{
-    let found = search.found;
-    if search.number as u32 != numbers[NUMBER] {
-        return Verdict::OtherNumber;
-    }
-    if !same_field(found, region_of(numbers), numbers[at + 2]) {
-        return Verdict::OtherField;
-    }
-    if !same_count(search.looked, numbers[at + 3]) {
-        return Verdict::OtherCount;
-    }
-    Verdict::Same
+// The place of the field that a search in a region is to find: none for 0, else `expected` is 1 more
+// than the field's number there.
+fn expected_place(region: u8, expected: u32) -> Option<usize> {
+    let number = expected.checked_sub(1)?;
+    Some(16 * usize::from(region) + number as usize)
 }
 
-// The search that stands at number `at`, made again.
-fn search_at(numbers: &[u32; MOST_NUMBERS], policy: Policy, at: usize) -> FieldSearch
-    requires { at + 4 ≤ 746 }
-{
-    let low = ByteOffset(numbers[at]);
-    let end = ByteOffset(numbers[at + 1]);
-    find_field(policy, region_of(numbers), low, end)
+// Makes a search again, and compares what it gives.
+fn judge_search(numbers: &Numbers, policy: &Policy, search: Search) -> Result<(), Fault> {
+    let [low, end, expected, looked] = search;
+    let region = region_of(numbers);
+    let given = find_field(policy, region, ByteOffset(low), ByteOffset(end));
+    if u32::from(given.number) != numbers[NUMBER] {
+        return Err(Fault::OtherNumber);
+    }
+    if given.found != expected_place(region, expected) {
+        return Err(Fault::OtherField);
+    }
+    if given.looked != looked as usize {
+        return Err(Fault::OtherCount);
+    }
+    Ok(())
 }
 
-// What the first search shows that gives something else, if one does.
-fn judge_all(numbers: &[u32; MOST_NUMBERS], policy: Policy) -> Verdict {
-    let first = fields_end(numbers);
-    let count = search_count(numbers);
-    let mut i = 0;
-    while i < count {
-        let at = first + 4 * i;
-        let verdict = judge_search(numbers, search_at(numbers, policy, at), at);
-        match verdict {
-            Verdict::Same => {
-                i += 1;
-            }
-            Verdict::Malformed => {
-                return Verdict::Malformed;
-            }
-            Verdict::OtherNumber => {
-                return Verdict::OtherNumber;
-            }
-            Verdict::OtherField => {
-                return Verdict::OtherField;
-            }
-            Verdict::OtherCount => {
-                return Verdict::OtherCount;
-            }
-        }
+// Makes each search of a list again, and says what the first shows that gives something else.
+pub fn judge(numbers: &Numbers) -> Result<(), Fault> {
+    if !fits(numbers) {
+        return Err(Fault::Malformed);
     }
-    Verdict::Same
-}
-
-// Makes each search of a list again and compares.
-pub fn judge(numbers: &[u32; MOST_NUMBERS]) -> Verdict {
-    if fits(numbers) {
-        return judge_all(numbers, policy_of(numbers));
+    let policy = policy_of(numbers);
+    for &search in searches_of(numbers) {
+        judge_search(numbers, &policy, search)?;
     }
-    Verdict::Malformed
+    Ok(())
 }

@@ -5,8 +5,28 @@
 
 mod judge;
 mod record;
-mod report;
+
+use crate::judge::judge;
+use crate::record::searches_of;
+use output::{print, print_number};
+use records::judging::judge_all;
+use records::reading::Records;
+
+// The most lists that are read.
+const MOST_LISTS: usize = 100000;
 
 fn main() {
-    report::check_lists();
+    let mut searches: u64 = 0;
+    let verdicts = Records::new().map(|record| {
+        let numbers = record?;
+        searches = searches.saturating_add(searches_of(&numbers).len() as u64);
+        judge(&numbers)
+    });
+    let totals = judge_all(MOST_LISTS, verdicts);
+    print_number(totals.judged);
+    print(b" lists, ");
+    print_number(searches);
+    print(b" searches, ");
+    print_number(totals.wrong);
+    print(b" wrong\n");
 }

@@ -9,9 +9,8 @@
 ghost use Rattle.std.specs.Prelude.{◌≤◌};
 
 use policy::Policy;
-use records::MOST_NUMBERS;
 use records::given::policy_at;
-use records::reading::count_of;
+use records::reading::{Numbers, count_of};
 
 pub const NUMBER: usize = 0;
 
@@ -32,38 +31,34 @@ const MOST_FIELDS: u32 = 128;
 
 const MOST_SEARCHES: u32 = 53;
 
+// The numbers of a search.
+pub type Search = [u32; 4];
+
 // Whether there is room in a record for as many fields and searches as it says.
-pub fn fits(numbers: &[u32; MOST_NUMBERS]) -> bool {
-    (numbers[FIELD_COUNT] <= MOST_FIELDS) & (numbers[SEARCH_COUNT] <= MOST_SEARCHES)
+pub fn fits(numbers: &Numbers) -> bool {
+    numbers[FIELD_COUNT] <= MOST_FIELDS && numbers[SEARCH_COUNT] <= MOST_SEARCHES
 }
 
 // The region that is searched.
-pub fn region_of(numbers: &[u32; MOST_NUMBERS]) -> u8 {
+pub fn region_of(numbers: &Numbers) -> u8 {
     (numbers[REGION] % 256) as u8
 }
 
 // How many fields there are.
-fn field_count(numbers: &[u32; MOST_NUMBERS]) -> usize
+fn field_count(numbers: &Numbers) -> usize
     ensures { result ≤ 128 }
 {
     count_of(numbers[FIELD_COUNT], MOST_FIELDS)
 }
 
-// How many searches there are.
-pub fn search_count(numbers: &[u32; MOST_NUMBERS]) -> usize
-    ensures { result ≤ 53 }
-{
-    count_of(numbers[SEARCH_COUNT], MOST_SEARCHES)
-}
-
-// Where the fields end and the searches begin.
-pub fn fields_end(numbers: &[u32; MOST_NUMBERS]) -> usize
-    ensures { result ≤ 533 }
-{
-    FIELDS + 4 * field_count(numbers)
+// The searches, as many as may be.
+pub fn searches_of(numbers: &Numbers) -> &[Search] {
+    let first = FIELDS + 4 * field_count(numbers);
+    let count = count_of(numbers[SEARCH_COUNT], MOST_SEARCHES);
+    numbers[first..first + 4 * count].as_chunks().0
 }
 
 // The policy, as it stands: it may break rules.
-pub fn policy_of(numbers: &[u32; MOST_NUMBERS]) -> Policy {
+pub fn policy_of(numbers: &Numbers) -> Policy {
     policy_at(numbers, REGIONS, SIZES, FIELDS, field_count(numbers))
 }

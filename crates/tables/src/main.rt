@@ -5,8 +5,15 @@
 
 mod judge;
 mod record;
-mod report;
+
+use crate::judge::judge;
+use records::judging::judge_all;
+use records::reading::Records;
+
+// The most cases that are read.
+const MOST_CASES: usize = 100000;
 
 fn main() {
-    report::check_cases();
+    let verdicts = Records::new().map(|record| judge(&record?));
+    judge_all(MOST_CASES, verdicts).print(b"cases");
 }

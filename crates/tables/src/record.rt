@@ -10,8 +10,7 @@
 // accepted listing must have; those after them are 0.
 ghost use Rattle.std.specs.Prelude.{◌≤◌};
 
-use records::MOST_NUMBERS;
-use records::reading::{count_of, fill};
+use records::reading::{BadRecord, Numbers, count_of, read_bytes};
 
 pub const EDITION: usize = 0;
 
@@ -45,56 +44,40 @@ const MOST_FIELDS: u32 = 128;
 // The most bytes of an entry row, of the marks, and of a lent table.
 pub const MOST_BYTES: usize = 4104;
 
-// Some bytes with zeros after them.
-#[derive(Clone, Copy)]
-pub struct Bytes {
-    pub bytes: [u8; MOST_BYTES],
-    pub whole: bool,
-}
-
 // Where the words end and the fields begin.
-pub fn words_end(numbers: &[u32; MOST_NUMBERS]) -> usize
+pub fn words_end(numbers: &Numbers) -> usize
     ensures { (26 ≤ result) × (result ≤ 226) }
 {
     WORDS + count_of(numbers[WORD_COUNT], MOST_WORDS)
 }
 
 // How many fields there are.
-pub fn field_count(numbers: &[u32; MOST_NUMBERS]) -> usize
+pub fn field_count(numbers: &Numbers) -> usize
     ensures { result ≤ 128 }
 {
     count_of(numbers[FIELD_COUNT], MOST_FIELDS)
 }
 
 // How long the lent table is.
-pub fn table_length(numbers: &[u32; MOST_NUMBERS]) -> usize
+pub fn table_length(numbers: &Numbers) -> usize
     ensures { result ≤ 4104 }
 {
     count_of(numbers[TABLE_LENGTH], MOST_BYTES as u32)
 }
 
 // How long the entry row is.
-pub fn entry_length(numbers: &[u32; MOST_NUMBERS]) -> usize
+pub fn entry_length(numbers: &Numbers) -> usize
     ensures { result ≤ 4104 }
 {
     count_of(numbers[ENTRY_LENGTH], MOST_BYTES as u32)
 }
 
-// Reads so many bytes.
-fn read_bytes(length: usize) -> Bytes
-    requires { length ≤ 4104 }
-{
-    let mut bytes = [0u8; MOST_BYTES];
-    let whole = fill(&mut bytes[..length]);
-    Bytes { bytes, whole }
-}
-
-// Reads the entry row.
-pub fn read_entry(numbers: &[u32; MOST_NUMBERS]) -> Bytes {
+// Reads the entry row, with zeros after it.
+pub fn read_entry(numbers: &Numbers) -> Result<[u8; MOST_BYTES], BadRecord> {
     read_bytes(entry_length(numbers))
 }
 
-// Reads the marks that are expected.
-pub fn read_marks(numbers: &[u32; MOST_NUMBERS]) -> Bytes {
+// Reads the marks that are expected, with zeros after them.
+pub fn read_marks(numbers: &Numbers) -> Result<[u8; MOST_BYTES], BadRecord> {
     read_bytes(count_of(numbers[MARK_COUNT], MOST_BYTES as u32))
 }
