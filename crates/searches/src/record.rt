@@ -9,7 +9,7 @@
 ghost use Rattle.std.specs.Prelude.{◌≤◌};
 
 use policy::Policy;
-use records::given::policy_at;
+use records::given::policy_given;
 use records::reading::{Numbers, count_of};
 
 pub const NUMBER: usize = 0;
@@ -60,5 +60,6 @@ pub fn searches_of(numbers: &Numbers) -> &[Search] {
 
 // The policy, as it stands: it may break rules.
 pub fn policy_of(numbers: &Numbers) -> Policy {
-    policy_at(numbers, REGIONS, SIZES, FIELDS, field_count(numbers))
+    let fields = &numbers[FIELDS..FIELDS + 4 * field_count(numbers)];
+    policy_given(numbers[REGIONS], &numbers[SIZES..SIZES + 16], fields)
 }

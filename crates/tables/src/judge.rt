@@ -9,7 +9,7 @@ use output::print_wrong;
 use passes::Answer;
 use policy::Policy;
 use records::edition::edition_of;
-use records::given::policy_at;
+use records::given::policy_given;
 use records::judging::Wrong;
 use records::reading::{BadRecord, Numbers};
 use v8::Edition;
@@ -61,13 +61,9 @@ fn table_after(numbers: &Numbers, marks: &[u8; MOST_BYTES]) -> [u8; MOST_BYTES] 
 
 // The policy, as it stands: it may break rules.
 fn policy_of(numbers: &Numbers) -> Policy {
-    policy_at(
-        numbers,
-        REGIONS,
-        SIZES,
-        words_end(numbers),
-        field_count(numbers),
-    )
+    let first = words_end(numbers);
+    let fields = &numbers[first..first + 4 * field_count(numbers)];
+    policy_given(numbers[REGIONS], &numbers[SIZES..SIZES + 16], fields)
 }
 
 // The answer to the record's routine, with the table lent.
@@ -79,7 +75,7 @@ fn answer_of(
 ) -> Answer {
     let policy = policy_of(numbers);
     let words = &numbers[WORDS..words_end(numbers)];
-    list_kinds(edition, policy, words, &row[..entry_length(numbers)], table)
+    list_kinds(edition, &policy, words, &row[..entry_length(numbers)], table)
 }
 
 // Makes the listing again, and compares its answer and all bytes of the table and behind it.
