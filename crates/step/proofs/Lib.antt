@@ -1,4 +1,3 @@
-pub mod Arrived
 pub mod Writing
 pub mod ScratchMarks
 pub mod NoOther

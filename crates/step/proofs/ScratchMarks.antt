@@ -1,12 +1,13 @@
 -- The marks of scratch words stand after those of the registers, so that neither changes the other.
 use Prim.Native.Nat.{ℕ, zero, suc, ◌+◌, ◌-◌, ◌≤◌, ◌<◌}
-use mathlib.Core.Path.{◌≡◌, refl, ◌∙◌}
+use mathlib.Core.Path.{◌≡◌, refl, ap, ◌∙◌}
 use mathlib.Core.Bool.{Bool, true, false}
 use mathlib.Core.List.{List, [], ◌∷◌}
 use native.Mathlib.Omega.{arith}
 use lib.Dec.{eqb}
-use lib.ListN.{length, get_or, set, length-set}
-use lib.Seq.{get_or-set_same, get_or-set_other}
+use lib.ListN.{length, get_or, set, length-set, replicate}
+use lib.Seq.{get_or-set_same, get_or-set_other, paste}
+use Rattle.std.proofs.lemmas.List.Edits.{paste_none, fill_from_more}
 use borrow.Author.Tests.{eqb-true, eqb-false}
 use Rattle.memory.specs.Frame.{scratch_count}
 use Rattle.step.specs.declared.Registers.{Registers}
@@ -54,12 +55,17 @@ unset_there (suc n) marks i j a l = at (eqb j i) refl (λ m k. unset_there n (se
     at true e rest = rw (eqb-true j i e) (unset_below n (set marks i false) (i + 1) i (omega arith) ∙ unset_one marks i)
     at false e rest = let away = eqb-false j i e in rest (omega arith) (omega arith)
 
--- with marks left up to the last, the next one is made unset first
-pub unset_next : (marks : List Bool) (i : ℕ) → i < mark_count → unset_from marks i (mark_count - i) ≡ unset_from (set marks i false) (i + 1) (mark_count - (i + 1))
-unset_next marks i l = let more : mark_count - i ≡ suc (mark_count - (i + 1)) = omega arith in rw more
+-- making marks unset one by one is writing as many unset marks at once
+unset_on : (n k m i at : ℕ) (marks : List Bool) → i ≡ at + k → m ≡ k + n → at + m ≤ length marks
+    → unset_from (paste marks at (replicate k false) k) i n ≡ paste marks at (replicate m false) m
+unset_on zero k m i at marks e q h = let same : m ≡ k = omega arith in rw same
+unset_on (suc n) k m i at marks e q h =
+    let within : at + k < length marks = omega arith in
+    rw (e, fill_from_more marks at k false within) (unset_on n (k + 1) m (at + k + 1) at marks (omega arith) (omega arith) h)
 
-pub unset_last : (marks : List Bool) (i : ℕ) → mark_count ≤ i → unset_from marks i (mark_count - i) ≡ marks
-unset_last marks i l = let none : mark_count - i ≡ 0 = omega arith in rw none
+pub unset_paste : (n at : ℕ) (marks : List Bool) → at + n ≤ length marks → unset_from marks at n ≡ paste marks at (replicate n false) n
+unset_paste n at marks h =
+    ap (λ (xs : List Bool). unset_from xs at n) (paste_none marks at []) ∙ unset_on n 0 n at at marks (omega arith) (omega arith) h
 
 unset_length : (n : ℕ) (marks : List Bool) (i : ℕ) → length (unset_from marks i n) ≡ length marks
 unset_length zero marks i = refl

@@ -46,6 +46,6 @@ Does w after k before f =
     → completed l k w after memory ≡ leaving (core_of before memory) (f l (record { control = k; core = core_of before memory }))
 
 -- the answer that control goes from k to a destination
-unfoldable pub arriving : Control → Destination → Went
+abbrev pub arriving : Control → Destination → Went
 arriving k (To w) = record { progress = Goes; control = go_to w.0 }
 arriving k Caller = record { progress = Returned; control = k }

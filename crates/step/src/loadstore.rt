@@ -14,6 +14,7 @@ use v8::{Access, Displacement};
 
 // Where an access aims: 102 where what it reads is unset, `others` being the rest of that, 104 where
 // the address is no multiple of the width.
+#[tactic(auto, unfolding(crate::specs::Effect::aim_in))]
 fn aim(registers: &Registers, others: bool, rs1: u8, d: Displacement, width: u32) -> Aim
     requires { 1 ≤ width }
     ensures { result ≡ aim_of registers.now others rs1 d width }

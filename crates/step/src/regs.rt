@@ -7,6 +7,7 @@ use v8::Operand;
 
 impl Registers {
     // What register r reads as.
+    #[tactic(auto, unfolding(crate::specs::Registers::value_in))]
     pub fn value(&self, r: u8) -> u32
         ensures { result ≡ value_of self.now r }
     {
@@ -21,6 +22,7 @@ impl Registers {
     }
 
     // Whether register r is set.
+    #[tactic(auto, unfolding(crate::specs::Registers::set_in))]
     pub fn is_set(&self, r: u8) -> bool
         ensures { result ≡ is_set self.now r }
     {
@@ -35,6 +37,7 @@ impl Registers {
     }
 
     // Writes register r, which is set from then on.
+    #[tactic(auto, unfolding(crate::specs::Registers::values_with, crate::specs::Registers::marks_with))]
     pub fn write(&mut self, r: u8, v: u32)
         ensures { self.new ≡ written self.old r v }
     {

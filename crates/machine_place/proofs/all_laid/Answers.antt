@@ -13,13 +13,13 @@ loop-i-init c = (search rules, all_none _, all_none _)
 pub returns-then-not-base_ok : goal.returns-then-not-base_ok
 returns-then-not-base_ok c = let a = c.args in
     let fails = sym c.base_ok.ensures ∙ c.if-not-base_ok.true in
-    rw (all_not (base_placed_at a.sizes.now a.bases.now) _ _ c.loop-i-test.true fails)
+    rw (all_not (base_placed_at a.regions.now.sizes a.bases.now) _ _ c.loop-i-test.true fails)
 
 pub returns-then-not-apart_from_all : goal.returns-then-not-apart_from_all
 unfolding disjoint_in
 returns-then-not-apart_from_all c = let a = c.args in
     let fails = sym c.apart_from_all.ensures ∙ c.if-not-apart_from_all.true in
-    rw (all_not (disjoint_in a.sizes.now a.bases.now) _ _ c.loop-i-test.true fails, and-false)
+    rw (all_not (disjoint_in a.regions.now.sizes a.bases.now) _ _ c.loop-i-test.true fails, and-false)
 
 pub loop-i-preserved : goal.loop-i-preserved
 unfolding disjoint_in

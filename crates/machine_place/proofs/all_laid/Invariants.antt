@@ -1,4 +1,4 @@
-use Prim.Native.Nat.{◌≤◌, ◌-◌}
+use Prim.Native.Nat.{◌≤◌}
 use mathlib.Core.Path.{◌≡◌}
 use mathlib.Core.Bool.{true}
 use Rattle.v8.specs.Search.{all}
@@ -6,7 +6,4 @@ use Rattle.machine_place.specs.Placement.{base_placed_at, disjoint_in}
 use Rattle.machine_place.proofs.all_laid.Given as goal
 
 abbrev pub invariant-loop-i : goal.invariant-loop-i
-invariant-loop-i l = (l.i ≤ l.regions) × (all (base_placed_at l.sizes l.bases) l.i ≡ true) × (all (disjoint_in l.sizes l.bases) l.i ≡ true)
-
-abbrev pub decreases-loop-i : goal.decreases-loop-i
-decreases-loop-i l = l.regions - l.i
+invariant-loop-i l = (l.i ≤ l.n) × (all (base_placed_at l.regions.sizes l.bases) l.i ≡ true) × (all (disjoint_in l.regions.sizes l.bases) l.i ≡ true)

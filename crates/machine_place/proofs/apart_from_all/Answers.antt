@@ -14,7 +14,7 @@ pub returns-then-not-apart : goal.returns-then-not-apart
 returns-then-not-apart c = let a = c.args in
     let fails = sym c.apart.ensures ∙ c.if-not-apart.true in
     let within = c.loop-i-test.true in
-    sym (all_not (apart_from_region a.sizes.now a.bases.now a.base a.size) _ _ within fails)
+    sym (all_not (apart_from_region a.regions.now.sizes a.bases.now a.base a.size) _ _ within fails)
 
 pub loop-i-preserved : goal.loop-i-preserved
 loop-i-preserved c = let passes = sym c.apart.ensures ∙ c.if-not-apart.false in

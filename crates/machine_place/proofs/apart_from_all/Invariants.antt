@@ -1,4 +1,4 @@
-use Prim.Native.Nat.{◌≤◌, ◌-◌}
+use Prim.Native.Nat.{◌≤◌}
 use mathlib.Core.Path.{◌≡◌}
 use mathlib.Core.Bool.{true}
 use Rattle.v8.specs.Search.{all}
@@ -6,7 +6,4 @@ use Rattle.machine_place.specs.Placement.{apart_from_region}
 use Rattle.machine_place.proofs.apart_from_all.Given as goal
 
 abbrev pub invariant-loop-i : goal.invariant-loop-i
-invariant-loop-i l = (l.i ≤ l.n) × (all (apart_from_region l.sizes l.bases l.base l.size) l.i ≡ true)
-
-abbrev pub decreases-loop-i : goal.decreases-loop-i
-decreases-loop-i l = l.n - l.i
+invariant-loop-i l = (l.i ≤ l.n) × (all (apart_from_region l.regions.sizes l.bases l.base l.size) l.i ≡ true)
