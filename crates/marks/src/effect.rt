@@ -21,43 +21,44 @@ fn operand_mark(marks: &[u8; REGISTERS], x: Operand) -> u8
 fn is_r0(x: Operand) -> bool
     ensures { result ≡ is_r0 x }
 {
-    match x {
-        Operand::Reg(r) => r == 0,
-        Operand::Imm(_) => false,
-    }
+    matches!(x, Operand::Reg(0))
 }
 
 // The mark of what is made of numbers: a number, and unset of anything else.
+#[tactic(auto, using(v8::proofs::Choice::tests), unfolding(crate::specs::Effect::of_numbers))]
 fn of_numbers(a: u8, b: u8) -> u8
     ensures { result ≡ of_numbers a b }
 {
-    if (a == NUMBER) & (b == NUMBER) {
-        return NUMBER;
+    match (a, b) {
+        (NUMBER, NUMBER) => NUMBER,
+        _ => UNSET,
     }
-    UNSET
 }
 
 // The mark of a sum.
+#[tactic(auto, using(v8::proofs::Choice::tests), unfolding(crate::specs::Effect::sum_mark))]
 fn sum_mark(a: u8, b: u8) -> u8
     ensures { result ≡ sum_mark a b }
 {
-    if ((a == ADDRESS) & (b == NUMBER)) | ((a == NUMBER) & (b == ADDRESS)) {
-        return ADDRESS;
+    match (a, b) {
+        (ADDRESS, NUMBER) | (NUMBER, ADDRESS) => ADDRESS,
+        _ => of_numbers(a, b),
     }
-    of_numbers(a, b)
 }
 
 // The mark of a difference.
+#[tactic(auto, using(v8::proofs::Choice::tests), unfolding(crate::specs::Effect::difference_mark))]
 fn difference_mark(a: u8, b: u8) -> u8
     ensures { result ≡ difference_mark a b }
 {
-    if (a == ADDRESS) & (b == NUMBER) {
-        return ADDRESS;
+    match (a, b) {
+        (ADDRESS, NUMBER) => ADDRESS,
+        _ => of_numbers(a, b),
     }
-    of_numbers(a, b)
 }
 
 // The mark that OR gives: with the register r0 it copies.
+#[tactic(auto, using(v8::proofs::Choice::tests), unfolding(crate::specs::Effect::or_mark))]
 fn or_mark(marks: &[u8; REGISTERS], rs1: u8, x: Operand) -> u8
     ensures { result ≡ or_mark marks.now rs1 x }
 {
@@ -80,13 +81,11 @@ fn alu_mark(marks: &[u8; REGISTERS], op: AluOp, rs1: u8, x: Operand) -> u8
     let second = operand_mark(marks, x);
     match op {
         AluOp::Add => sum_mark(first, second),
-        AluOp::And => of_numbers(first, second),
-        AluOp::Or => or_mark(marks, rs1, x),
-        AluOp::Xor => of_numbers(first, second),
         AluOp::Sub => difference_mark(first, second),
-        AluOp::Andn => of_numbers(first, second),
-        AluOp::Orn => of_numbers(first, second),
-        AluOp::Xnor => of_numbers(first, second),
+        AluOp::Or => or_mark(marks, rs1, x),
+        AluOp::And | AluOp::Xor | AluOp::Andn | AluOp::Orn | AluOp::Xnor => {
+            of_numbers(first, second)
+        }
     }
 }
 
@@ -96,10 +95,7 @@ fn load_mark(op: LoadOp) -> u8
 {
     match op {
         LoadOp::Ld => UNSET,
-        LoadOp::Ldub => NUMBER,
-        LoadOp::Lduh => NUMBER,
-        LoadOp::Ldsb => NUMBER,
-        LoadOp::Ldsh => NUMBER,
+        LoadOp::Ldub | LoadOp::Lduh | LoadOp::Ldsb | LoadOp::Ldsh => NUMBER,
     }
 }
 
@@ -126,8 +122,7 @@ fn operation_mark(marks: &[u8; REGISTERS], x: Operation) -> u8
             ..
         } => alu_mark(marks, op, rs1, operand),
         Operation::Shift { rs1, count, .. } => {
-            let first = mark_of(marks, rs1);
-            of_numbers(first, operand_mark(marks, count))
+            of_numbers(mark_of(marks, rs1), operand_mark(marks, count))
         }
         Operation::Memory { access, .. } => access_mark(access),
     }
@@ -139,8 +134,7 @@ fn instruction_mark(marks: &[u8; REGISTERS], x: Instruction) -> u8
 {
     match x {
         Instruction::Plain(operation) => operation_mark(marks, operation),
-        Instruction::Branch(_) => UNSET,
-        Instruction::Return => UNSET,
+        Instruction::Branch(_) | Instruction::Return => UNSET,
     }
 }
 
