@@ -16,12 +16,9 @@ pub fn marks_at(table: &[u8; TABLE_MARKS], w: usize) -> [u8; REGISTERS]
     requires { w < most_words }
     ensures { result ≡ marks_at table.now w }
 {
+    let start = REGISTERS * w;
     let mut marks = [UNSET; REGISTERS];
-    let mut r: usize = 0;
-    while r < REGISTERS {
-        marks[r] = table[REGISTERS * w + r];
-        r += 1;
-    }
+    marks.copy_from_slice(&table[start..start + REGISTERS]);
     marks
 }
 
@@ -31,11 +28,9 @@ pub fn entry_marks(entry: &[u8]) -> [u8; REGISTERS]
     ensures { result ≡ entry_marks entry.now }
 {
     let mut marks = [UNSET; REGISTERS];
-    let mut r: usize = 0;
-    while r < REGISTERS {
+    for r in 0..REGISTERS {
         let e = read_entry(entry, ENTRY_BYTES * r);
         marks[r] = mark_of_kind(e.kind);
-        r += 1;
     }
     marks
 }
@@ -44,13 +39,7 @@ pub fn entry_marks(entry: &[u8]) -> [u8; REGISTERS]
 pub fn is_reached(marks: &[u8; REGISTERS]) -> bool
     ensures { result ≡ reached marks.now }
 {
-    let mut reached = true;
-    let mut r: usize = 0;
-    while r < REGISTERS {
-        reached = reached & (marks[r] != NOT_REACHED);
-        r += 1;
-    }
-    reached
+    !marks.contains(&NOT_REACHED)
 }
 
 // Raises a table by marks that arrive at word w; whether a mark has changed.
@@ -60,13 +49,11 @@ pub fn raise_at(table: &mut [u8; TABLE_MARKS], w: usize, marks: &[u8; REGISTERS]
     ensures changed { result ≡ ltb (height table.old) (height table.new) }
 {
     let mut changed = false;
-    let mut r: usize = 0;
-    while r < REGISTERS {
+    for (r, &mark) in marks.iter().enumerate() {
         let old = table[REGISTERS * w + r];
-        let new = meet(old, marks[r]);
+        let new = meet(old, mark);
         table[REGISTERS * w + r] = new;
-        changed = changed | (new != old);
-        r += 1;
+        changed |= new != old;
     }
     changed
 }
