@@ -6,7 +6,6 @@ use native.Mathlib.Omega.{arith}
 use lib.ListN.{length, take, drop}
 use lib.Seq.{length-take-le}
 use Rattle.std.proofs.lemmas.List.{get_or-drop, get_or-take, length-drop}
-
 use borrow.Author.Tests.{lt-ltb, le-ltb}
 use Rattle.marks.specs.Marks.{unset, register_count, values_from, mark_of}
 use Rattle.marks.proofs.Values.{values_length, value-at, has_all}
@@ -44,9 +43,10 @@ unfolding marks_at
 marks_length table w = values_length (λ (q : ℕ). mark_at table (place_of w q)) 0 register_count
 
 -- they are the places from the word's first on
-pub marks_taken : (table : List ℕ) (w : ℕ) → place_of w register_count ≤ length table → take register_count (drop (register_count * w) table) ≡ marks_at table w
+pub marks_taken : (table : List ℕ) (w n : ℕ) → n ≡ register_count → place_of w register_count ≤ length table → take n (drop (register_count * w) table) ≡ marks_at table w
 unfolding marks_at
-marks_taken table w l =
-    has_all (λ (r : ℕ). mark_at table (place_of w r)) register_count (take register_count (drop (register_count * w) table))
+marks_taken table w n e l =
+    rw e
+    (has_all (λ (r : ℕ). mark_at table (place_of w r)) register_count (take register_count (drop (register_count * w) table))
     (length-take-le register_count (drop (register_count * w) table) (omega (arith, length-drop (register_count * w) table)))
-    (λ r m. get_or-take register_count (drop (register_count * w) table) r 0 m ∙ get_or-drop (register_count * w) table r 0)
+    (λ r m. get_or-take register_count (drop (register_count * w) table) r 0 m ∙ get_or-drop (register_count * w) table r 0))

@@ -13,6 +13,7 @@ use Rattle.v8.proofs.Choice.{false_true}
 use Rattle.marks.specs.Marks.{register_count}
 use Rattle.marks.proofs.Values.{values_length, value-at, has_all}
 use Rattle.lister_rules.specs.Table.{place_of, mark_at, marks_at, raised_at, TableAtMost, height}
+use Rattle.lister_rules.specs.declared.sending.Work.{Work}
 use Rattle.lister_rules.specs.Work.{is_pending, Held, Worked}
 use Rattle.lister_rules.proofs.Places.{word_of}
 use Rattle.lister_rules.proofs.Tables.{inside, mark_behind, raised_length, raised-mark, raised_least, height_rises, height_same}
@@ -37,57 +38,66 @@ marks_other table w marks v n =
         (λ i. mark_behind (raised_at table w marks) k (omega (arith, i, raised_length table w marks)) ∙ sym (mark_behind table k i))
 
 -- nothing is done
-pub worked_none : (table : List ℕ) (pending : List Bool) → Held table pending → Worked table pending table pending most_words
-worked_none table pending h =
-    record { held = h; below = λ w l. refl; kept = λ w e. (e, refl); higher = λ l. absurd (omega (arith, l)); high = omega arith }
+pub worked_none : (x : Work) → Held x.table x.pending → Worked x x
+worked_none x h =
+    record { held = h; count = refl; next = omega arith; below = λ w l. refl; kept = λ w e. (e, refl); higher = λ l. absurd (omega (arith, l)); high = omega arith }
 
--- nothing is changed: a raised table that is no higher is the same
-pub worked_same : (table : List ℕ) (pending : List Bool) (after : List ℕ) (w : ℕ) (marks : List ℕ) → after ≡ raised_at table w marks
-    → Held table pending → ltb (height table) (height after) ≡ false → Worked table pending after pending most_words
-worked_same table pending after w marks e h f = subst (λ (t : List ℕ). Worked table pending t pending most_words) same (worked_none table pending h)
-  where
-    above : TableAtMost table after
-    above = subst (TableAtMost table) (sym e) (raised_least table w marks)
+module _ (x y : Work) (w : ℕ) (marks : List ℕ) (c : y.count ≡ x.count) (e : y.table ≡ raised_at x.table w marks) (h : Held x.table x.pending) where
+  long : length y.table ≡ length x.table
+  long = ap length e ∙ raised_length x.table w marks
 
-    long : length table ≡ length after
-    long = sym (ap length e ∙ raised_length table w marks)
+  -- nothing is changed: a raised table that is no higher is the same
+  pub worked_same : y.next ≡ x.next → y.pending ≡ x.pending → ltb (height x.table) (height y.table) ≡ false → Worked x y
+  worked_same n p f =
+      record {
+        held = (long ∙ h.0, rw p h.1);
+        count = c;
+        next = omega (arith, n);
+        below = λ v l. ap (λ (t : List ℕ). marks_at t v) (sym same);
+        kept = λ v u. (rw p at u, ap (λ (t : List ℕ). marks_at t v) (sym same));
+        higher = λ l. absurd (omega (arith, l, n));
+        high = height_rises x.table y.table (sym long) above;
+      }
+    where
+      above : TableAtMost x.table y.table
+      above = subst (TableAtMost x.table) (sym e) (raised_least x.table w marks)
 
-    same : table ≡ after
-    same = height_same table after long above (omega (arith, height_rises table after long above, ltb-false (height table) (height after) f))
+      same : x.table ≡ y.table
+      same = height_same x.table y.table (sym long) above (omega (arith, height_rises x.table y.table (sym long) above, ltb-false (height x.table) (height y.table) f))
 
--- word w is raised, and flagged
-pub worked_raised : (table : List ℕ) (pending : List Bool) (after : List ℕ) (w : ℕ) (marks : List ℕ) → w < most_words → after ≡ raised_at table w marks
-    → Held table pending → height table < height after → Worked table pending after (set pending w true) w
-worked_raised table pending after w marks l e h up =
-    record {
-      held = (ap length e ∙ raised_length table w marks ∙ h.0, length-set pending w true ∙ h.1);
-      below = λ v m. same v (λ q. absurd (omega (arith, q, m)));
-      kept = λ v f. let n = unflagged v f in (sym (get_or-set_other pending w v true false n) ∙ f, same v n);
-      higher = λ m. up;
-      high = omega (arith, up);
-    }
-  where
-    same : (v : ℕ) → (v ≡ w → ⊥) → marks_at after v ≡ marks_at table v
-    same v n = ap (λ (t : List ℕ). marks_at t v) e ∙ marks_other table w marks v n
+  -- word w is raised, and flagged
+  pub worked_raised : w < most_words → y.next ≤ x.next → y.next ≤ w → y.pending ≡ set x.pending w true → height x.table < height y.table → Worked x y
+  worked_raised l n m p up =
+      record {
+        held = (long ∙ h.0, ap length p ∙ length-set x.pending w true ∙ h.1);
+        count = c;
+        next = n;
+        below = λ v b. same v (λ q. absurd (omega (arith, q, m, b)));
+        kept = λ v f. let n = unflagged v (rw p at f) in (sym (get_or-set_other x.pending w v true false n) ∙ (rw p at f), same v n);
+        higher = λ l. up;
+        high = omega (arith, up);
+      }
+    where
+      same : (v : ℕ) → (v ≡ w → ⊥) → marks_at y.table v ≡ marks_at x.table v
+      same v n = ap (λ (t : List ℕ). marks_at t v) e ∙ marks_other x.table w marks v n
 
-    unflagged : (v : ℕ) → is_pending (set pending w true) v ≡ false → v ≡ w → ⊥
-    unflagged v f q =
-        false_true (sym f ∙ ap (is_pending (set pending w true)) q ∙ get_or-set_same pending w true false (omega (arith, l, h.1)))
+      unflagged : (v : ℕ) → is_pending (set x.pending w true) v ≡ false → v ≡ w → ⊥
+      unflagged v f q =
+          false_true (sym f ∙ ap (is_pending (set x.pending w true)) q ∙ get_or-set_same x.pending w true false (omega (arith, l, h.1)))
 
 -- one part, and the next
-pub worked_then : (t u v : List ℕ) (p q r : List Bool) (a b : ℕ) → Worked t p u q a → Worked u q v r b → Worked t p v r (cond (ltb a b) a b)
-worked_then t u v p q r a b x y = at (ltb a b) refl
+pub worked_then : (x y z : Work) → Worked x y → Worked y z → Worked x z
+worked_then x y z a b =
+    record {
+      held = b.held;
+      count = b.count ∙ a.count;
+      next = omega (arith, a.next, b.next);
+      below = λ w l. b.below w l ∙ a.below w (omega (arith, l, b.next));
+      kept = λ w f. let g = b.kept w f in let k = a.kept w g.0 in (k.0, g.1 ∙ k.1);
+      higher = λ l. rises l (ltb y.next x.next) refl;
+      high = omega (arith, a.high, b.high);
+    }
   where
-    both : (c : ℕ) → c ≤ a → c ≤ b → (c < most_words → height t < height v) → Worked t p v r c
-    both c l m up =
-        record {
-          held = y.held;
-          below = λ w i. y.below w (omega (arith, i, m)) ∙ x.below w (omega (arith, i, l));
-          kept = λ w f. let g = y.kept w f in let k = x.kept w g.0 in (k.0, g.1 ∙ k.1);
-          higher = up;
-          high = omega (arith, x.high, y.high);
-        }
-
-    at : (s : Bool) → ltb a b ≡ s → Worked t p v r (cond s a b)
-    at true s = both a (omega arith) (omega (arith, ltb-true a b s)) (λ l. omega (arith, x.higher l, y.high))
-    at false s = both b (omega (arith, ltb-false a b s)) (omega arith) (λ l. omega (arith, x.high, y.higher l))
+    rises : z.next < x.next → (t : Bool) → ltb y.next x.next ≡ t → height x.table < height z.table
+    rises l true t = omega (arith, a.higher (ltb-true y.next x.next t), b.high)
+    rises l false t = omega (arith, a.high, b.higher (omega (arith, ltb-false y.next x.next t, l)))

@@ -1,12 +1,9 @@
 // What a word sends: its marks to its slot, and along its edges what they are after it (specs/Rules.antt).
-// A word that is raised by it has its own marks to pass on, and is flagged; the lowest is told, or
-// MOST_WORDS where none is raised.
-ghost use Rattle.std.specs.Prelude.{◌≡◌, cond, ltb, ◌<◌, ◌≤◌};
+ghost use Rattle.std.specs.Prelude.{◌≡◌, ◌<◌, ◌≤◌};
 ghost use Rattle.v8.specs.Numbers.{most_words};
 ghost use Rattle.v8.specs.declared.Reading.TheVariants.{Read};
 ghost use Rattle.lister_rules.specs.Table.{marks_at};
 ghost use Rattle.lister_rules.specs.Rules.{to_word, sent_along, shown, sends, sends_reached, raised_by, raised_by_all};
-ghost use Rattle.lister_rules.specs.Work.{Held, Worked};
 
 use crate::TABLE_MARKS;
 use crate::table::{is_reached, marks_at, raise_at};
@@ -18,127 +15,93 @@ use marks::effect::{marks_after, marks_after_word};
 use v8::numbers::MOST_WORDS;
 use v8::{Instruction, Reading, WordIndex};
 
-// Marks arrive at a word, of `count` words.
-fn send_to(
-    table: &mut [u8; TABLE_MARKS],
-    pending: &mut [bool; MOST_WORDS],
-    count: usize,
-    to: WordIndex,
-    marks: [u8; REGISTERS],
-) -> usize
-    requires { (count ≤ most_words) × Held table.old pending.old }
-    ensures table { table.new ≡ raised_by table.old (to_word count to.0 marks) }
-    ensures worked { Worked table.old pending.old table.new pending.new result }
-{
-    let w = to.0 as usize;
-    if count <= w {
-        return MOST_WORDS;
-    }
-    if raise_at(table, w, &marks) {
-        pending[w] = true;
-        return w;
-    }
-    MOST_WORDS
+// A table that is being raised, for `count` words. A word that is raised has its own marks to pass on,
+// and is flagged; `next` is the lowest that may have some.
+#[derive(Clone, Copy)]
+pub struct Work {
+    pub table: [u8; TABLE_MARKS],
+    pub pending: [bool; MOST_WORDS],
+    pub count: usize,
+    pub next: usize,
+    ghost most: { count ≤ most_words },
 }
 
-// Marks go along an edge, over the slot, read as x, where that runs.
-fn send_along(
-    table: &mut [u8; TABLE_MARKS],
-    pending: &mut [bool; MOST_WORDS],
-    count: usize,
-    x: Reading,
-    e: Edge,
-    marks: [u8; REGISTERS],
-) -> usize
-    requires { (count ≤ most_words) × Held table.old pending.old }
-    ensures table { table.new ≡ raised_by table.old (sent_along count x e marks) }
-    ensures worked { Worked table.old pending.old table.new pending.new result }
-{
-    if !e.exists {
-        return MOST_WORDS;
-    }
-    let to = e.to;
-    match to {
-        Destination::To(w) => {
-            if e.slot {
-                return send_to(table, pending, count, w, marks_after_word(marks, x));
-            }
-            send_to(table, pending, count, w, marks)
+impl Work {
+    ghost use Rattle.lister_rules.specs.Work.{Worked};
+
+    // Marks arrive at a word.
+    fn send_to(&mut self, to: WordIndex, marks: &[u8; REGISTERS])
+        ensures table { self.new.table
+            ≡ raised_by self.old.table (to_word self.old.count to.0 marks.now) }
+        ensures worked { Worked self.old self.new }
+    {
+        let w = to.0 as usize;
+        if self.count <= w {
+            return;
         }
-        Destination::Caller => MOST_WORDS,
+        if raise_at(&mut self.table, w, marks) {
+            self.pending[w] = true;
+            self.next = self.next.min(w);
+        }
     }
-}
 
-// A transfer's slot shows its marks.
-fn show(
-    table: &mut [u8; TABLE_MARKS],
-    pending: &mut [bool; MOST_WORDS],
-    count: usize,
-    at: WordIndex,
-    x: Instruction,
-    marks: [u8; REGISTERS],
-) -> usize
-    requires { (at.0 < most_words) × (count ≤ most_words) × Held table.old pending.old }
-    ensures table { table.new ≡ raised_by table.old (shown count at.0 x marks) }
-    ensures worked { Worked table.old pending.old table.new pending.new result }
-{
-    if is_transfer(x) {
-        return send_to(table, pending, count, WordIndex(at.0 + 1), marks);
+    // Marks go along an edge, over the slot, read as x, where that runs.
+    fn send_along(&mut self, x: Reading, e: Edge, marks: [u8; REGISTERS])
+        ensures table { self.new.table
+            ≡ raised_by self.old.table (sent_along self.old.count x e marks) }
+        ensures worked { Worked self.old self.new }
+    {
+        if !e.exists {
+            return;
+        }
+        if let Destination::To(w) = e.to {
+            if e.slot {
+                return self.send_to(w, &marks_after_word(marks, x));
+            }
+            self.send_to(w, &marks)
+        }
     }
-    MOST_WORDS
-}
 
-// The lower of two words.
-pub fn lower(a: usize, b: usize) -> usize
-    ensures { result ≡ cond (ltb a b) a b }
-{
-    if a < b {
-        return a;
+    // A transfer's slot shows its marks.
+    fn show(&mut self, at: WordIndex, x: Instruction, marks: &[u8; REGISTERS])
+        requires { at.0 < most_words }
+        ensures table { self.new.table
+            ≡ raised_by self.old.table (shown self.old.count at.0 x marks.now) }
+        ensures worked { Worked self.old self.new }
+    {
+        if is_transfer(x) {
+            self.send_to(WordIndex(at.0 + 1), marks);
+        }
     }
-    b
-}
 
-// All that an instruction sends, its slot being read as `slot`.
-fn send_all(
-    table: &mut [u8; TABLE_MARKS],
-    pending: &mut [bool; MOST_WORDS],
-    count: usize,
-    at: WordIndex,
-    x: Instruction,
-    slot: Reading,
-    marks: [u8; REGISTERS],
-) -> usize
-    requires { (at.0 < most_words) × (count ≤ most_words) × Held table.old pending.old }
-    ensures table { table.new ≡ raised_by_all table.old (sends count at.0 (Read x) slot marks) }
-    ensures worked { Worked table.old pending.old table.new pending.new result }
-{
-    let first = show(table, pending, count, at, x, marks);
-    let after = marks_after(marks, x);
-    let second = send_along(table, pending, count, slot, edge_of(at, x, true), after);
-    let third = send_along(table, pending, count, slot, edge_of(at, x, false), after);
-    lower(first, lower(second, third))
-}
-
-// All that a word sends, if it is reached, being read as x and its slot as `slot`.
-pub fn pass_on(
-    table: &mut [u8; TABLE_MARKS],
-    pending: &mut [bool; MOST_WORDS],
-    count: usize,
-    at: WordIndex,
-    x: Reading,
-    slot: Reading,
-) -> usize
-    requires { (at.0 < most_words) × (count ≤ most_words) × Held table.old pending.old }
-    ensures table { table.new
-        ≡ raised_by_all table.old (sends_reached count at.0 x slot (marks_at table.old at.0)) }
-    ensures worked { Worked table.old pending.old table.new pending.new result }
-{
-    let marks = marks_at(table, at.0 as usize);
-    if !is_reached(&marks) {
-        return MOST_WORDS;
+    // All that an instruction sends, its slot being read as `slot`.
+    fn send_all(&mut self, at: WordIndex, x: Instruction, slot: Reading, marks: [u8; REGISTERS])
+        requires { at.0 < most_words }
+        ensures table { self.new.table
+            ≡ raised_by_all self.old.table (sends self.old.count at.0 (Read x) slot marks) }
+        ensures worked { Worked self.old self.new }
+    {
+        self.show(at, x, &marks);
+        let after = marks_after(marks, x);
+        self.send_along(slot, edge_of(at, x, true), after);
+        self.send_along(slot, edge_of(at, x, false), after);
     }
-    match x {
-        Reading::Read(instruction) => send_all(table, pending, count, at, instruction, slot, marks),
-        Reading::Unread(_) => MOST_WORDS,
+
+    // All that a word sends, if it is reached, being read as x and its slot as `slot`.
+    pub fn pass_on(&mut self, at: WordIndex, x: Reading, slot: Reading)
+        requires { at.0 < most_words }
+        ensures table { self.new.table
+            ≡ raised_by_all
+            self.old.table
+            (sends_reached self.old.count at.0 x slot (marks_at self.old.table at.0)) }
+        ensures worked { Worked self.old self.new }
+    {
+        let marks = marks_at(&self.table, at.0 as usize);
+        if !is_reached(&marks) {
+            return;
+        }
+        if let Reading::Read(instruction) = x {
+            self.send_all(at, instruction, slot, marks);
+        }
     }
 }

@@ -6,4 +6,4 @@ use Rattle.lister_rules.proofs.table.marks_at.Goals as goal
 
 pub returns : goal.returns
 returns c =
-    c.copy_from_slice.ensures.after ∙ marks_taken c.args.table.now c.args.w (omega (arith, c.requires, c.told-table))
+    c.copy_from_slice.ensures.after ∙ marks_taken c.args.table.now c.args.w _ (omega arith) (omega (arith, c.requires, c.told-table))
