@@ -18,6 +18,7 @@ use Rattle.marks.specs.Marks.{not_reached}
 use Rattle.lister_rules.specs.Table.{table_marks, mark_at, marks_at, raised_at, TableAtMost, height}
 use Rattle.lister_rules.specs.Rules.{entry_marks, entry_sent, sends_reached, sent_by, taken_in, all_taken_in, closed_at, closed, raised_by, raised_by_all}
 use Rattle.lister.specs.Listing.{listing_of, whole_table}
+use Rattle.lister_rules.specs.declared.sending.Work.{Work}
 use Rattle.lister_rules.specs.Work.{is_pending, Held, Worked}
 use Rattle.lister_rules.proofs.Tables.{inside, mark_behind, raised_length, taken_higher, height_most}
 use Rattle.lister_rules.proofs.Raised.{by_taken, all_least, all_higher, all_taken, to_within, sent_within}
@@ -114,77 +115,66 @@ module _ (readings : List Reading) (entry : List ℕ) where
       here true t i = slot_closed readings table w (subst (λ (u : Bool). u && examined readings w ≡ false) t e)
       here false t i = h.passed w i t
 
-  -- a word passes on what it sends
-  module _ (table : List ℕ) (pending : List Bool) (after : List ℕ) (pending_after : List Bool) (w a : ℕ) (x slot : Reading) (most : count ≤ most_words) (l : w < count)
-      (h : Raises table pending w) (e : examined readings w ≡ true) (q : x ≡ reading_at readings w) (r : slot ≡ reading_at readings (w + 1))
-      (s : after ≡ raised_by_all table (sends_reached count w x slot (marks_at table w))) (worked : Worked table (set pending w false) after pending_after a) where
-    sent : after ≡ raised_by_all table (sent_by readings table w)
-    sent = s ∙ ap (raised_by_all table) (sent_here readings table w x slot e q r)
+  -- a word passes on what it sends: its flag is taken away, and the next word is after it, or further back
+  module _ (pending : List Bool) (w : ℕ) (from to : Work) (x slot : Reading) (most : count ≤ most_words) (l : w < count)
+      (h : Raises from.table pending w) (e : examined readings w ≡ true) (q : x ≡ reading_at readings w) (r : slot ≡ reading_at readings (w + 1))
+      (taken : from.pending ≡ set pending w false) (next : from.next ≡ w + 1)
+      (s : to.table ≡ raised_by_all from.table (sends_reached count w x slot (marks_at from.table w))) (worked : Worked from to) where
+    sent : to.table ≡ raised_by_all from.table (sent_by readings from.table w)
+    sent = s ∙ ap (raised_by_all from.table) (sent_here readings from.table w x slot e q r)
 
-    higher : TableAtMost table after
-    higher = subst (TableAtMost table) (sym sent) (all_least table (sent_by readings table w))
+    higher : TableAtMost from.table to.table
+    higher = subst (TableAtMost from.table) (sym sent) (all_least from.table (sent_by readings from.table w))
 
     -- this word, if it keeps its marks; and each other that does and was closed
-    this_closed : marks_at after w ≡ marks_at table w → closed_at readings after w ≡ true
+    this_closed : marks_at to.table w ≡ marks_at from.table w → closed_at readings to.table w ≡ true
     unfolding closed_at
     this_closed m =
-        ap (all_taken_in after) (sent_same readings after table w m)
-        ∙ subst (λ (t : List ℕ). all_taken_in t (sent_by readings table w) ≡ true) (sym sent)
-        (all_taken count table (sent_by readings table w) (omega (arith, most, h.held.0)) (sent_within readings table w))
+        ap (all_taken_in to.table) (sent_same readings to.table from.table w m)
+        ∙ subst (λ (t : List ℕ). all_taken_in t (sent_by readings from.table w) ≡ true) (sym sent)
+        (all_taken count from.table (sent_by readings from.table w) (omega (arith, most, h.held.0)) (sent_within readings from.table w))
 
-    still_closed : (v : ℕ) → marks_at after v ≡ marks_at table v → closed_at readings table v ≡ true → closed_at readings after v ≡ true
+    still_closed : (v : ℕ) → marks_at to.table v ≡ marks_at from.table v → closed_at readings from.table v ≡ true → closed_at readings to.table v ≡ true
     unfolding closed_at
-    still_closed v m c = ap (all_taken_in after) (sent_same readings after table v m) ∙ all_higher table after (sent_by readings table v) higher c
+    still_closed v m c =
+        ap (all_taken_in to.table) (sent_same readings to.table from.table v m) ∙ all_higher from.table to.table (sent_by readings from.table v) higher c
 
-    passes : (v : ℕ) → v < count → is_pending pending_after v ≡ false → closed_at readings after v ≡ true
-    passes v i f = at (eqb v w) refl
+    -- a word is this one or another
+    either : (v : ℕ) → marks_at to.table v ≡ marks_at from.table v → ((v ≡ w → ⊥) → closed_at readings from.table v ≡ true)
+        → closed_at readings to.table v ≡ true
+    either v m other = at (eqb v w) refl
       where
-        kept : (is_pending (set pending w false) v ≡ false) × (marks_at after v ≡ marks_at table v)
-        kept = worked.kept v f
-
-        at : (t : Bool) → eqb v w ≡ t → closed_at readings after v ≡ true
+        at : (t : Bool) → eqb v w ≡ t → closed_at readings to.table v ≡ true
         at true t =
             let z = eqb-true v w t in
-            subst (λ (u : ℕ). closed_at readings after u ≡ true) (sym z) (this_closed (subst (λ (u : ℕ). marks_at after u ≡ marks_at table u) z kept.1))
-        at false t =
-            still_closed v kept.1 (h.passed v i (sym (get_or-set_other pending w v false false (eqb-false v w t)) ∙ kept.0))
+            subst (λ (u : ℕ). closed_at readings to.table u ≡ true) (sym z) (this_closed (subst (λ (u : ℕ). marks_at to.table u ≡ marks_at from.table u) z m))
+        at false t = still_closed v m (other (eqb-false v w t))
 
-    under : (v : ℕ) → v < a → v < w + 1 → v < count → closed_at readings after v ≡ true
-    under v b m i =
-        ⊎_elim
-        (λ (z : v ≡ w). subst (λ (u : ℕ). closed_at readings after u ≡ true) (sym z) (this_closed (subst (λ (u : ℕ). marks_at after u ≡ marks_at table u) z (worked.below v b))))
-        (λ (z : v < w). still_closed v (worked.below v b) (h.below v z i))
-        (eq-or-lt_of_le (omega (arith, m)))
+    passes : (v : ℕ) → v < count → is_pending to.pending v ≡ false → closed_at readings to.table v ≡ true
+    passes v i f =
+        let kept = worked.kept v f in
+        either v kept.1 (λ n. h.passed v i (sym (get_or-set_other pending w v false false n) ∙ ap (λ (p : List Bool). is_pending p v) (sym taken) ∙ kept.0))
 
-    raises_on : (next : ℕ) → next ≡ cond (ltb a (w + 1)) a (w + 1) → Raises after pending_after next
-    raises_on next z =
-        record {
+    under : (v : ℕ) → v < to.next → v < count → closed_at readings to.table v ≡ true
+    under v b i = either v (worked.below v b) (λ n. h.below v (omega (arith, n, b, worked.next, next)) i)
+
+    falls : (t : Bool) → ltb to.next (w + 1) ≡ t → left to.table to.next < left from.table w
+    falls true t =
+        let b = ltb-true to.next (w + 1) t in
+        omega (arith, worked.higher (omega (arith, b, next)), height_most to.table, worked.held.0, l, most)
+    falls false t = omega (arith, worked.high, height_most to.table, worked.held.0, l, ltb-false to.next (w + 1) t)
+
+    -- the table goes on to be raised, and what is left falls
+    pub goes_on : Raises to.table to.pending to.next × (left to.table to.next < left from.table w)
+    goes_on =
+        (record {
           held = worked.held;
-          entered = taken_higher table after (entry_sent count entry) higher h.entered;
-          least = λ other c. subst (λ (t : List ℕ). TableAtMost t other) (sym sent) (word_lowest readings entry table table other c (h.least other c) (h.least other c) w l);
+          entered = taken_higher from.table to.table (entry_sent count entry) higher h.entered;
+          least = λ other c. subst (λ (t : List ℕ). TableAtMost t other) (sym sent)
+              (word_lowest readings entry from.table from.table other c (h.least other c) (h.least other c) w l);
           passed = passes;
-          below = λ v b i. let both = lower_both v (subst (λ (u : ℕ). v < u) z b) in under v both.0 both.1 i;
-        }
-      where
-        lower_both : (v : ℕ) → v < cond (ltb a (w + 1)) a (w + 1) → (v < a) × (v < w + 1)
-        lower_both v b = at (ltb a (w + 1)) refl b
-          where
-            at : (t : Bool) → ltb a (w + 1) ≡ t → v < cond t a (w + 1) → (v < a) × (v < w + 1)
-            at true t b = (b, omega (arith, b, ltb-true a (w + 1) t))
-            at false t b = (omega (arith, b, ltb-false a (w + 1) t), b)
-
-    falls_on : (next : ℕ) → next ≡ cond (ltb a (w + 1)) a (w + 1) → left after next < left table w
-    falls_on next z = subst (λ (u : ℕ). left after u < left table w) (sym z) (at (ltb a (w + 1)) refl)
-      where
-        at : (t : Bool) → ltb a (w + 1) ≡ t → left after (cond t a (w + 1)) < left table w
-        at true t =
-            let b = ltb-true a (w + 1) t in
-            omega (arith, worked.higher (omega (arith, b, l, most)), height_most after, worked.held.0, l, most)
-        at false t = omega (arith, worked.high, height_most after, worked.held.0, l)
-
-    -- the table goes on to be raised from the lower of the next word and the lowest that was raised, and what is left falls
-    pub goes_on : (next : ℕ) → next ≡ cond (ltb a (w + 1)) a (w + 1) → Raises after pending_after next × (left after next < left table w)
-    goes_on next z = (raises_on next z, falls_on next z)
+          below = under;
+        }, falls (ltb to.next (w + 1)) refl)
 
   -- the listing has the places of a whole table
   pub listing_whole : count ≤ most_words → length (whole_table (listing_of readings entry)) ≡ table_marks
