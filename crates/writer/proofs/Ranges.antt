@@ -2,18 +2,17 @@
 -- parts is a word.
 use Prim.Native.Nat.{ℕ, ◌+◌, ◌*◌, ◌%◌, ◌^◌, ◌<◌}
 use mathlib.Core.Bool.{Bool, true, false}
-use mathlib.Core.Path.{◌≡◌}
+use mathlib.Core.Path.{◌≡◌, sym, subst, ◌∙◌}
 use native.Mathlib.Omega.{arith}
 use lib.Dec.{ltb, eqb}
 use borrow.Author.Tests.{ltb-true}
 use Rattle.v8.proofs.Choice.{cond_both}
 use Rattle.v8.specs.Signed.{sign_extend}
-use Rattle.writer.specs.Write.{Fits, i_bit, signed_bits, five_bits, operand_bits, count_bits, displacement_bits, branch_bits, alu_code, alu_code_cc, shift_code, load_code, store_code, access_code}
+use Rattle.writer.specs.Write.{i_bit, signed_bits, five_bits, operand_bits, count_bits, displacement_bits, branch_bits, alu_code, alu_code_cc, shift_code, load_code, store_code, access_code}
 use Rattle.v8.specs.declared.Edition.{Edition}
 use Rattle.v8.specs.declared.Edition.TheVariants.{V8, V9}
 use Rattle.v8.specs.declared.BranchForm.{BranchForm}
 use Rattle.v8.specs.declared.BranchForm.TheVariants.{Unpredicted, Predicted}
-use Rattle.v8.specs.declared.Bicc.{Bicc}
 use Rattle.v8.specs.declared.AluOp.{AluOp}
 use Rattle.v8.specs.declared.AluOp.TheVariants.{Add, And, Or, Xor, Sub, Andn, Orn, Xnor}
 use Rattle.v8.specs.declared.ShiftOp.{ShiftOp}
@@ -28,7 +27,12 @@ use Rattle.v8.specs.declared.Operand.{Operand}
 use Rattle.v8.specs.declared.Operand.TheVariants.{Reg, Imm}
 use Rattle.v8.specs.declared.Displacement.{Displacement}
 use Rattle.v8.specs.declared.Displacement.TheVariants.{Index, Bytes}
-use Rattle.std.specs.Prelude.{Option, Some}
+use Rattle.std.specs.Prelude.{Option, Some, None}
+
+-- a part of n bits
+abbrev pub Fits : ℕ → Option ℕ → Type 0
+Fits n (Some b) = b < 2 ^ n
+Fits n None = Unit {0}
 
 signed_fits : (n i k v : ℕ) → i + v % 2 ^ n < 2 ^ k → Fits k (signed_bits n i v)
 unfolding signed_bits
@@ -56,8 +60,9 @@ branch_fits V8 (Predicted hint) v = tt
 branch_fits V9 (Predicted true) v = signed_fits 19 (1 * 2 ^ 22 + 2 ^ 19) 25 v (omega arith)
 branch_fits V9 (Predicted false) v = signed_fits 19 (1 * 2 ^ 22 + 0) 25 v (omega arith)
 
-pub branch_below : (e : Edition) (x : Bicc) (b : ℕ) {low : Part} → low ≡ branch_bits e x.form x.distance.0 → low ≡ Some b → b < 2 ^ 25
-branch_below e x b h k = rw (← h, k) at (branch_fits e x.form x.distance.0)
+-- a part that is there is below its bound
+pub below : (n b : ℕ) {part low : Option ℕ} → Fits n part → low ≡ part → low ≡ Some b → b < 2 ^ n
+below n b f e q = subst (Fits n) (sym e ∙ q) f
 
 pub alu_small : (op : AluOp) → alu_code op < 8
 alu_small Add = omega arith

@@ -12,9 +12,9 @@ use Rattle.v8.proofs.Choice.{cond_went}
 use Rattle.v8.specs.Signed.{sign_extend}
 use Rattle.v8.specs.Field.{op_of, rd_of, annul_of, cond_of, op2_of, low22_of, cc_of, predict_of, low19_of, op3_of, rs1_of, i_of, unused_of, rs2_of, simm13_of}
 use Rattle.v8.specs.Read.{reading_of, branch_of, format00, format10, format11, operand_of, count_of, displacement_of, alu_with, shift_with, memory_with}
-use Rattle.writer.specs.Write.{writing_of, Fits, i_bit, signed_bits, five_bits, operand_bits, count_bits, displacement_bits, alu_code_cc, shift_code, access_code, pack_of, packed, sethi_word, branch_bits, branch_word, operation_word}
+use Rattle.writer.specs.Write.{writing_of, i_bit, signed_bits, five_bits, operand_bits, count_bits, displacement_bits, alu_code_cc, shift_code, access_code, pack_of, packed, sethi_word, branch_bits, branch_word, operation_word}
 use Rattle.writer.specs.Laws.{WrittenIsRead}
-use Rattle.writer.proofs.Ranges.{operand_fits, count_fits, displacement_fits, branch_fits, alu_cc_small, shift_small, access_small}
+use Rattle.writer.proofs.Ranges.{Fits, operand_fits, count_fits, displacement_fits, branch_fits, alu_cc_small, shift_small, access_small}
 use Rattle.v8.specs.declared.Edition.{Edition}
 use Rattle.v8.specs.declared.Edition.TheVariants.{V8, V9}
 use Rattle.v8.specs.declared.BranchForm.{BranchForm}

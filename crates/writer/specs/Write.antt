@@ -1,6 +1,6 @@
 -- What an instruction is written as (document 01, "Write an instruction"): a word, or refusal 17 for
 -- "a part out of range or not of the subset". Request 5: the edition that the terminal follows is told; only a predicted branch depends on it.
-use Rattle.std.specs.Prelude.{ℕ, ◌+◌, ◌*◌, ◌%◌, ◌^◌, ◌<◌, Bool, cond, ltb, eqb, Option, Some, None}
+use Rattle.std.specs.Prelude.{ℕ, ◌+◌, ◌*◌, ◌%◌, ◌^◌, Bool, cond, ltb, eqb, Option, Some, None}
 use Rattle.v8.specs.Signed.{sign_extend}
 use Rattle.v8.specs.Read.{leaf_return}
 use Rattle.v8.specs.Numbers.{not_written}
@@ -93,11 +93,6 @@ store_code Sth = 0x06
 abbrev pub access_code : Access → ℕ
 access_code (Loads op) = load_code op
 access_code (Stores op) = store_code op
-
--- a part of n bits
-abbrev pub Fits : ℕ → Option ℕ → Type 0
-Fits n (Some b) = b < 2 ^ n
-Fits n None = Unit {0}
 
 -- a word of format 10 or 11, from its fields
 unfoldable pub pack_of : ℕ → ℕ → ℕ → ℕ → ℕ → ℕ

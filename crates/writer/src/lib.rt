@@ -2,8 +2,8 @@
 // stand in specs/Laws.antt. (Document 01, "Write an instruction".)
 #![tactic(auto)]
 
-ghost use Rattle.std.specs.Prelude.{◌≡◌, ◌+◌, ◌<◌, ◌≤◌, ◌^◌};
-ghost use Rattle.writer.specs.Write.{write_number, writing_of, signed_bits, five_bits, operand_bits, count_bits, displacement_bits, alu_code, alu_code_cc, shift_code, load_code, store_code, access_code, packed, sethi_word, predicted_bits, branch_bits, branch_word, operation_word, Fits};
+ghost use Rattle.std.specs.Prelude.{◌≡◌, ◌+◌, ◌<◌, ◌≤◌, ◌^◌, Some};
+ghost use Rattle.writer.specs.Write.{write_number, writing_of, signed_bits, five_bits, operand_bits, count_bits, displacement_bits, alu_code, alu_code_cc, shift_code, load_code, store_code, access_code, packed, sethi_word, predicted_bits, branch_bits, branch_word, operation_word};
 
 use v8::read::LEAF_RETURN;
 use v8::signed::sign_extend;
@@ -34,6 +34,7 @@ const HINT_BIT: u32 = 0x0008_0000;
 const I_BIT: u32 = 0x2000;
 
 // A signed number in the low `bits` bits, above which stands i; none where it does not fit there.
+#[tactic(auto, unfolding(crate::specs::Write::signed_bits))]
 fn signed_bits(bits: u32, i: u32, v: u32) -> Option<u32>
     requires { (1 ≤ bits) × (bits ≤ 31) × (i < 2 ^ 31) }
     ensures { result ≡ signed_bits bits i v }
@@ -46,6 +47,7 @@ fn signed_bits(bits: u32, i: u32, v: u32) -> Option<u32>
 }
 
 // A number below 32 in the low five bits, above which stands i; none where it does not fit there.
+#[tactic(auto, unfolding(crate::specs::Write::five_bits))]
 fn five_bits(i: u32, v: u32) -> Option<u32>
     requires { i < 2 ^ 31 }
     ensures { result ≡ five_bits i v }
@@ -150,19 +152,20 @@ fn access_code(access: Access) -> u32
 }
 
 // A word of format 10 or 11, from its fields.
-fn pack(op: u32, rd: u8, op3: u32, rs1: u8, low: Option<u32>) -> Option<u32>
-    requires { (op < 4) × (op3 < 64) × Fits 14 low }
-    ensures { result ≡ packed op rd op3 rs1 low }
+#[tactic(auto, unfolding(crate::specs::Write::packed, crate::specs::Write::pack_of))]
+fn pack(op: u32, rd: u8, op3: u32, rs1: u8, low: u32) -> Option<u32>
+    requires { (op < 4) × (op3 < 64) × (low < 2 ^ 14) }
+    ensures { result ≡ packed op rd op3 rs1 (Some low) }
 {
-    let b = low?;
     let d = rd as u32;
     let s = rs1 as u32;
     if d < 32 && s < 32 {
-        return Some(op * OP_AT + d * RD_AT + op3 * OP3_AT + s * RS1_AT + b);
+        return Some(op * OP_AT + d * RD_AT + op3 * OP3_AT + s * RS1_AT + low);
     }
     None
 }
 
+#[tactic(auto, unfolding(crate::specs::Write::sethi_word))]
 fn write_sethi(rd: u8, imm22: u32) -> Option<u32>
     ensures { result ≡ sethi_word rd imm22 }
 {
@@ -211,6 +214,7 @@ fn write_branch(edition: Edition, x: Bicc) -> Option<u32>
 }
 
 // An instruction that is no transfer.
+#[tactic(auto, unfolding(crate::specs::Write::packed))]
 fn write_operation(x: Operation) -> Option<u32>
     ensures { result ≡ operation_word x }
 {
@@ -222,14 +226,10 @@ fn write_operation(x: Operation) -> Option<u32>
             rd,
             rs1,
             operand,
-        } => pack(2, rd, alu_code_cc(op, cc), rs1, operand_bits(operand)),
-        Operation::Shift { op, rd, rs1, count } => pack(
-            2,
-            rd,
-            shift_code(op),
-            rs1,
-            count_bits(count),
-        ),
+        } => pack(2, rd, alu_code_cc(op, cc), rs1, operand_bits(operand)?),
+        Operation::Shift { op, rd, rs1, count } => {
+            pack(2, rd, shift_code(op), rs1, count_bits(count)?)
+        }
         Operation::Memory {
             access,
             rd,
@@ -240,13 +240,14 @@ fn write_operation(x: Operation) -> Option<u32>
             rd,
             access_code(access),
             rs1,
-            displacement_bits(displacement),
+            displacement_bits(displacement)?,
         ),
     }
 }
 
 // Writes an instruction, as a terminal of the edition does: a word, or none, which is refusal 17, where a
 // part is out of range or the edition has no such word.
+#[tactic(auto, unfolding(crate::specs::Write::writing_of))]
 pub fn write_instruction(edition: Edition, x: Instruction) -> Option<u32>
     ensures writing { result ≡ writing_of edition x }
     ensures number { write_number result ≡ write_number (writing_of edition x) }
