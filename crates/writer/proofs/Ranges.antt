@@ -64,7 +64,7 @@ branch_fits V9 (Predicted false) v = signed_fits 19 (1 * 2 ^ 22 + 0) 25 v (omega
 pub below : (n b : ℕ) {part low : Option ℕ} → Fits n part → low ≡ part → low ≡ Some b → b < 2 ^ n
 below n b f e q = subst (Fits n) (sym e ∙ q) f
 
-pub alu_small : (op : AluOp) → alu_code op < 8
+alu_small : (op : AluOp) → alu_code op < 8
 alu_small Add = omega arith
 alu_small And = omega arith
 alu_small Or = omega arith

@@ -3,7 +3,7 @@
 #![tactic(auto)]
 
 ghost use Rattle.std.specs.Prelude.{◌≡◌, ◌+◌, ◌<◌, ◌≤◌, ◌^◌, Some};
-ghost use Rattle.writer.specs.Write.{write_number, writing_of, signed_bits, five_bits, operand_bits, count_bits, displacement_bits, alu_code, alu_code_cc, shift_code, load_code, store_code, access_code, packed, sethi_word, predicted_bits, branch_bits, branch_word, operation_word};
+ghost use Rattle.writer.specs.Write.{write_number, writing_of, signed_bits, five_bits, operand_bits, count_bits, displacement_bits, alu_code_cc, shift_code, load_code, store_code, access_code, packed, sethi_word, predicted_bits, branch_bits, branch_word, operation_word};
 
 use v8::read::LEAF_RETURN;
 use v8::signed::sign_extend;
@@ -88,36 +88,18 @@ fn displacement_bits(x: Displacement) -> Option<u32>
     }
 }
 
-fn alu_code(op: AluOp) -> u32
-    ensures { result ≡ alu_code op }
-{
-    match op {
-        AluOp::Add => 0x00,
-        AluOp::And => 0x01,
-        AluOp::Or => 0x02,
-        AluOp::Xor => 0x03,
-        AluOp::Sub => 0x04,
-        AluOp::Andn => 0x05,
-        AluOp::Orn => 0x06,
-        AluOp::Xnor => 0x07,
-    }
-}
-
+// The opcodes stand in the order of the operations.
 fn alu_code_cc(op: AluOp, cc: bool) -> u32
     ensures { result ≡ alu_code_cc op cc }
 {
-    let code = alu_code(op);
+    let code = op as u32;
     if cc { code + 0x10 } else { code }
 }
 
 fn shift_code(op: ShiftOp) -> u32
     ensures { result ≡ shift_code op }
 {
-    match op {
-        ShiftOp::Sll => 0x25,
-        ShiftOp::Srl => 0x26,
-        ShiftOp::Sra => 0x27,
-    }
+    0x25 + op as u32
 }
 
 fn load_code(op: LoadOp) -> u32
@@ -182,12 +164,8 @@ fn predicted_bits(edition: Edition, hint: bool, distance: u32) -> Option<u32>
 {
     match edition {
         Edition::V8 => None,
-        Edition::V9 => {
-            if hint {
-                return signed_bits(19, BPCC_BITS + HINT_BIT, distance);
-            }
-            signed_bits(19, BPCC_BITS, distance)
-        }
+        Edition::V9 if hint => signed_bits(19, BPCC_BITS + HINT_BIT, distance),
+        Edition::V9 => signed_bits(19, BPCC_BITS, distance),
     }
 }
 
