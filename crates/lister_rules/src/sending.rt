@@ -23,7 +23,6 @@ pub struct Work {
     pub pending: [bool; MOST_WORDS],
     pub count: usize,
     pub next: usize,
-    ghost most: { count ≤ most_words },
 }
 
 impl Work {
@@ -31,6 +30,7 @@ impl Work {
 
     // Marks arrive at a word.
     fn send_to(&mut self, to: WordIndex, marks: &[u8; REGISTERS])
+        requires { self.old.count ≤ most_words }
         ensures table { self.new.table
             ≡ raised_by self.old.table (to_word self.old.count to.0 marks.now) }
         ensures worked { Worked self.old self.new }
@@ -47,6 +47,7 @@ impl Work {
 
     // Marks go along an edge, over the slot, read as x, where that runs.
     fn send_along(&mut self, x: Reading, e: Edge, marks: [u8; REGISTERS])
+        requires { self.old.count ≤ most_words }
         ensures table { self.new.table
             ≡ raised_by self.old.table (sent_along self.old.count x e marks) }
         ensures worked { Worked self.old self.new }
@@ -64,7 +65,7 @@ impl Work {
 
     // A transfer's slot shows its marks.
     fn show(&mut self, at: WordIndex, x: Instruction, marks: &[u8; REGISTERS])
-        requires { at.0 < most_words }
+        requires { (at.0 < most_words) × (self.old.count ≤ most_words) }
         ensures table { self.new.table
             ≡ raised_by self.old.table (shown self.old.count at.0 x marks.now) }
         ensures worked { Worked self.old self.new }
@@ -76,7 +77,7 @@ impl Work {
 
     // All that an instruction sends, its slot being read as `slot`.
     fn send_all(&mut self, at: WordIndex, x: Instruction, slot: Reading, marks: [u8; REGISTERS])
-        requires { at.0 < most_words }
+        requires { (at.0 < most_words) × (self.old.count ≤ most_words) }
         ensures table { self.new.table
             ≡ raised_by_all self.old.table (sends self.old.count at.0 (Read x) slot marks) }
         ensures worked { Worked self.old self.new }
@@ -89,7 +90,7 @@ impl Work {
 
     // All that a word sends, if it is reached, being read as x and its slot as `slot`.
     pub fn pass_on(&mut self, at: WordIndex, x: Reading, slot: Reading)
-        requires { at.0 < most_words }
+        requires { (at.0 < most_words) × (self.old.count ≤ most_words) }
         ensures table { self.new.table
             ≡ raised_by_all
             self.old.table

@@ -1,3 +1,4 @@
+use mathlib.Core.Path.{◌≡◌}
 use Rattle.flow_code.specs.Lent.{code_of}
 use Rattle.lister.proofs.Closing.{Raises, left}
 use Rattle.lister.proofs.raising.raised_until_closed.Given as goal
