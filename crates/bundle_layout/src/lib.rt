@@ -94,10 +94,8 @@ pub fn fields_before(bytes: &[u8], n: usize) -> usize
     ensures { (result ≡ fields_before bytes.now n) × (result ≤ 255 * n) }
 {
     let mut sum = 0;
-    let mut i = 0;
-    while i < n {
+    for i in 0..n {
         sum += field_count(bytes, i);
-        i += 1;
     }
     sum
 }
@@ -145,60 +143,32 @@ pub fn length_given(bytes: &[u8]) -> usize
 pub fn head_ok(bytes: &[u8]) -> bool
     ensures { result ≡ head_ok bytes.now }
 {
-    let first = byte_at(bytes, 0);
-    let second = byte_at(bytes, 1);
-    let third = byte_at(bytes, 2);
     let version = half_at(bytes, 3);
     let read = (version == NARROW_VERSION) | (version == WIDE_VERSION);
-    (first == b'W') & (second == b'T') & (third == b'R') & read
+    bytes.starts_with(b"WTR") & read
 }
 
 // Whether the zeros of all regions are zero.
 fn regions_zero(bytes: &[u8]) -> bool
     ensures { result ≡ all (region_zero bytes.now) (region_count bytes.now) }
 {
-    let count = region_count(bytes);
-    let mut i = 0;
-    while i < count {
-        if !region_zero(bytes, i) {
-            return false;
-        }
-        i += 1;
-    }
-    true
+    (0..region_count(bytes)).all(|i| region_zero(bytes, i))
 }
 
 // Whether the zeros of all fields are zero.
 fn fields_zero(bytes: &[u8]) -> bool
     ensures { result ≡ all (field_zero bytes.now) (field_total bytes.now) }
 {
-    let count = field_total(bytes);
-    let mut i = 0;
-    while i < count {
-        if !field_zero(bytes, i) {
-            return false;
-        }
-        i += 1;
-    }
-    true
+    (0..field_total(bytes)).all(|i| field_zero(bytes, i))
 }
 
 // Whether the bytes are a bundle.
 pub fn bundle_ok(bytes: &[u8]) -> bool
     ensures { result ≡ bundle_ok bytes.now }
 {
-    let length = bytes.len();
-    if most_bytes(bytes) < length {
-        return false;
-    }
-    if !head_ok(bytes) {
-        return false;
-    }
-    if length != length_given(bytes) {
-        return false;
-    }
-    if !regions_zero(bytes) {
-        return false;
-    }
-    fields_zero(bytes)
+    bytes.len() <= most_bytes(bytes)
+        && head_ok(bytes)
+        && bytes.len() == length_given(bytes)
+        && regions_zero(bytes)
+        && fields_zero(bytes)
 }

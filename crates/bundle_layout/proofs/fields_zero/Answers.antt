@@ -1,23 +1,17 @@
--- `fields_zero` meets its contract. Invariant: the zeros of the fields below i are zero. Measure: the fields left.
-use Prim.Native.Nat.{◌-◌}
-use mathlib.Core.Path.{sym, ap, ◌∙◌}
-use native.Mathlib.Nat.{le_antisymm}
-use borrow.Author.Rules.{rules}
-use borrow.Author.Tests.{not-true, not-false}
+-- Every field is tested, by the definition's test.
+use mathlib.Core.Path.{refl, ap, ◌∙◌}
+use native.Mathlib.Omega.{arith}
+use Rattle.std.proofs.Common.{rules, tests}
+use Rattle.std.proofs.lemmas.Iterator.{YieldsList-from_range}
+use Rattle.std.proofs.lemmas.Iterator.Search.{all_from_yields_List}
 use Rattle.v8.specs.Search.{all}
-use Rattle.v8.proofs.Search.{all_none, all_more, all_not}
+use Rattle.bundle_layout.specs.Layout.{field_zero}
+use Rattle.bundle_layout.proofs.Below.{all_below}
 use Rattle.bundle_layout.proofs.fields_zero.Goals as goal
 
-pub loop-i-init : goal.loop-i-init
-loop-i-init c = (search rules, all_none _)
-
-pub returns-then-not-field_zero : goal.returns-then-not-field_zero
-returns-then-not-field_zero c = let e = sym c.field_zero.ensures ∙ c.if-not-field_zero.true in
-    rw (← c.field_total-count.ensures.0) (sym (all_not _ _ _ c.loop-i-test.true e))
-
-pub loop-i-preserved : goal.loop-i-preserved
-loop-i-preserved c = (search rules, all_more _ _ c.loop-i.invariant.1 (sym c.field_zero.ensures ∙ c.if-not-field_zero.false))
-
 pub returns : goal.returns
-returns c = let e = le_antisymm c.loop-i-test.false c.loop-i.invariant.0 in
-    sym (ap (all _) (sym c.field_total-count.ensures.0 ∙ e) ∙ c.loop-i.invariant.1)
+returns c =
+    let test = field_zero c.args.bytes.now in
+    all_from_yields_List test _ _ _ c.all.ensures.ran (YieldsList-from_range 0 _ c.field_total.result refl (omega arith)) (λ x b q k. search (rules, tests))
+    ∙ all_below test c.field_total.result
+    ∙ ap (all test) c.field_total.ensures.0
