@@ -6,6 +6,7 @@ use mathlib.Core.List.{List}
 use native.Mathlib.Omega.{arith}
 use lib.Dec.{ltb, eqb}
 use borrow.Author.Tests.{ltb-true, ltb-false, not-false, eq-eqb, ne_eqb}
+use Rattle.std.specs.Prelude.{Option, Some, None}
 use Rattle.v8.specs.Numbers.{bad_row, bad_flow, callers_register, entry_misfit}
 use Rattle.v8.specs.Search.{first}
 use Rattle.v8.specs.declared.Reading.{Reading}
@@ -15,8 +16,6 @@ use Rattle.flow_writes.specs.Written.{written_by, leaves_callers}
 use Rattle.flow_code.specs.Readings.{reading_at}
 use Rattle.flow.specs.Flow.{flow_of}
 use Rattle.policy.specs.declared.Policy.{Policy}
-use Rattle.rows.specs.declared.Flaw.{Flaw}
-use Rattle.rows.specs.declared.Flaw.TheVariants.{None, At}
 use Rattle.rows.specs.Geometry.{row_bytes}
 use Rattle.rows.specs.Row.{entry_formed_as, form_fault, misfit}
 use Rattle.passes.specs.declared.Answer.{Answer}
@@ -38,9 +37,9 @@ need_holds true number w r z e = refl
 need_holds false number w r z e = false_true (sym z ∙ e)
 
 -- a search that passed found no flaw
-pub no_fault : (number w : ℕ) (flaw : Flaw) → eqb number 0 ≡ false → passes (unless_fault number w flaw) ≡ true → flaw ≡ None
+pub no_fault : (number w : ℕ) (flaw : Option ℕ) → eqb number 0 ≡ false → passes (unless_fault number w flaw) ≡ true → flaw ≡ None
 no_fault number w None z e = refl
-no_fault number w (At place) z e = false_true (sym z ∙ e)
+no_fault number w (Some place) z e = false_true (sym z ∙ e)
 
 -- a pass over the words that accepts accepts each
 pub each_passes : (f : ℕ → Answer) (n : ℕ) → passes (pass_of f n) ≡ true → (w : ℕ) → w < n → passes (f w) ≡ true

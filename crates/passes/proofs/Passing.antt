@@ -1,20 +1,23 @@
 -- A pass over the words, from a word on: what a loop cites.
 use Prim.Native.Nat.{ℕ, ◌+◌, ◌*◌, ◌≤◌, ◌<◌}
 use mathlib.Core.Path.{◌≡◌, refl, sym, ap, ◌∙◌}
-use mathlib.Core.Bool.{Bool, cond, not}
+use mathlib.Core.Bool.{Bool, false, cond, not}
 use mathlib.Core.List.{List}
+use native.Mathlib.Omega.{arith}
 use lib.Dec.{ltb}
-use lib.ListN.{length}
+use lib.ListN.{get_or}
 use borrow.Author.Tests.{lt-ltb, le-ltb, eq-eqb, ne_eqb}
+use Rattle.std.specs.Prelude.{Option, Some, None}
 use Rattle.v8.specs.Numbers.{bad_row}
 use Rattle.v8.specs.declared.Reading.{Reading}
 use Rattle.flow_code.specs.Readings.{reading_at, transfers, is_slot, examined}
 use Rattle.flow.specs.Flow.{flow_with, flow_of}
+use Rattle.flow_code.specs.Lent.{code_of, Formed, Examines}
+use Rattle.flow_code.proofs.Fetched.{array_has, code_count}
 use Rattle.flow_code.proofs.Examined.{slot_next}
 use Rattle.v8.specs.Search.{first}
 use Rattle.v8.proofs.Search.{first_here, first_next, first_end}
 use Rattle.policy.specs.declared.Policy.{Policy}
-use Rattle.rows.specs.declared.Flaw.TheVariants.{None, At}
 use Rattle.rows.specs.Geometry.{row_bytes}
 use Rattle.rows.specs.Row.{form_fault}
 use Rattle.passes.specs.declared.Answer.{Answer}
@@ -50,7 +53,7 @@ module _ (f : ℕ → Answer) where
 
 module _ (p : Policy) (rows : List ℕ) (w : ℕ) where
   -- the lowest badly formed place of a row is named
-  pub row_broken : (place : ℕ) → form_fault p.regions.count p.regions.sizes rows (row_bytes * w) ≡ At place → refuse bad_row w place ≡ row_pass p rows w
+  pub row_broken : (place : ℕ) → form_fault p.regions.count p.regions.sizes rows (row_bytes * w) ≡ Some place → refuse bad_row w place ≡ row_pass p rows w
   unfolding row_pass
   row_broken place e = rw e
 
@@ -59,22 +62,24 @@ module _ (p : Policy) (rows : List ℕ) (w : ℕ) where
   unfolding row_pass
   row_formed e = rw e
 
--- What a loop finds at a word, by what it is read as, is what the pass answers.
-module _ (code : List Reading) (i : ℕ) (x : Reading) (here : x ≡ reading_at code i) where
-  pub read_here : (a : Answer) → a ≡ if_read i x → a ≡ read_pass code i
+-- What a loop finds at a word, by what the array of readings has for it, is what the pass answers.
+module _ (readings : List Reading) (count : ℕ) (formed : Formed readings count) (i : ℕ) (more : i < count) (other : Reading) where
+  -- the array has what the word is read as
+  pub here : get_or readings i other ≡ reading_at (code_of readings count) i
+  here = array_has readings count formed i other (omega (arith, formed.most))
+
+  pub read_here : (a : Answer) → a ≡ if_read i (get_or readings i other) → a ≡ read_pass (code_of readings count) i
   unfolding read_pass
   read_here a e = e ∙ ap (if_read i) here
 
-  pub flow_here : (n : ℕ) (in_slot ordinary : Bool) (a : Answer) → n ≡ length code → in_slot ≡ is_slot code i → ordinary ≡ examined code i
-      → a ≡ flow_then (flow_with n in_slot ordinary i x) i x → a ≡ flow_pass code i
+  pub flow_here : (marks : List Bool) (in_slot : Bool) (a : Answer) → Examines marks (code_of readings count) → in_slot ≡ is_slot (code_of readings count) i
+      → a ≡ flow_then (flow_with count in_slot (get_or marks i false) i (get_or readings i other)) i (get_or readings i other)
+      → a ≡ flow_pass (code_of readings count) i
   unfolding flow_pass
-  flow_here n in_slot ordinary a c p q e =
-      e
-      ∙ ap (λ (m : ℕ). flow_then (flow_with m in_slot ordinary i x) i x) c
-      ∙ ap (λ (b : Bool). flow_then (flow_with (length code) b ordinary i x) i x) p
-      ∙ ap (λ (b : Bool). flow_then (flow_with (length code) (is_slot code i) b i x) i x) q
-      ∙ ap (λ (y : Reading). flow_then (flow_of code i y) i y) here
+  flow_here marks in_slot a m s e =
+      let long = code_count readings count formed in
+      e ∙ rw (here, s, m i (omega (arith, long)), long)
 
   -- the next word is a slot exactly if this one is read as a transfer
-  pub slot_here : (t : Bool) → t ≡ transfers x → t ≡ is_slot code (i + 1)
-  slot_here t e = e ∙ ap transfers here ∙ sym (slot_next code i)
+  pub slot_here : (t : Bool) → t ≡ transfers (get_or readings i other) → t ≡ is_slot (code_of readings count) (i + 1)
+  slot_here t e = e ∙ ap transfers here ∙ sym (slot_next (code_of readings count) i)

@@ -91,6 +91,7 @@ pub fn flow_pass(
 }
 
 // Pass 15: the entry row fits row 0.
+#[tactic(auto, unfolding(crate::specs::Passes::entry_pass))]
 pub fn entry_pass(rows: &[u8], entry: &[u8]) -> Answer
     requires { RowIn 0 (length rows.now) × RowIn 0 (length entry.now) }
     ensures { result ≡ entry_pass rows.now entry.now }

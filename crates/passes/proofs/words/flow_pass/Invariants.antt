@@ -1,4 +1,3 @@
-use Prim.Native.Nat.{◌≤◌, ◌-◌}
 use mathlib.Core.Path.{◌≡◌}
 use Rattle.flow_code.specs.Readings.{is_slot}
 use Rattle.flow_code.specs.Lent.{code_of}
@@ -8,9 +7,5 @@ use Rattle.passes.proofs.Passing.{pass_from}
 use Rattle.passes.proofs.words.flow_pass.Given as goal
 
 abbrev pub invariant-loop-i : goal.invariant-loop-i
-invariant-loop-i l = (l.i ≤ l.count)
-    × (l.in_slot ≡ is_slot (code_of l.readings l.count) l.i)
+invariant-loop-i l = (l.in_slot ≡ is_slot (code_of l.readings l.count) l.i)
     × (pass_of (flow_pass (code_of l.readings l.count)) l.count ≡ pass_from (flow_pass (code_of l.readings l.count)) l.i l.count)
-
-abbrev pub decreases-loop-i : goal.decreases-loop-i
-decreases-loop-i l = l.count - l.i
