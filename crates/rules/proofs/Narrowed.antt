@@ -8,6 +8,7 @@ use mathlib.Core.List.{List}
 use native.Mathlib.Omega.{arith}
 use lib.Dec.{eqb}
 use borrow.Author.Tests.{eqb-true, eq-eqb}
+use Rattle.std.specs.Prelude.{Option, Some, None}
 use Rattle.v8.proofs.Choice.{cond_both, and_went, false_true}
 use Rattle.v8.specs.Signed.{excess, bias}
 use Rattle.v8.specs.declared.AluOp.TheVariants.{Sub}
@@ -16,8 +17,7 @@ use Rattle.alu.specs.Condition.{cond_holds, condition_of, compares}
 use Rattle.alu.specs.declared.condition.Narrowing.{Narrowing}
 use Rattle.alu.specs.declared.condition.Narrowing.TheVariants.{Unrelated, EqualTo, NotEqualTo, LessThan, AtLeast, AtMost, GreaterThan}
 use Rattle.alu.proofs.Conditions as Conditions·
-use Rattle.sets_narrow.specs.declared.SetLeft.{SetLeft}
-use Rattle.sets_narrow.specs.declared.SetLeft.TheVariants as Set·
+use Rattle.sets.specs.declared.NumberSet.{NumberSet}
 use Rattle.sets.specs.Sets.{single, Member}
 use Rattle.sets_narrow.specs.Narrow.{narrow_set}
 use Rattle.sets_rules.specs.Laws.{Offset}
@@ -32,8 +32,6 @@ use Rattle.rows.specs.Matches.{Host, base_of, Holds, Matches, Held, RowMatches}
 use Rattle.rows.specs.Laws.{EntryRules, RowRules}
 use Rattle.rows.proofs.Tests.{other_kind}
 use Rattle.rows.proofs.ByKind.{holds_number, holds_address, held_number, held_start, number_rules, address_rules, unset_rules, ruled_number, ruled_start}
-use Rattle.rules.specs.declared.EntryLeft.{EntryLeft}
-use Rattle.rules.specs.declared.EntryLeft.TheVariants.{Left, Nothing}
 use Rattle.rules.specs.Narrow.{narrows, left_of, narrow_start, narrow_entry, RowLeft, row_left, narrow_row}
 use Rattle.rules.specs.Laws.{LeftMatches, NarrowsRow}
 use Rattle.rules.proofs.Writes.{entry_after}
@@ -41,12 +39,12 @@ use Rattle.rules.proofs.Writes.{entry_after}
 module _ (regions : ℕ) (sizes : List ℕ) (h : Host) (row : Row) (g : Held) (small : (r : ℕ) → g.value r < 4294967296)
     (rules : RowRules regions sizes row) (m : RowMatches h row g) where
   -- what is left of the noted register's entry is well formed and matches
-  abbrev Kept : EntryLeft → Type 0
-  Kept (Left e) = EntryRules regions sizes e × Matches h e (g.mark row.note.register) (g.value row.note.register)
-  Kept Nothing = ⊥
+  abbrev Kept : Option Entry → Type 0
+  Kept (Some e) = EntryRules regions sizes e × Matches h e (g.mark row.note.register) (g.value row.note.register)
+  Kept None = ⊥
 
-  row_kept : (x : EntryLeft) → Kept x → LeftMatches regions sizes h (row_left row x) g
-  row_kept (Left e) k = (
+  row_kept : (x : Option Entry) → Kept x → LeftMatches regions sizes h (row_left row x) g
+  row_kept (Some e) k = (
     record {
       entries = λ r. entry_after (λ (_ : ℕ) (x : Entry). EntryRules regions sizes x) row row.note.register e row.note
           (λ _. unset_rules refl) r (λ _ _ _. k.0) (λ _. rules.entries r);
@@ -60,21 +58,21 @@ module _ (regions : ℕ) (sizes : List ℕ) (h : Host) (row : Row) (g : Held) (s
       note = m.note;
     },
   )
-  row_kept Nothing k = absurd k
+  row_kept None k = absurd k
 
   module _ (c : Narrowing) (e : Entry) (n : ℕ) (w : EntryRules regions sizes e)
       (me : Matches h e (g.mark row.note.register) (g.value row.note.register))
       (obeys : compares c (excess (g.value row.note.register)) n true ≡ true) where
     -- a number
-    number_kept : (k : is_number e ≡ true) (x : SetLeft) → LeftFormed x → Among x (excess (g.value row.note.register)) → Kept (left_of x)
-    number_kept k (Set·.Left s) f a = (
+    number_kept : (k : is_number e ≡ true) (x : Option NumberSet) → LeftFormed x → Among x (excess (g.value row.note.register)) → Kept (left_of x)
+    number_kept k (Some s) f a = (
       number_rules refl f,
       λ _. ((me (other_kind e.kind 1 0 k (λ x. omega arith))).0, holds_number refl a),
     )
-    number_kept k Set·.Nothing f a = a
+    number_kept k None f a = a
 
     -- a kind 3 compared with 0
-    start_kept : is_start_or_null e ≡ true → n ≡ bias → (c' : Narrowing) → c ≡ c' → Kept (narrow_start c' e)
+    start_kept : is_start_or_null e ≡ true → n ≡ bias → (c' : Narrowing) → c ≡ c' → Kept (Some (narrow_start c' e))
     start_kept k z Unrelated q = (w, me)
     start_kept k z EqualTo q = (
       number_rules refl (single_formed bias (omega arith)),

@@ -4,6 +4,7 @@ use mathlib.Core.Path.{◌≡◌, refl}
 use mathlib.Core.Bool.{Bool, false, not, ◌&&◌, ◌||◌}
 use mathlib.Core.List.{List, []}
 use lib.Dec.{leb, ltb, eqb}
+use Rattle.std.specs.Prelude.{Option, Some, None}
 use Rattle.v8.specs.Signed.{bias}
 use Rattle.v8.proofs.Choice.{cond_both}
 use Rattle.v8.specs.declared.AluOp.{AluOp}
@@ -17,9 +18,8 @@ use Rattle.v8.specs.declared.Instruction.{Instruction}
 use Rattle.v8.specs.declared.Instruction.TheVariants.{Plain, Branch, Return}
 use Rattle.flow_edges.specs.Transfer.{reads_codes, link}
 use Rattle.flow_writes.specs.Written.{access_writes}
+use Rattle.policy.specs.declared.Field.{Field}
 use Rattle.policy.specs.declared.Policy.{Policy}
-use Rattle.policy_search.specs.declared.Found.{Found}
-use Rattle.policy_search.specs.declared.Found.TheVariants as Found·
 use Rattle.policy.specs.Policy.{field_at}
 use Rattle.policy_search.specs.Find.{find_field}
 use Rattle.memory.specs.Frame.{is_scratch}
@@ -101,17 +101,17 @@ module _ (sizes : List ℕ) (a b : Entry) where
       λ _. cond_both Failing (both_numbers a b) (λ _. tt) (λ _. refl)
 
 module _ (p : Policy) (a : Access) (rs1 : ℕ) where
-  field_outlies : (element permission : ℕ) (s : NumberSet) (place : ℕ) → Outlying (in_field element permission a rs1 s place)
+  field_outlies : (f : Field) (s : NumberSet) (place : ℕ) → Outlying (in_field f a rs1 s place)
   unfolding in_field
-  field_outlies element permission s place =
+  field_outlies f s place =
       cond_both Outlying (ltb 4096 (reach_end s (access_width a))) (λ _. refl)
-      λ _. cond_both Outlying (not (serves a element)) (λ _. refl)
+      λ _. cond_both Outlying (not (serves a f.element)) (λ _. refl)
       λ _. cond_both Outlying (not (on_grid s (access_width a))) (λ _. refl)
-      λ _. cond_both Outlying (not (allows a permission)) (λ _. refl) (λ _. tt)
+      λ _. cond_both Outlying (not (allows a f.permission)) (λ _. refl) (λ _. tt)
 
-  found_outlies : (s : NumberSet) (f : Found) → Outlying (in_found p.fields a rs1 s f)
-  found_outlies s (Found·.At place) = field_outlies _ _ s place
-  found_outlies s Found·.Nothing = refl
+  found_outlies : (s : NumberSet) (f : Option ℕ) → Outlying (in_found p.fields a rs1 s f)
+  found_outlies s (Some place) = field_outlies _ s place
+  found_outlies s None = refl
 
   region_outlies : (r : ℕ) (s : NumberSet) → Outlying (in_region p.regions.fields p.fields a rs1 r s)
   unfolding in_region

@@ -1,22 +1,23 @@
 -- An access that lies inside a field lies at one of the 128 places: each test keeps the place that the search found. One of a scratch word is of one
 -- of the six.
 use Prim.Native.Nat.{ℕ, ◌-◌, ◌<◌}
-use mathlib.Core.Path.{◌≡◌, refl, subst}
+use mathlib.Core.Path.{◌≡◌, refl, sym, ◌∙◌, subst}
 use mathlib.Core.Bool.{Bool, not, ◌&&◌}
-use mathlib.Core.List.{List}
+use native.Mathlib.Omega.{arith}
 use lib.Dec.{ltb}
 use borrow.Author.Tests.{not-false}
+use Rattle.std.specs.Prelude.{Option, Some, None}
 use Rattle.v8.specs.Signed.{bias}
 use Rattle.v8.proofs.Choice.{cond_both}
 use Rattle.v8.specs.declared.Access.{Access}
-use Rattle.policy.specs.declared.Fields.{Fields}
-use Rattle.policy_search.specs.declared.Found.{Found}
-use Rattle.policy_search.specs.declared.Found.TheVariants as Found·
-use Rattle.policy_search.specs.Find.{find_in}
+use Rattle.policy.specs.declared.Field.{Field}
+use Rattle.policy.specs.declared.Policy.{Policy}
+use Rattle.policy_search.specs.declared.Search.{Search}
+use Rattle.policy_search.specs.Find.{find_field, search_in}
+use Rattle.policy_search.proofs.FoundField.{is_found, found_holds}
 use Rattle.memory.specs.Frame.{scratch_count, is_scratch}
 use Rattle.memory.proofs.Scratch.{scratch_offsets}
 use Rattle.access.specs.Serve.{access_width, is_word, serves, allows}
-use Rattle.access.proofs.Places.{place_small}
 use Rattle.sets.specs.declared.NumberSet.{NumberSet}
 use Rattle.sets_rules.specs.Rules.{add_sets}
 use Rattle.rows.specs.declared.Entry.{Entry}
@@ -30,29 +31,33 @@ Placed (Inside place) = place < 128
 Placed (Scratch k) = k < scratch_count
 Placed (Outside number r) = Unit {0}
 
-module _ (counts : List ℕ) (fields : Fields) (a : Access) (rs1 : ℕ) where
-  field_placed : (element permission : ℕ) (s : NumberSet) (place : ℕ) → place < 128 → Placed (in_field element permission a rs1 s place)
+-- the place of a field that was found
+place_found : (p : Policy) (r low end place : ℕ) → find_field p r low end ≡ Some place → place < 128
+place_found p r low end place e = let h = found_holds p r low end place e in omega (arith, h.here, h.region_most, h.index_most)
+
+-- .. as a search says it
+pub search_placed : (p : Policy) (r low end : ℕ) (s : Search) (place : ℕ) → s ≡ search_in p.regions.fields p.fields r low end → s.found ≡ Some place → place < 128
+search_placed p r low end s place is e = place_found p r low end place (sym (is_found is) ∙ e)
+
+module _ (p : Policy) (a : Access) (rs1 : ℕ) where
+  field_placed : (f : Field) (s : NumberSet) (place : ℕ) → place < 128 → Placed (in_field f a rs1 s place)
   unfolding in_field
-  field_placed element permission s place l =
+  field_placed f s place l =
       cond_both Placed (ltb 4096 (reach_end s (access_width a))) (λ _. tt)
-      λ _. cond_both Placed (not (serves a element)) (λ _. tt)
+      λ _. cond_both Placed (not (serves a f.element)) (λ _. tt)
       λ _. cond_both Placed (not (on_grid s (access_width a))) (λ _. tt)
-      λ _. cond_both Placed (not (allows a permission)) (λ _. tt)
+      λ _. cond_both Placed (not (allows a f.permission)) (λ _. tt)
       λ _. l
 
-  abbrev find : ℕ → ℕ → ℕ → Found
-  find r low end = find_in counts fields.elements fields.offsets fields.counts r low end
+  found_placed : (r low end : ℕ) (s : NumberSet) (f : Option ℕ) → find_field p r low end ≡ f → Placed (in_found p.fields a rs1 s f)
+  found_placed r low end s (Some place) e = field_placed _ s place (place_found p r low end place e)
+  found_placed r low end s None e = tt
 
-  found_placed : (r low end : ℕ) (s : NumberSet) (f : Found) → find r low end ≡ f → Placed (in_found fields a rs1 s f)
-  found_placed r low end s (Found·.At place) e =
-      field_placed _ _ s place (place_small counts fields.elements fields.offsets fields.counts r low end place e)
-  found_placed r low end s Found·.Nothing e = tt
-
-  region_placed : (r : ℕ) (s : NumberSet) → Placed (in_region counts fields a rs1 r s)
+  region_placed : (r : ℕ) (s : NumberSet) → Placed (in_region p.regions.fields p.fields a rs1 r s)
   unfolding in_region
   region_placed r s =
       cond_both Placed (ltb s.lo bias) (λ _. tt)
-      (λ _. found_placed r (s.lo - bias) (reach_end s (access_width a)) s (find r (s.lo - bias) (reach_end s (access_width a))) refl)
+      (λ _. found_placed r (s.lo - bias) (reach_end s (access_width a)) s (find_field p r (s.lo - bias) (reach_end s (access_width a))) refl)
 
   frame-placed : (offset : ℕ) → Placed (in_frame a rs1 offset)
   unfolding in_frame
@@ -60,7 +65,7 @@ module _ (counts : List ℕ) (fields : Fields) (a : Access) (rs1 : ℕ) where
       cond_both Placed (not (is_scratch offset)) (λ _. tt)
       λ t. cond_both Placed (not (is_word a)) (λ _. tt) (λ _. (scratch_offsets offset (not-false (is_scratch offset) t)).word)
 
-  reach_placed : (frame : Bool) (rs2 : ℕ) (x y : Entry) → Placed (reach_of counts fields a frame rs1 x rs2 y)
+  reach_placed : (frame : Bool) (rs2 : ℕ) (x y : Entry) → Placed (reach_of p.regions.fields p.fields a frame rs1 x rs2 y)
   unfolding reach_of frame_reach
   reach_placed frame rs2 x y =
       cond_both Placed (is_start_or_null x) (λ _. tt)
@@ -71,6 +76,6 @@ module _ (counts : List ℕ) (fields : Fields) (a : Access) (rs1 : ℕ) where
       λ _. cond_both Placed (is_frame x && is_constant y) (λ _. frame-placed (word_of y))
       λ _. cond_both Placed (is_constant x && is_frame y) (λ _. frame-placed (word_of x)) (λ _. tt)
 
-pub placed : (counts : List ℕ) (fields : Fields) (a : Access) (frame : Bool) (rs1 rs2 : ℕ) (x y : Entry) (r : Reach)
-    → reach_of counts fields a frame rs1 x rs2 y ≡ r → Placed r
-placed counts fields a frame rs1 rs2 x y r e = subst Placed e (reach_placed counts fields a rs1 frame rs2 x y)
+pub placed : (p : Policy) (a : Access) (frame : Bool) (rs1 rs2 : ℕ) (x y : Entry) (r s : Reach)
+    → r ≡ reach_of p.regions.fields p.fields a frame rs1 x rs2 y → r ≡ s → Placed s
+placed p a frame rs1 rs2 x y r s is e = subst Placed (sym is ∙ e) (reach_placed p a rs1 frame rs2 x y)

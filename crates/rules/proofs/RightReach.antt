@@ -9,6 +9,7 @@ use native.Mathlib.Omega.{arith}
 use lib.ListN.{get_or}
 use lib.Dec.{ltb, eqb}
 use borrow.Author.Tests.{eqb-true, ltb-false, not-false}
+use Rattle.std.specs.Prelude.{Option, Some, None}
 use Rattle.v8.specs.Signed.{bias}
 use Rattle.v8.proofs.Choice.{cond_both, and_went}
 use Rattle.v8.specs.declared.AluOp.TheVariants.{Add}
@@ -19,8 +20,6 @@ use Rattle.v8.specs.declared.Access.TheVariants.{Loads, Stores}
 use Rattle.alu.specs.Result.{add32}
 use Rattle.policy.specs.declared.Policy.{Policy}
 use Rattle.policy.specs.declared.Field.{Field}
-use Rattle.policy_search.specs.declared.Found.{Found}
-use Rattle.policy_search.specs.declared.Found.TheVariants as Found·
 use Rattle.policy.specs.Policy.{size_of, place_of, field_at, field_end}
 use Rattle.policy_search.specs.Find.{find_field}
 use Rattle.policy.specs.Laws.{WellFormed}
@@ -130,8 +129,8 @@ module _ (p : Policy) (h : Host) (wf : WellFormed p) (laid : Laid p.regions.coun
           last : {f : ℕ} (hi v w : ℕ) → hi - bias + w ≤ f → v + bias ≤ hi → v + w ≤ f
           last hi v w p q = omega arith
 
-      field_good : Good (in_field (get_or p.fields.elements place 0) (get_or p.fields.permissions place 0) a rs1 s place)
-      unfolding in_field field_at
+      field_good : Good (in_field (field_at p place) a rs1 s place)
+      unfolding in_field
       field_good =
           cond_both Good (ltb 4096 (reach_end s (access_width a))) (λ _. tt)
           λ _. cond_both Good (not (serves a (field_at p place).element)) (λ _. tt)
@@ -139,9 +138,9 @@ module _ (p : Policy) (h : Host) (wf : WellFormed p) (laid : Laid p.regions.coun
           λ t₂. cond_both Good (not (allows a (field_at p place).permission)) (λ _. tt)
           λ t₃. reached (not-false (serves a (field_at p place).element) t₁) (not-false (on_grid s (access_width a)) t₂) (not-false (allows a (field_at p place).permission) t₃)
 
-    found_good : bias ≤ s.lo → (f : Found) → find_field p r (s.lo - bias) (reach_end s (access_width a)) ≡ f → Good (in_found p.fields a rs1 s f)
-    found_good low (Found·.At place) e = field_good place (found_holds p r (s.lo - bias) (reach_end s (access_width a)) place e) low
-    found_good low Found·.Nothing e = tt
+    found_good : bias ≤ s.lo → (f : Option ℕ) → find_field p r (s.lo - bias) (reach_end s (access_width a)) ≡ f → Good (in_found p.fields a rs1 s f)
+    found_good low (Some place) e = field_good place (found_holds p r (s.lo - bias) (reach_end s (access_width a)) place e) low
+    found_good low None e = tt
 
     region_good : Good (in_region p.regions.fields p.fields a rs1 r s)
     unfolding in_region

@@ -58,6 +58,7 @@ fn stores(a: Access) -> bool
 }
 
 // A load to the register `to`, or a store of rd, at the sum of a word's operands.
+#[tactic(auto, unfolding(crate::specs::Change::access_change, policy::specs::Policy::field_at))]
 pub fn access_change(policy: &Policy, row: Row, a: Access, to: u8, rd: u8, o: Operands) -> Change
     ensures { result ≡ access_change policy.now row a to rd o }
 {

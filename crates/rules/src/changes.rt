@@ -31,6 +31,7 @@ fn writing(rd: u8, n: Note, rs1: u8, res: Result) -> Change
 }
 
 // Arithmetic and logic on a word's operands.
+#[tactic(auto, unfolding(crate::specs::Change::alu_change))]
 fn alu_change(regions: &Regions, n: Note, op: AluOp, cc: bool, rd: u8, o: Operands) -> Change
     ensures { result ≡ alu_change regions.now.sizes n op cc rd o }
 {
@@ -45,6 +46,7 @@ fn alu_change(regions: &Regions, n: Note, op: AluOp, cc: bool, rd: u8, o: Operan
 }
 
 // A shift of a word's first operand by the second.
+#[tactic(auto, unfolding(crate::specs::Change::shift_change))]
 fn shift_change(n: Note, op: ShiftOp, rd: u8, o: Operands) -> Change
     ensures { result ≡ shift_change n op rd o }
 {
@@ -93,6 +95,7 @@ fn operation_change(policy: &Policy, row: Row, x: Operation) -> Change
 }
 
 // A branch reads the codes, unless it branches always or never.
+#[tactic(auto, unfolding(crate::specs::Change::branch_change))]
 fn branch_change(n: Note, condition: u8) -> Change
     ensures { result ≡ branch_change n condition }
 {
@@ -103,6 +106,7 @@ fn branch_change(n: Note, condition: u8) -> Change
 }
 
 // The leaf return, by the entry of r15.
+#[tactic(auto, unfolding(crate::specs::Change::return_change))]
 fn return_change(e: Entry) -> Change
     ensures { result ≡ return_change e }
 {

@@ -27,6 +27,7 @@ fn narrow_start(class: Narrowing, e: Entry) -> Entry
 }
 
 // What a condition of this class leaves of an entry whose value was compared with n, in excess form.
+#[tactic(auto, unfolding(crate::specs::Narrow::narrow_entry))]
 pub fn narrow_entry(class: Narrowing, e: Entry, n: u32) -> Option<Entry>
     ensures { result ≡ narrow_entry class e n }
 {

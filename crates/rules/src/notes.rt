@@ -9,6 +9,7 @@ use rows::{Entry, Note};
 use v8::AluOp;
 
 // The note after rd was written: of a comparison of rd it is left that the codes are set.
+#[tactic(auto, unfolding(crate::specs::Change::note_after))]
 pub fn note_after(n: Note, rd: u8) -> Note
     ensures { result ≡ note_after n rd }
 {
@@ -20,6 +21,7 @@ pub fn note_after(n: Note, rd: u8) -> Note
 
 // The note that a code-setting word leaves: a comparison, if the word is SUBcc of r1 to r31 by a
 // single number and does not write that register.
+#[tactic(auto, unfolding(crate::specs::Change::codes_note))]
 fn codes_note(op: AluOp, rd: u8, rs1: u8, b: Entry) -> Note
     ensures { result ≡ codes_note op rd rs1 b }
 {

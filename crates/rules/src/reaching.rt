@@ -45,6 +45,7 @@ fn on_grid(s: NumberSet, a: Access) -> bool
 }
 
 // Where an access to offsets of a field lies, which stands at a place.
+#[tactic(auto, unfolding(crate::specs::Reach::in_field))]
 fn in_field(f: &Field, a: Access, rs1: u8, s: NumberSet, place: usize) -> Reach
     ensures { result ≡ in_field f.now a rs1 s place }
 {
@@ -64,6 +65,7 @@ fn in_field(f: &Field, a: Access, rs1: u8, s: NumberSet, place: usize) -> Reach
 }
 
 // Where an access to these offsets of a region lies.
+#[tactic(auto, unfolding(crate::specs::Reach::in_region))]
 fn in_region(policy: &Policy, a: Access, rs1: u8, region: u8, s: NumberSet) -> Reach
     ensures { result ≡ in_region policy.now.regions.fields policy.now.fields a rs1 region s }
 {
@@ -79,6 +81,7 @@ fn in_region(policy: &Policy, a: Access, rs1: u8, region: u8, s: NumberSet) -> R
 }
 
 // Where an access to an offset of the frame lies: at a scratch word, if it is of a word.
+#[tactic(auto, unfolding(crate::specs::Reach::in_frame))]
 fn in_frame(a: Access, rs1: u8, offset: u32) -> Reach
     ensures { result ≡ in_frame a rs1 offset }
 {
@@ -93,6 +96,7 @@ fn in_frame(a: Access, rs1: u8, offset: u32) -> Reach
 }
 
 // Where an access lies that adds no region's address: at an offset of the frame, or there is no rule.
+#[tactic(auto, unfolding(crate::specs::Reach::frame_reach))]
 fn frame_reach(a: Access, rs1: u8, x: Entry, y: Entry) -> Reach
     ensures { result ≡ frame_reach a rs1 x y }
 {
@@ -107,6 +111,7 @@ fn frame_reach(a: Access, rs1: u8, x: Entry, y: Entry) -> Reach
 
 // Where an access lies whose address is the sum of its operands; `frame` says that it would store the
 // frame address.
+#[tactic(auto, unfolding(crate::specs::Reach::reach_of))]
 pub fn reach_of(policy: &Policy, a: Access, frame: bool, o: Operands) -> Reach
     ensures { result ≡ reach_of policy.now.regions.fields policy.now.fields a frame o.rs1 o.first o.rs2 o.second }
 {

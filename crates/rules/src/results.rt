@@ -40,6 +40,7 @@ fn both_numbers(a: Entry, b: Entry) -> bool
 }
 
 // Offsets of a region, if none lies outside it.
+#[tactic(auto, unfolding(crate::specs::Result::offsets_give))]
 fn offsets_give(regions: &Regions, r: u8, s: NumberSet) -> Result
     ensures { result ≡ offsets_give regions.now.sizes r s }
 {
@@ -51,6 +52,7 @@ fn offsets_give(regions: &Regions, r: u8, s: NumberSet) -> Result
 }
 
 // The sum of an address and a number.
+#[tactic(auto, unfolding(crate::specs::Result::address_sum))]
 fn address_sum(regions: &Regions, a: Entry, b: Entry) -> Result
     ensures { result ≡ address_sum regions.now.sizes a b }
 {
@@ -64,6 +66,7 @@ fn address_sum(regions: &Regions, a: Entry, b: Entry) -> Result
 }
 
 // An address minus a number.
+#[tactic(auto, unfolding(crate::specs::Result::address_difference))]
 fn address_difference(regions: &Regions, a: Entry, b: Entry) -> Result
     ensures { result ≡ address_difference regions.now.sizes a b }
 {
@@ -102,6 +105,7 @@ pub fn is_sub(op: AluOp) -> bool
 }
 
 // What arithmetic and logic make of two entries.
+#[tactic(auto, unfolding(crate::specs::Result::alu_result))]
 pub fn alu_result(regions: &Regions, op: AluOp, a: Entry, b: Entry) -> Result
     ensures { result ≡ alu_result regions.now.sizes op a b }
 {
@@ -127,6 +131,7 @@ pub fn alu_result(regions: &Regions, op: AluOp, a: Entry, b: Entry) -> Result
 }
 
 // What a shift makes of an entry and the count's.
+#[tactic(auto, unfolding(crate::specs::Result::shift_result))]
 pub fn shift_result(op: ShiftOp, a: Entry, b: Entry) -> Result
     ensures { result ≡ shift_result op a b }
 {
