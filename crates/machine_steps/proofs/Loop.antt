@@ -1,9 +1,7 @@
--- One turn of the run's loop: what a step of the word fetched answers, over lent arrays, is one step of the run, and the rest of the run goes on from
+-- One turn of the run's loop: what a step of the word fetched answers, over lent registers, is one step of the run, and the rest of the run goes on from
 -- what it left; a fault leaves everything as it was.
 use Prim.Native.Nat.{ℕ, suc, ◌+◌, ◌-◌, ◌<◌, ◌≤◌}
 use mathlib.Core.Path.{◌≡◌, refl, sym, ap, subst, ◌∙◌}
-use mathlib.Core.Bool.{Bool}
-use mathlib.Core.List.{List}
 use native.Mathlib.Nat.{sub-zero}
 use native.Mathlib.Omega.{arith}
 use Rattle.v8.specs.Numbers.{not_read, no_word}
@@ -13,6 +11,7 @@ use Rattle.v8.specs.declared.Reading.{Reading}
 use Rattle.v8.specs.declared.Reading.TheVariants.{Unread}
 use Rattle.flow_edges.specs.declared.Destination.{Destination}
 use Rattle.flow_edges.specs.declared.Destination.TheVariants.{To, Caller}
+use Rattle.step.specs.declared.Registers.{Registers}
 use Rattle.step.specs.declared.Went.{Went}
 use Rattle.step.specs.declared.Progress.{Progress}
 use Rattle.step.specs.declared.Progress.TheVariants.{Goes, Returned, Stopped, Accesses}
@@ -45,10 +44,9 @@ turn_first s allowance st = simp sub-zero
 
 -- with no step left, the run is spent
 pub turn_spent : (s : Setting) (allowance steps : ℕ) (st : State) → allowance ≤ steps → run_from s (allowance - steps) steps st ≡ ended End·.Spent steps st.core
-turn_spent s allowance steps st h = ap (λ (n : ℕ). run_from s n steps st) (none allowance steps h) ∙ runs_nothing s steps st
-  where
-    none : (allowance steps : ℕ) → allowance ≤ steps → allowance - steps ≡ 0
-    none allowance steps h = omega arith
+turn_spent s allowance steps st h =
+    let none : allowance - steps ≡ 0 = omega arith in
+    ap (λ (n : ℕ). run_from s n steps st) none ∙ runs_nothing s steps st
 
 -- a word outside the code is not read
 pub turn_outside : (s : Setting) (allowance steps : ℕ) (st : State) → reading_at s.readings st.control.at.0 ≡ Unread not_read → steps < allowance
@@ -59,17 +57,17 @@ turn_outside s allowance steps st unread h =
     ∙ ap (λ (x : Reading). after_step steps st (run_from s (allowance - (steps + 1)) (steps + 1)) (step_with s.layout s.returns st x)) unread
 
 -- what a turn of the loop has shown: a step of the allowance is left, the word that control stands at was fetched, and the step of it
--- has answered, leaving values and marks
-pub record Turned (s : Setting) (allowance steps : ℕ) (st : State) (w : Went) (values : List ℕ) (marks : List Bool) : Type 0 where
+-- has answered, leaving registers
+pub record Turned (s : Setting) (allowance steps : ℕ) (st : State) (w : Went) (after : Registers) : Type 0 where
   pub allowed : steps < allowance
   pub word : Reading
   pub fetched : word ≡ reading_at s.readings st.control.at.0
-  pub says : completed s.layout st.control w values marks st.core.memory ≡ leaving st.core (step_with s.layout s.returns st word)
+  pub says : completed s.layout st.control w after st.core.memory ≡ leaving st.core (step_with s.layout s.returns st word)
 
-module _ {s : Setting} {allowance steps : ℕ} {st : State} {w : Went} {values : List ℕ} {marks : List Bool} (t : Turned s allowance steps st w values marks) where
-  -- what the lent arrays hold after the step
+module _ {s : Setting} {allowance steps : ℕ} {st : State} {w : Went} {after : Registers} (t : Turned s allowance steps st w after) where
+  -- what instructions work on after the step
   abbrev left : Core
-  left = core_of values marks w.codes st.core.memory
+  left = core_of after st.core.memory
 
   -- the step that the answer says
   abbrev saying : Progress → Step
@@ -110,9 +108,8 @@ module _ {s : Setting} {allowance steps : ℕ} {st : State} {w : Went} {values :
 -- what a turn has shown after the access that its step asks for: what the step left, and what the access answered, leaving a core
 pub record Accessed (s : Setting) (allowance steps : ℕ) (st : State) (x : Moved) (c : Core) : Type 0 where
   pub went : Went
-  pub values : List ℕ
-  pub marks : List Bool
-  pub turned : Turned s allowance steps st went values marks
+  pub after : Registers
+  pub turned : Turned s allowance steps st went after
   pub access : Access
   pub rd : ℕ
   pub address : ℕ

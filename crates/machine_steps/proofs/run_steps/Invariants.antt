@@ -17,8 +17,8 @@ setting_read policy words bases returns frame readings = record { layout = layou
 
 abbrev pub invariant-loop-steps : goal.invariant-loop-steps
 invariant-loop-steps l = (l.steps ≤ l.allowance) × (length l.memory ≡ length l.initial.memory)
-    × (run_from (setting_read l.policy l.words l.bases l.returns l.frame l.readings) l.allowance 0 (record { control = l.initial.control; core = core_of l.initial.values l.initial.marks l.initial.flags l.initial.memory })
-    ≡ run_from (setting_read l.policy l.words l.bases l.returns l.frame l.readings) (l.allowance - l.steps) l.steps (record { control = l.control; core = core_of l.values l.marks l.flags l.memory }))
+    × (run_from (setting_read l.policy l.words l.bases l.returns l.frame l.readings) l.allowance 0 (record { control = l.initial.control; core = core_of l.initial.registers l.initial.memory })
+    ≡ run_from (setting_read l.policy l.words l.bases l.returns l.frame l.readings) (l.allowance - l.steps) l.steps (record { control = l.control; core = core_of l.registers l.memory }))
 
 abbrev pub decreases-loop-steps : goal.decreases-loop-steps
 decreases-loop-steps l = l.allowance - l.steps
