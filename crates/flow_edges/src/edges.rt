@@ -49,12 +49,8 @@ fn homeward() -> Edge
 fn class_of(b: Bicc, taken: bool) -> Narrowing
     ensures { result ≡ class_of b taken }
 {
-    if taken {
-        let met = condition_of(b.cond);
-        return met.narrowing;
-    }
-    let unmet = condition_of(opposite(b.cond));
-    unmet.narrowing
+    let met = if taken { b.cond } else { opposite(b.cond) };
+    condition_of(met).narrowing
 }
 
 // The edge of a branch that is taken, or the other.
@@ -62,15 +58,11 @@ fn branch_edge(at: WordIndex, b: Bicc, taken: bool) -> Edge
     requires { at.0 < most_words }
     ensures { result ≡ branch_edge at.0 b taken }
 {
-    let exists = has_edge(b.cond, taken);
-    let slot = slot_runs(b, taken);
-    let to = Destination::To(landing_of(at, b, taken));
-    let narrowing = class_of(b, taken);
     Edge {
-        exists,
-        slot,
-        to,
-        narrowing,
+        exists: has_edge(b.cond, taken),
+        slot: slot_runs(b, taken),
+        to: Destination::To(landing_of(at, b, taken)),
+        narrowing: class_of(b, taken),
     }
 }
 
@@ -80,18 +72,9 @@ pub fn edge_of(at: WordIndex, x: Instruction, taken: bool) -> Edge
     ensures { result ≡ edge_of at.0 x taken }
 {
     match x {
-        Instruction::Plain(_) => {
-            if taken {
-                return no_edge();
-            }
-            onward(at)
-        }
+        Instruction::Plain(_) if !taken => onward(at),
         Instruction::Branch(b) => branch_edge(at, b, taken),
-        Instruction::Return => {
-            if taken {
-                return homeward();
-            }
-            no_edge()
-        }
+        Instruction::Return if taken => homeward(),
+        _ => no_edge(),
     }
 }

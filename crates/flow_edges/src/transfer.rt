@@ -14,18 +14,14 @@ pub const LINK: u8 = 15;
 pub fn is_transfer(x: Instruction) -> bool
     ensures { result ≡ is_transfer x }
 {
-    match x {
-        Instruction::Plain(_) => false,
-        Instruction::Branch(_) => true,
-        Instruction::Return => true,
-    }
+    matches!(x, Instruction::Branch(_) | Instruction::Return)
 }
 
 // Whether a branch on this condition reads the codes.
 pub fn reads_codes(condition: u8) -> bool
     ensures { result ≡ reads_codes condition }
 {
-    !((condition == NEVER) | (condition == ALWAYS))
+    condition != NEVER && condition != ALWAYS
 }
 
 // Whether a branch on this condition has the edge that is taken, or the other.
@@ -33,25 +29,26 @@ pub fn has_edge(condition: u8, taken: bool) -> bool
     ensures { result ≡ has_edge condition taken }
 {
     if taken {
-        return !(condition == NEVER);
+        condition != NEVER
+    } else {
+        condition != ALWAYS
     }
-    !(condition == ALWAYS)
 }
 
 // Whether the slot of a branch runs.
+#[tactic(auto, unfolding(crate::specs::Transfer::slot_runs))]
 pub fn slot_runs(b: Bicc, taken: bool) -> bool
     ensures { result ≡ slot_runs b taken }
 {
-    !(b.annul & ((b.cond == ALWAYS) | !taken))
+    !(b.annul && (b.cond == ALWAYS || !taken))
 }
 
 // The word that a taken branch goes to, its distance counted in words from the branch.
+#[tactic(auto, unfolding(crate::specs::Transfer::target_of))]
 pub fn target(at: WordIndex, b: Bicc) -> WordIndex
     ensures { result ≡ record { 0 = target_of at.0 b } }
 {
-    let distance = b.distance;
-    let sum = (at.0 as u64 + distance.0 as u64) % 4294967296;
-    WordIndex(sum as u32)
+    WordIndex(at.0.wrapping_add(b.distance.0))
 }
 
 // Where a branch goes: to its target, or past its slot.
@@ -60,7 +57,8 @@ pub fn landing_of(at: WordIndex, b: Bicc, taken: bool) -> WordIndex
     ensures { result ≡ record { 0 = landing at.0 b taken } }
 {
     if taken {
-        return target(at, b);
+        target(at, b)
+    } else {
+        WordIndex(at.0 + 2)
     }
-    WordIndex(at.0 + 2)
 }

@@ -25,9 +25,7 @@ pub fn operation_writes(x: Operation) -> u8
     ensures { result ≡ operation_writes x }
 {
     match x {
-        Operation::Sethi { rd, .. } => rd,
-        Operation::Alu { rd, .. } => rd,
-        Operation::Shift { rd, .. } => rd,
+        Operation::Sethi { rd, .. } | Operation::Alu { rd, .. } | Operation::Shift { rd, .. } => rd,
         Operation::Memory { access, rd, .. } => access_writes(access, rd),
     }
 }
@@ -38,8 +36,7 @@ pub fn register_written(x: Instruction) -> u8
 {
     match x {
         Instruction::Plain(operation) => operation_writes(operation),
-        Instruction::Branch(_) => 0,
-        Instruction::Return => 0,
+        Instruction::Branch(_) | Instruction::Return => 0,
     }
 }
 
@@ -57,5 +54,5 @@ pub fn written_by(x: Reading) -> u8
 pub fn is_callers(register: u8) -> bool
     ensures { result ≡ is_callers register }
 {
-    (register == STACK_POINTER) | ((16 <= register) & (register <= 31))
+    register == STACK_POINTER || (16..=31).contains(&register)
 }
