@@ -17,7 +17,7 @@ use v8::{Edition, WordIndex};
 fn listable(regions: &Regions, words: &[u32], entry: &[u8], size: usize) -> bool
     ensures { result ≡ listable regions.now.count regions.now.sizes (length words.now) entry.now size }
 {
-    start_ok(regions, words, entry) && (size == TABLE_MARKS)
+    start_ok(regions, words, entry) && size == TABLE_MARKS
 }
 
 // Lists the kinds of a routine, for a terminal of the edition: for each word the marks of its 32
