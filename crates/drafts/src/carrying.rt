@@ -1,72 +1,36 @@
 // A row along an edge: narrowed by its class, and after its slot where that runs.
-ghost use Rattle.std.specs.Prelude.{◌<◌};
-ghost use Rattle.v8.specs.Numbers.{most_words};
-
-use crate::Carried;
 use crate::hoping::row_after;
 use flow_edges::{Destination, Edge};
 use policy::Policy;
 use rows::notes::NOTE_COMPARISON;
 use rows::{Row, entry_at, row_with};
-use rules::{EntryLeft, narrow_entry, narrows};
+use rules::{narrow_entry, narrows};
 use v8::Reading;
-use v8::numbers::{MOST_WORDS, NOT_READ};
-
-// What the word after the one at an index is read as, its slot if that is a transfer; after the last none
-// is.
-pub fn slot_of(readings: [Reading; MOST_WORDS], at: usize) -> Reading
-    requires { at < most_words }
-{
-    if at + 1 < MOST_WORDS {
-        return readings[at + 1];
-    }
-    Reading::Unread(NOT_READ)
-}
 
 // Whether an edge is there and ends at word w.
 pub fn leads_to(e: Edge, w: usize) -> bool {
-    let to = e.to;
-    match to {
-        Destination::To(d) => {
-            let i = d.0 as usize;
-            e.exists & (i == w)
-        }
+    match e.to {
+        Destination::To(d) => e.exists & (d.0 as usize == w),
         Destination::Caller => false,
     }
 }
 
-// A row narrowed by an edge's class.
-pub fn narrowed(row: Row, e: Edge) -> Carried {
+// A row narrowed by an edge's class; none where no values are left on it.
+pub fn narrowed(row: Row, e: Edge) -> Option<Row> {
     let note = row.note;
-    let class = e.narrowing;
-    if narrows(class) & (note.kind == NOTE_COMPARISON) {
-        let register = note.register;
-        match narrow_entry(class, entry_at(row, register), note.number) {
-            EntryLeft::Left(entry) => {
-                return Carried {
-                    arrives: true,
-                    row: row_with(row, register, entry, note),
-                };
-            }
-            EntryLeft::Nothing => {
-                return Carried {
-                    arrives: false,
-                    row,
-                };
-            }
-        }
+    if !narrows(e.narrowing) | (note.kind != NOTE_COMPARISON) {
+        return Some(row);
     }
-    Carried { arrives: true, row }
+    let held = entry_at(row, note.register);
+    let left = narrow_entry(e.narrowing, held, note.number)?;
+    Some(row_with(row, note.register, left, note))
 }
 
-// A row carried along an edge over the slot, read as x.
-pub fn carry(policy: Policy, row: Row, e: Edge, x: Reading) -> Carried {
-    let c = narrowed(row, e);
-    if c.arrives & e.slot {
-        return Carried {
-            arrives: true,
-            row: row_after(policy, c.row, x),
-        };
+// A row carried along an edge over the slot, read as x; none where it does not arrive.
+pub fn carry(policy: &Policy, row: Row, e: Edge, x: Reading) -> Option<Row> {
+    let left = narrowed(row, e)?;
+    if e.slot {
+        return Some(row_after(policy, left, x));
     }
-    c
+    Some(left)
 }

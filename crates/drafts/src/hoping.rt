@@ -4,14 +4,14 @@ use access::{addend_of, serves_element};
 use alu::Narrowing;
 use checker::change_by;
 use joins::unset;
-use policy::{Policy, field_in};
-use policy_search::{Found, find_in};
+use policy::{Policy, Regions};
+use policy_search::find_in;
 use rows::entries::{ADDRESS, NUMBER, START_OR_NULL, address_in, number_in, size_in};
 use rows::notes::{NOTE_COMPARISON, codes_set};
 use rows::{Entry, Note, Row, field_entry, row_with};
 use rules::{Change, Operands, is_sub, operands_of};
 use sets::{NumberSet, ended, full};
-use sets_narrow::{SetLeft, narrow_set};
+use sets_narrow::narrow_set;
 use sets_rules::{add_sets, sub_sets};
 use v8::numbers::OUTSIDE_REGION;
 use v8::signed::BIAS;
@@ -28,89 +28,60 @@ fn loadable(op: LoadOp) -> NumberSet {
     }
 }
 
-// What a load of the byte at an offset of a region gives, if it serves the field there; else what it may
-// give.
-fn load_at(policy: Policy, op: LoadOp, region: u8, offset: u32) -> Entry {
-    let any = number_in(loadable(op));
-    if offset < BIAS {
-        return any;
+// What a load of the byte at an offset of a region gives, if it serves the field there.
+fn load_at(policy: &Policy, op: LoadOp, region: u8, offset: u32) -> Option<Entry> {
+    let low = offset.checked_sub(BIAS)?;
+    let place = find_in(policy, region, ByteOffset(low), ByteOffset(low + 1)).found?;
+    let field = policy.fields[place];
+    if serves_element(Access::Loads(op), field.element) {
+        return Some(field_entry(field));
     }
-    let low = offset - BIAS;
-    let search = find_in(
-        &policy.regions.fields,
-        &policy.fields.elements,
-        &policy.fields.offsets,
-        &policy.fields.counts,
-        region,
-        ByteOffset(low),
-        ByteOffset(low + 1),
-    );
-    let found = search.found;
-    match found {
-        Found::At(place) => {
-            let f = field_in(
-                &policy.fields.elements,
-                &policy.fields.permissions,
-                &policy.fields.offsets,
-                &policy.fields.counts,
-                &policy.values.targets,
-                &policy.values.lows,
-                &policy.values.highs,
-                place,
-            );
-            if serves_element(Access::Loads(op), f.element) {
-                return field_entry(f);
-            }
-            any
-        }
-        Found::Nothing => any,
-    }
+    None
 }
 
 // Whether an entry is an address of a region, or its start or null.
 fn points(e: Entry) -> bool {
-    (e.kind == ADDRESS) | (e.kind == START_OR_NULL)
+    matches!(e.kind, ADDRESS | START_OR_NULL)
 }
 
 // What a load that is refused may give: what the field at the lowest offset holds, else all that it can.
-fn load_hope(policy: Policy, op: LoadOp, o: Operands) -> Entry {
+fn load_hope(policy: &Policy, op: LoadOp, o: Operands) -> Entry {
     let a = o.first;
     let b = o.second;
-    if points(a) & (b.kind == NUMBER) {
-        let s = add_sets(a.set, b.set);
-        return load_at(policy, op, a.region, s.lo);
-    }
-    if (a.kind == NUMBER) & points(b) {
-        let s = add_sets(a.set, b.set);
-        return load_at(policy, op, b.region, s.lo);
-    }
-    number_in(loadable(op))
+    let any = number_in(loadable(op));
+    let region = if points(a) & (b.kind == NUMBER) {
+        a.region
+    } else if (a.kind == NUMBER) & points(b) {
+        b.region
+    } else {
+        return any;
+    };
+    load_at(policy, op, region, add_sets(a.set, b.set).lo).unwrap_or(any)
+}
+
+// The numbers of a set from one on up to another, if there are any.
+fn between(s: NumberSet, least: u32, most: u32) -> Option<NumberSet> {
+    let above = narrow_set(Narrowing::AtLeast, s, least)?;
+    narrow_set(Narrowing::AtMost, above, most)
 }
 
 // The offsets of a set that stay in a region.
-fn cut(sizes: &[u16; 8], region: u8, s: NumberSet) -> Entry {
-    match narrow_set(Narrowing::AtLeast, s, BIAS) {
-        SetLeft::Left(above) => {
-            match narrow_set(Narrowing::AtMost, above, BIAS + size_in(sizes, region)) {
-                SetLeft::Left(within) => address_in(region, within),
-                SetLeft::Nothing => unset(),
-            }
-        }
-        SetLeft::Nothing => unset(),
+fn cut(regions: &Regions, region: u8, s: NumberSet) -> Entry {
+    match between(s, BIAS, BIAS + size_in(regions, region)) {
+        Some(within) => address_in(region, within),
+        None => unset(),
     }
 }
 
 // An address plus or minus a number where offsets leave the region: those that stay.
-fn cut_sum(sizes: &[u16; 8], op: AluOp, o: Operands) -> Entry {
+fn cut_sum(regions: &Regions, op: AluOp, o: Operands) -> Entry {
     let a = o.first;
     let b = o.second;
     if is_sub(op) {
-        return cut(sizes, a.region, sub_sets(a.set, b.set));
+        return cut(regions, a.region, sub_sets(a.set, b.set));
     }
-    if a.kind == ADDRESS {
-        return cut(sizes, a.region, add_sets(a.set, b.set));
-    }
-    cut(sizes, b.region, add_sets(a.set, b.set))
+    let region = if a.kind == ADDRESS { a.region } else { b.region };
+    cut(regions, region, add_sets(a.set, b.set))
 }
 
 // The note after rd was written: of a comparison of rd it is left that the codes are set.
@@ -122,22 +93,19 @@ fn note_left(n: Note, rd: u8) -> Note {
 }
 
 // What is left of a row after arithmetic or logic that was refused with a number.
-fn alu_hope(policy: Policy, row: Row, op: AluOp, cc: bool, rd: u8, o: Operands, number: u8) -> Row {
-    let mut e = unset();
-    if number == OUTSIDE_REGION {
-        e = cut_sum(&policy.regions.sizes, op, o);
-    }
-    let mut n = note_left(row.note, rd);
-    if cc {
-        n = codes_set();
-    }
+fn alu_hope(policy: &Policy, row: Row, op: AluOp, cc: bool, rd: u8, o: Operands, number: u8) -> Row {
+    let e = if number == OUTSIDE_REGION {
+        cut_sum(&policy.regions, op, o)
+    } else {
+        unset()
+    };
+    let n = if cc { codes_set() } else { note_left(row.note, rd) };
     row_with(row, rd, e, n)
 }
 
 // A hopeful row after an operation that was refused with a number.
-fn hopeful(policy: Policy, row: Row, x: Operation, number: u8) -> Row {
+fn hopeful(policy: &Policy, row: Row, x: Operation, number: u8) -> Row {
     match x {
-        Operation::Sethi { .. } => row,
         Operation::Alu {
             op,
             cc,
@@ -150,40 +118,26 @@ fn hopeful(policy: Policy, row: Row, x: Operation, number: u8) -> Row {
         }
         Operation::Shift { rd, .. } => row_with(row, rd, unset(), note_left(row.note, rd)),
         Operation::Memory {
-            access,
+            access: Access::Loads(op),
             rd,
             rs1,
             displacement,
         } => {
             let o = operands_of(row, rs1, addend_of(displacement));
-            match access {
-                Access::Loads(op) => {
-                    let e = load_hope(policy, op, o);
-                    row_with(row, rd, e, note_left(row.note, rd))
-                }
-                Access::Stores(_) => row,
-            }
+            row_with(row, rd, load_hope(policy, op, o), note_left(row.note, rd))
         }
-    }
-}
-
-// A hopeful row after a word, read as x, that was refused with a number.
-fn hope(policy: Policy, row: Row, x: Reading, number: u8) -> Row {
-    match x {
-        Reading::Read(instruction) => match instruction {
-            Instruction::Plain(operation) => hopeful(policy, row, operation, number),
-            Instruction::Branch(_) => row,
-            Instruction::Return => row,
-        },
-        Reading::Unread(_) => row,
+        _ => row,
     }
 }
 
 // The row after a word, read as x; a hopeful one where the word is refused.
-pub fn row_after(policy: Policy, row: Row, x: Reading) -> Row {
+pub fn row_after(policy: &Policy, row: Row, x: Reading) -> Row {
     match change_by(policy, row, x) {
         Change::Writes(register, entry, note) => row_with(row, register, entry, note),
         Change::Keeps => row,
-        Change::Breaks(number, _) => hope(policy, row, x, number),
+        Change::Breaks(number, _) => match x {
+            Reading::Read(Instruction::Plain(operation)) => hopeful(policy, row, operation, number),
+            _ => row,
+        },
     }
 }

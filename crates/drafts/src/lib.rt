@@ -1,29 +1,22 @@
-// Rows in draft: found, and not yet checked. They stand in bytes, as the check takes them; a row whose
-// first byte is 0, so that r0's entry is unset, is not there. Here are their writing, and what becomes of
-// one after a word and along an edge.
+// Rows in draft: found, and not yet checked. A row whose r0's entry is unset is not there. Here are rows
+// as a whole and their writing, and what becomes of a row after a word and along an edge.
 #![tactic(auto)]
 
-use rows::Row;
-
+// Whether a row is there, whether it fits another, and rows that say little.
+mod standing;
 // Rows written to bytes.
-pub mod writing;
-// A row after a word, and where the word is refused.
+mod writing;
+// A routine whose rows are looked for.
+mod routine;
+// What a word makes of a row, even where it is refused.
 mod hoping;
 // A row along an edge.
 mod carrying;
 
-pub use carrying::{carry, leads_to, narrowed, slot_of};
-pub use hoping::row_after;
+pub use carrying::{leads_to, narrowed};
+pub use routine::Routine;
+pub use standing::{fits_row, is_there, no_note, no_row, unset_row};
+pub use writing::write_row;
 
-// How many bytes the rows of the most words take.
-pub const TABLE_BYTES: usize = 59392;
-
-// How many entries they have.
+// How many entries the rows of the most words have.
 pub const TABLE_ENTRIES: usize = 4864;
-
-// A row that is carried along an edge; or, where no values are left on it, that it does not arrive.
-#[derive(Clone, Copy)]
-pub struct Carried {
-    pub arrives: bool,
-    pub row: Row,
-}

@@ -7,5 +7,4 @@ mod widening;
 // A row taken up by another.
 mod merging;
 
-pub use merging::{NO_LIMIT, merge};
-pub use widening::NO_BOUND;
+pub use merging::{Draft, Growth, Way};

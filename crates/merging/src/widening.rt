@@ -1,13 +1,13 @@
 // An entry that grows on a way back. It is taken as it is for a while; then an end that moved goes on to
 // the next number that a word of the loop compares with, so that the comparison can end it; then to the
 // end of its range; and at last nothing is known.
-ghost use Rattle.std.specs.Prelude.{◌≤◌};
+ghost use Rattle.std.specs.Prelude.{◌≤◌, ◌<◌};
 
 use joins::unset;
+use policy::Regions;
 use rows::Entry;
-use rows::entries::{ADDRESS, NUMBER, size_in};
+use rows::entries::{ADDRESS, NUMBER, address_in, number_in, size_in};
 use sets::{NumberSet, ended};
-use v8::numbers::MOST_WORDS;
 use v8::signed::BIAS;
 
 // Growths of an entry that are taken as they are; those after them that go to a number compared with;
@@ -18,14 +18,6 @@ const TO_BOUND: u8 = 32;
 
 const TO_END: u8 = 36;
 
-// No word's number: one more than all that are held in excess form.
-pub const NO_BOUND: u64 = 4294967296;
-
-// The highest number, in excess form.
-const HIGHEST: u32 = 4294967295;
-
-const LAST: u64 = HIGHEST as u64;
-
 // How an entry was widened, and whether a number compared with bounds it.
 #[derive(Clone, Copy)]
 pub struct Widened {
@@ -33,43 +25,31 @@ pub struct Widened {
     pub bounded: bool,
 }
 
-// Where an end goes that moved, and whether a number compared with bounds it.
+// The numbers, in excess form, that the words of a loop compare with, and those that any word does.
 #[derive(Clone, Copy)]
-struct Rest {
-    at: u64,
-    bounded: bool,
+pub struct Bounds<'a> {
+    pub near: &'a [Option<u32>],
+    pub all: &'a [Option<u32>],
 }
 
-// The words of a loop, from the first up to one that is not among them, and whether the numbers that they
-// compare with are asked for.
-#[derive(Clone, Copy)]
-struct Loop {
-    first: usize,
-    end: usize,
-    bounds: bool,
-}
-
-// An end that moves up: it stands at `end`, has moved by `moved` and may go to `most`, in steps.
+// An end that moves up, or down as the mirror shows it: it stood at `old`, stands at `end` and may go to
+// `most`, in steps. All are numbers in excess form.
 #[derive(Clone, Copy)]
 struct Climb {
-    end: u64,
-    moved: u64,
-    most: u64,
-    step: u64,
+    old: u32,
+    end: u32,
+    most: u32,
+    step: u8,
+    mirrored: bool,
 }
 
-// The word of a number held in 64 bits.
-fn word_of(n: u64) -> u32 {
-    (n % 4294967296) as u32
-}
-
-// One less, where there is less.
-fn less_one(n: u64) -> u64 {
-    if n == 0 { 0 } else { n - 1 }
+// A number in excess form, seen from the highest down.
+fn mirror(n: u32) -> u32 {
+    u32::MAX - n
 }
 
 // The most whole steps that a distance has.
-fn whole_steps(distance: u64, step: u64) -> u64
+fn whole_steps(distance: u32, step: u32) -> u32
     ensures { result ≤ distance }
 {
     if step == 0 {
@@ -78,160 +58,100 @@ fn whole_steps(distance: u64, step: u64) -> u64
     distance - distance % step
 }
 
-// The nearer of a rest and the last place on the climb's steps up to a limit.
-fn nearer(best: Rest, c: Climb, limit: u64) -> Rest {
-    let mut top = limit;
-    if c.most < limit {
-        top = c.most;
-    }
-    if top < c.end {
-        return best;
-    }
-    let at = c.end + whole_steps(top - c.end, c.step);
-    if best.bounded & (best.at <= at) {
-        return best;
-    }
-    Rest { at, bounded: true }
-}
-
-// The nearest rest by a number that a word compares with: about that number, and one move past it.
-fn by_bound(best: Rest, c: Climb, bound: u64) -> Rest {
-    let below = less_one(bound);
-    let past = (bound % 4294967296) + (c.moved % 4294967296);
-    let first = nearer(nearer(best, c, below), c, bound);
-    let second = nearer(first, c, bound % 4294967296 + 1);
-    nearer(nearer(second, c, less_one(past)), c, past)
-}
-
-// A bound, or its mirror image, by which what goes down goes up.
-fn seen(bound: u64, mirrored: bool) -> u64 {
-    if mirrored {
-        LAST - bound % 4294967296
-    } else {
-        bound
+// The nearer of two places.
+fn nearer(a: Option<u32>, b: Option<u32>) -> Option<u32> {
+    match (a, b) {
+        (Some(one), Some(other)) => Some(one.min(other)),
+        _ => a.or(b),
     }
 }
 
-// The nearest rest by the numbers that words from one to another compare with; none, where the end is.
-fn rest_among(
-    bounds: &[u64; MOST_WORDS],
-    from: usize,
-    to: usize,
-    mirrored: bool,
-    c: Climb,
-) -> Rest {
-    let mut best = Rest {
-        at: c.end,
-        bounded: false,
-    };
-    let mut i = from;
-    while i < to {
-        if i < MOST_WORDS {
-            let bound = bounds[i];
-            if bound < NO_BOUND {
-                best = by_bound(best, c, seen(bound, mirrored));
+impl Climb {
+    // The last place on its steps up to a limit, if there is one.
+    fn place(&self, limit: u32) -> Option<u32> {
+        let distance = limit.min(self.most).checked_sub(self.end)?;
+        Some(self.end + whole_steps(distance, self.step as u32))
+    }
+
+    // The nearest place by a number that a word compares with: about that number, and one move past it.
+    fn by_bound(&self, bound: u32) -> Option<u32> {
+        let moved = self.end.saturating_sub(self.old);
+        let limits = [
+            bound.saturating_sub(1),
+            bound,
+            bound.saturating_add(1),
+            bound.saturating_add(moved.saturating_sub(1)),
+            bound.saturating_add(moved),
+        ];
+        let mut best = None;
+        for limit in limits {
+            best = nearer(best, self.place(limit));
+        }
+        best
+    }
+
+    // The nearest place by the numbers that words compare with.
+    fn by_bounds(&self, bounds: &[Option<u32>]) -> Option<u32> {
+        let mut best = None;
+        for &bound in bounds {
+            if let Some(n) = bound {
+                let seen = if self.mirrored { mirror(n) } else { n };
+                best = nearer(best, self.by_bound(seen));
             }
         }
-        i += 1;
+        best
     }
-    best
+
+    // Where the end stays: where it is, if it did not move; otherwise by the numbers that words of the loop
+    // compare with, or by those that any word does; none if nothing bounds it.
+    fn rest(&self, bounds: Option<Bounds>) -> Option<u32> {
+        if self.end <= self.old {
+            return Some(self.end);
+        }
+        let numbers = bounds?;
+        self.by_bounds(numbers.near).or_else(|| self.by_bounds(numbers.all))
+    }
+
+    // The last place on its steps.
+    fn last(&self) -> u32 {
+        self.place(self.most).unwrap_or(self.end)
+    }
 }
 
-// The last place on a climb's steps.
-fn last_of(c: Climb) -> Rest {
-    let none = Rest {
-        at: c.end,
-        bounded: false,
-    };
-    let last = nearer(none, c, c.most);
-    Rest {
-        at: last.at,
-        bounded: false,
-    }
-}
-
-// Where an end goes that moved up: to the nearest rest by the numbers that words of the loop compare
-// with, or by those that any word does; or, if there is none, to the last place on its steps.
-fn rest_of(bounds: &[u64; MOST_WORDS], back: Loop, mirrored: bool, c: Climb) -> Rest {
-    if !back.bounds {
-        return last_of(c);
-    }
-    let near = rest_among(bounds, back.first, back.end, mirrored, c);
-    if near.bounded {
-        return near;
-    }
-    let far = rest_among(bounds, 0, MOST_WORDS, mirrored, c);
-    if far.bounded {
-        return far;
-    }
-    last_of(c)
-}
-
-// Where an end goes: if it moved up, to its rest.
-fn moved_end(bounds: &[u64; MOST_WORDS], back: Loop, mirrored: bool, old: u64, c: Climb) -> Rest {
-    if c.end <= old {
-        return Rest {
-            at: c.end,
-            bounded: true,
-        };
-    }
-    let climb = Climb {
-        end: c.end,
-        moved: c.end - old,
-        most: c.most,
-        step: c.step,
-    };
-    rest_of(bounds, back, mirrored, climb)
-}
-
-// A number in excess form, seen from the highest down.
-fn mirror(n: u32) -> u64 {
-    LAST - n as u64
-}
-
-// A set whose ends moved, widened within the numbers from `least` to `most`.
+// A set whose ends moved, widened within the numbers from `least` to `most`; and whether numbers compared
+// with bound it.
 fn widen_set(
-    bounds: &[u64; MOST_WORDS],
-    back: Loop,
+    bounds: Option<Bounds>,
     old: NumberSet,
     new: NumberSet,
     least: u32,
     most: u32,
-) -> Widened {
+) -> (NumberSet, bool) {
     let up = Climb {
-        end: new.hi as u64,
-        moved: 0,
-        most: most as u64,
-        step: new.step as u64,
+        old: old.hi,
+        end: new.hi,
+        most,
+        step: new.step,
+        mirrored: false,
     };
     let down = Climb {
+        old: mirror(old.lo),
         end: mirror(new.lo),
-        moved: 0,
         most: mirror(least),
-        step: new.step as u64,
+        step: new.step,
+        mirrored: true,
     };
-    let high = moved_end(bounds, back, false, old.hi as u64, up);
-    let low = moved_end(bounds, back, true, mirror(old.lo), down);
-    let lo = LAST - low.at % 4294967296;
-    let set = ended(new.step, word_of(lo), word_of(high.at));
-    let entry = Entry {
-        kind: NUMBER,
-        region: 0,
-        set,
-    };
-    Widened {
-        entry,
-        bounded: high.bounded & low.bounded,
-    }
+    let high = up.rest(bounds);
+    let low = down.rest(bounds);
+    let lo = mirror(low.unwrap_or(down.last()));
+    let hi = high.unwrap_or(up.last());
+    (ended(new.step, lo, hi), high.is_some() & low.is_some())
 }
 
-// An entry that grew on a way back for the `grown`th time, from what words from one to another compare
-// with.
+// An entry that grew on a way back for the `grown`th time.
 pub fn widen_entry(
-    sizes: &[u16; 8],
-    bounds: &[u64; MOST_WORDS],
-    from: usize,
-    to: usize,
+    regions: &Regions,
+    bounds: Bounds,
     grown: u8,
     old: Entry,
     new: Entry,
@@ -242,32 +162,24 @@ pub fn widen_entry(
             bounded: true,
         };
     }
-    let number = (old.kind == NUMBER) & (new.kind == NUMBER);
-    let address = (old.kind == ADDRESS) & (new.kind == ADDRESS);
-    if (grown <= TAKEN) | !(number | address) {
+    if (TAKEN < grown) & (old.kind == NUMBER) & (new.kind == NUMBER) {
+        let asked = if grown <= TO_BOUND { Some(bounds) } else { None };
+        let (set, bounded) = widen_set(asked, old.set, new.set, 0, u32::MAX);
         return Widened {
-            entry: new,
-            bounded: true,
+            entry: number_in(set),
+            bounded,
         };
     }
-    let back = Loop {
-        first: from,
-        end: to,
-        bounds: number & (grown <= TO_BOUND),
-    };
-    if number {
-        return widen_set(bounds, back, old.set, new.set, 0, HIGHEST);
+    if (TAKEN < grown) & (old.kind == ADDRESS) & (new.kind == ADDRESS) {
+        let most = BIAS + size_in(regions, new.region);
+        let (set, bounded) = widen_set(None, old.set, new.set, BIAS, most);
+        return Widened {
+            entry: address_in(new.region, set),
+            bounded,
+        };
     }
-    let most = BIAS + size_in(sizes, new.region);
-    let w = widen_set(bounds, back, old.set, new.set, BIAS, most);
-    let set = w.entry.set;
-    let entry = Entry {
-        kind: ADDRESS,
-        region: new.region,
-        set,
-    };
     Widened {
-        entry,
-        bounded: w.bounded,
+        entry: new,
+        bounded: true,
     }
 }
