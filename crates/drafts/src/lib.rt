@@ -13,7 +13,8 @@ mod hoping;
 // A row along an edge.
 mod carrying;
 
-pub use carrying::{leads_to, narrowed};
+pub use carrying::{carry, leads_to, narrowed};
+pub use hoping::row_after;
 pub use routine::Routine;
 pub use standing::{fits_row, is_there, no_note, no_row, unset_row};
 pub use writing::write_row;

@@ -1,16 +1,14 @@
 // Rows grown from the entry row on: a word whose row has changed hands on, along its edges, what it makes
 // of it, until no row changes or all sweeps are spent.
-ghost use Rattle.std.specs.Prelude.{◌<◌, ◌≤◌};
+ghost use Rattle.std.specs.Prelude.{◌<◌};
 ghost use Rattle.v8.specs.Numbers.{most_words};
 
-use drafts::{TABLE_BYTES, TABLE_ENTRIES, carry, row_after, slot_of};
+use drafts::{Routine, carry, row_after};
 use flow_edges::edges::edge_of;
 use flow_edges::{Destination, Edge};
-use merging::merge;
-use policy::Policy;
-use rows::geometry::ROW_BYTES;
+use merging::Draft;
+use rows::Row;
 use rows::notes::NOTE_COMPARISON;
-use rows::{Row, read_row};
 use rules::is_sub;
 use v8::numbers::MOST_WORDS;
 use v8::{Instruction, Operation, Reading, WordIndex};
@@ -21,210 +19,98 @@ pub const SWEEPS: u32 = 1254;
 
 const LAST_SWEEPS: u32 = 254;
 
-// Whether a word compares: SUBcc.
-fn compares(x: Reading) -> bool {
+// The number that a word, read as x, compares with, by the row after it; none, where it does not compare.
+fn compared_with(x: Reading, after: &Row) -> Option<u32> {
     match x {
-        Reading::Read(instruction) => match instruction {
-            Instruction::Plain(operation) => match operation {
-                Operation::Sethi { .. } => false,
-                Operation::Alu { op, cc, .. } => is_sub(op) & cc,
-                Operation::Shift { .. } => false,
-                Operation::Memory { .. } => false,
-            },
-            Instruction::Branch(_) => false,
-            Instruction::Return => false,
-        },
-        Reading::Unread(_) => false,
-    }
-}
-
-// Remembers the number that the word at an index, read as x, compares with, by the row after it.
-fn remember(bounds: &mut [u64; MOST_WORDS], at: usize, x: Reading, after: Row) {
-    let note = after.note;
-    if compares(x) & (note.kind == NOTE_COMPARISON) {
-        if at < MOST_WORDS {
-            bounds[at] = note.number as u64;
+        Reading::Read(Instruction::Plain(Operation::Alu { op, cc: true, .. }))
+            if is_sub(op) & (after.note.kind == NOTE_COMPARISON) =>
+        {
+            Some(after.note.number)
         }
+        _ => None,
     }
 }
 
-// A row arrives at word d, of `count` words, from word w. A row that is given stays.
-fn arrive(
-    policy: Policy,
-    count: usize,
-    given: &[bool; MOST_WORDS],
-    limits: &[u16; TABLE_ENTRIES],
-    bounds: &[u64; MOST_WORDS],
-    table: &mut [u8; TABLE_BYTES],
-    pending: &mut [bool; MOST_WORDS],
-    growths: &mut [u8; TABLE_ENTRIES],
-    ways: &mut [u16; TABLE_ENTRIES],
-    d: WordIndex,
-    row: Row,
-    w: usize,
-    spent: bool,
-)
-    requires { (count ≤ most_words) × (w < most_words) }
+// Remembers the number that the word at an index, read as x, compares with, if it does.
+fn remember(draft: &mut Draft, at: usize, x: Reading, after: &Row) {
+    if let Some(number) = compared_with(x, after)
+        && at < MOST_WORDS
+    {
+        draft.bounds[at] = Some(number);
+    }
+}
+
+// A row arrives at word d from word w. A row that is given stays.
+fn arrive(routine: &Routine, draft: &mut Draft, d: WordIndex, row: Row, w: usize, spent: bool)
+    requires { w < most_words }
 {
     let i = d.0 as usize;
-    if count <= i {
+    if routine.count <= i {
         return;
     }
-    if given[i] {
+    if routine.given[i] {
         return;
     }
-    if merge(
-        &policy.regions.sizes,
-        bounds,
-        limits,
-        table,
-        growths,
-        ways,
-        i,
-        row,
-        w,
-        spent,
-    ) {
-        pending[i] = true;
+    if draft.merge(routine, i, row, w, spent) {
+        draft.pending[i] = true;
     }
 }
 
-// Along an edge of word w, over its slot, read as x, goes the row after the word.
-fn hand_on(
-    policy: Policy,
-    count: usize,
-    given: &[bool; MOST_WORDS],
-    limits: &[u16; TABLE_ENTRIES],
-    bounds: &mut [u64; MOST_WORDS],
-    table: &mut [u8; TABLE_BYTES],
-    pending: &mut [bool; MOST_WORDS],
-    growths: &mut [u8; TABLE_ENTRIES],
-    ways: &mut [u16; TABLE_ENTRIES],
-    w: usize,
-    x: Reading,
-    e: Edge,
-    after: Row,
-    spent: bool,
-)
-    requires { (count ≤ most_words) × (w < most_words) }
+// Along an edge of word w, over its slot, goes the row after the word.
+fn hand_on(routine: &Routine, draft: &mut Draft, w: usize, e: Edge, after: Row, spent: bool)
+    requires { w < most_words }
 {
     if !e.exists {
         return;
     }
-    let c = carry(policy, after, e, x);
-    if !c.arrives {
+    let slot = routine.slot_of(w);
+    let Some(row) = carry(routine.policy, after, e, slot) else {
         return;
-    }
+    };
     if e.slot {
-        remember(bounds, w + 1, x, c.row);
+        remember(draft, w + 1, slot, &row);
     }
-    let to = e.to;
-    match to {
-        Destination::To(d) => {
-            arrive(
-                policy, count, given, limits, bounds, table, pending, growths, ways, d, c.row, w,
-                spent,
-            );
-        }
-        Destination::Caller => {}
+    if let Destination::To(d) = e.to {
+        arrive(routine, draft, d, row, w, spent);
     }
 }
 
-// Word w, read as x and its slot as `slot`, hands on what it makes of its row.
-fn hand_all(
-    policy: Policy,
-    count: usize,
-    given: &[bool; MOST_WORDS],
-    limits: &[u16; TABLE_ENTRIES],
-    bounds: &mut [u64; MOST_WORDS],
-    table: &mut [u8; TABLE_BYTES],
-    pending: &mut [bool; MOST_WORDS],
-    growths: &mut [u8; TABLE_ENTRIES],
-    ways: &mut [u16; TABLE_ENTRIES],
-    w: usize,
-    x: Reading,
-    slot: Reading,
-    spent: bool,
-)
-    requires { (count ≤ most_words) × (w < most_words) }
+// Word w hands on what it makes of its row.
+fn hand_all(routine: &Routine, draft: &mut Draft, w: usize, spent: bool)
+    requires { w < most_words }
 {
-    match x {
-        Reading::Read(instruction) => {
-            let at = WordIndex(w as u32);
-            let after = row_after(policy, read_row(table, ROW_BYTES * w), x);
-            remember(bounds, w, x, after);
-            let taken = edge_of(at, instruction, true);
-            hand_on(
-                policy, count, given, limits, bounds, table, pending, growths, ways, w, slot,
-                taken, after, spent,
-            );
-            let other = edge_of(at, instruction, false);
-            hand_on(
-                policy, count, given, limits, bounds, table, pending, growths, ways, w, slot,
-                other, after, spent,
-            );
-        }
-        Reading::Unread(_) => {}
+    let x = routine.readings[w];
+    let Reading::Read(instruction) = x else {
+        return;
+    };
+    let after = row_after(routine.policy, draft.rows[w], x);
+    remember(draft, w, x, &after);
+    for taken in [true, false] {
+        let e = edge_of(WordIndex(w as u32), instruction, taken);
+        hand_on(routine, draft, w, e, after, spent);
     }
 }
 
 // All words whose rows have changed hand on, in ascending order; whether there was one.
-fn sweep(
-    policy: Policy,
-    readings: [Reading; MOST_WORDS],
-    count: usize,
-    given: &[bool; MOST_WORDS],
-    limits: &[u16; TABLE_ENTRIES],
-    bounds: &mut [u64; MOST_WORDS],
-    table: &mut [u8; TABLE_BYTES],
-    pending: &mut [bool; MOST_WORDS],
-    growths: &mut [u8; TABLE_ENTRIES],
-    ways: &mut [u16; TABLE_ENTRIES],
-    spent: bool,
-) -> bool
-    requires { count ≤ most_words }
-{
+fn sweep(routine: &Routine, draft: &mut Draft, spent: bool) -> bool {
     let mut any = false;
-    let mut w: usize = 0;
-    while w < count {
-        if pending[w] {
-            pending[w] = false;
+    for w in 0..routine.count {
+        if draft.pending[w] {
+            draft.pending[w] = false;
             any = true;
-            let x = readings[w];
-            let slot = slot_of(readings, w);
-            hand_all(
-                policy, count, given, limits, bounds, table, pending, growths, ways, w, x, slot,
-                spent,
-            );
+            hand_all(routine, draft, w, spent);
         }
-        w += 1;
     }
     any
 }
 
 // Sweeps until no row changes, at most so many times; how many are left.
-pub fn grow(
-    policy: Policy,
-    readings: [Reading; MOST_WORDS],
-    count: usize,
-    given: &[bool; MOST_WORDS],
-    limits: &[u16; TABLE_ENTRIES],
-    bounds: &mut [u64; MOST_WORDS],
-    table: &mut [u8; TABLE_BYTES],
-    pending: &mut [bool; MOST_WORDS],
-    growths: &mut [u8; TABLE_ENTRIES],
-    ways: &mut [u16; TABLE_ENTRIES],
-    sweeps: u32,
-) -> u32
-    requires { count ≤ most_words }
-{
+pub fn grow(routine: &Routine, draft: &mut Draft, sweeps: u32) -> u32 {
     let mut left = sweeps;
+    // The count stays by hand: the edit sweeps_without_a_bound takes it away.
     while 0 < left {
         left -= 1;
-        let spent = left < LAST_SWEEPS;
-        if !sweep(
-            policy, readings, count, given, limits, bounds, table, pending, growths, ways, spent,
-        ) {
+        if !sweep(routine, draft, left < LAST_SWEEPS) {
             return left;
         }
     }
