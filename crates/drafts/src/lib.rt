@@ -21,3 +21,6 @@ pub use writing::write_row;
 
 // How many entries the rows of the most words have.
 pub const TABLE_ENTRIES: usize = 4864;
+
+// r8, which has the result.
+pub const RESULT: u8 = 8;

@@ -6,5 +6,5 @@ mod reading;
 // Rows without what is not read.
 mod shortening;
 
-pub use reading::{bit, find_needs};
+pub use reading::find_needs;
 pub use shortening::shorten;

@@ -1,19 +1,19 @@
 // What a word and those after it read: a set of bits, one for each entry of a row by its index, and one
 // for the codes.
-ghost use Rattle.std.specs.Prelude.{◌≤◌, ◌<◌};
+ghost use Rattle.std.specs.Prelude.{◌<◌};
 ghost use Rattle.v8.specs.Numbers.{most_words};
 
 use access::addend_of;
-use drafts::{TABLE_BYTES, narrowed, slot_of};
+use drafts::{RESULT, Routine, narrowed};
 use flow_edges::edges::edge_of;
 use flow_edges::transfer::{LINK, reads_codes};
 use flow_edges::{Destination, Edge};
 use flow_writes::operation_writes;
 use memory::frame::{is_scratch, scratch_at};
 use rows::entries::{FRAME_ADDRESS, UNSET, is_constant};
-use rows::geometry::{ENTRIES, ROW_BYTES, scratch_entry};
+use rows::geometry::{ENTRIES, scratch_entry};
 use rows::notes::{NOTE_COMPARISON, NOTE_UNSET};
-use rows::{Row, read_row};
+use rows::{Entry, Note, Row};
 use rules::{Operands, operands_of};
 use v8::numbers::MOST_WORDS;
 use v8::signed::excess;
@@ -26,7 +26,7 @@ pub const CODES: u8 = 38;
 const PASSES: u32 = 66;
 
 // The bit of an index; there is none above 63.
-pub fn bit(i: u8) -> u64 {
+fn bit(i: u8) -> u64 {
     if 63 < i {
         return 0;
     }
@@ -87,11 +87,8 @@ fn before_operation(row: Row, x: Operation, after: u64) -> u64 {
             operand,
             ..
         } => {
-            let reads = bit(rs1) | operand_bit(operand);
-            if cc {
-                return left & !bit(CODES) | reads;
-            }
-            left | reads
+            let set = if cc { bit(CODES) } else { 0 };
+            left & !set | bit(rs1) | operand_bit(operand)
         }
         Operation::Shift { rs1, count, .. } => left | bit(rs1) | operand_bit(count),
         Operation::Memory {
@@ -101,18 +98,17 @@ fn before_operation(row: Row, x: Operation, after: u64) -> u64 {
             displacement,
         } => {
             let second = addend_of(displacement);
-            let o = operands_of(row, rs1, second);
-            before_access(access, rd, reached_bit(o), after) | bit(rs1) | operand_bit(second)
+            let reached = reached_bit(operands_of(row, rs1, second));
+            before_access(access, rd, reached, after) | bit(rs1) | operand_bit(second)
         }
     }
 }
 
-// What a branch reads, in this row: the codes, and the register that they compare.
-fn branch_reads(row: Row, condition: u8) -> u64 {
+// What a branch reads, with this note: the codes, and the register that they compare.
+fn branch_reads(note: Note, condition: u8) -> u64 {
     if !reads_codes(condition) {
         return 0;
     }
-    let note = row.note;
     if note.kind == NOTE_COMPARISON {
         return bit(CODES) | bit(note.register);
     }
@@ -122,133 +118,91 @@ fn branch_reads(row: Row, condition: u8) -> u64 {
 // What is read from a word on, read as x, after which `after` is read, in this row.
 fn before_word(row: Row, x: Reading, after: u64) -> u64 {
     match x {
-        Reading::Read(instruction) => match instruction {
-            Instruction::Plain(operation) => before_operation(row, operation, after),
-            Instruction::Branch(b) => after | branch_reads(row, b.cond),
-            Instruction::Return => after | bit(LINK),
-        },
+        Reading::Read(Instruction::Plain(operation)) => before_operation(row, operation, after),
+        Reading::Read(Instruction::Branch(b)) => after | branch_reads(row.note, b.cond),
+        Reading::Read(Instruction::Return) => after | bit(LINK),
         Reading::Unread(_) => after,
     }
 }
 
 // What is read where an edge ends: at the caller, what the result entry asks for.
-fn needed_at(need: &[u64; MOST_WORDS], to: Destination, at_caller: u64) -> u64 {
+fn needed_at(routine: &Routine, need: &[u64; MOST_WORDS], to: Destination) -> u64 {
     match to {
-        Destination::To(d) => {
-            let i = d.0 as usize;
-            if MOST_WORDS <= i {
-                return 0;
-            }
-            need[i]
-        }
-        Destination::Caller => at_caller,
+        Destination::To(d) => need.get(d.0 as usize).copied().unwrap_or(0),
+        Destination::Caller => asked_bit(RESULT, routine.res),
     }
 }
 
 // What is read along an edge of a word, over its slot, read as x.
-fn needed_along(need: &[u64; MOST_WORDS], row: Row, x: Reading, e: Edge, at_caller: u64) -> u64 {
+fn needed_along(routine: &Routine, need: &[u64; MOST_WORDS], row: Row, x: Reading, e: Edge) -> u64 {
     if !e.exists {
         return 0;
     }
-    let c = narrowed(row, e);
-    if !c.arrives {
+    let Some(left) = narrowed(row, e) else {
         return 0;
-    }
-    let to = e.to;
-    let after = needed_at(need, to, at_caller);
+    };
+    let after = needed_at(routine, need, e.to);
     if e.slot {
-        return before_word(c.row, x, after);
+        return before_word(left, x, after);
     }
     after
 }
 
-// What is read from word w on, read as x and its slot as `slot`, whose row this is.
-fn needed_from(
-    need: &[u64; MOST_WORDS],
-    row: Row,
-    w: usize,
-    x: Reading,
-    slot: Reading,
-    at_caller: u64,
-) -> u64
+// What is read from word w on, whose row this is.
+fn needed_from(routine: &Routine, need: &[u64; MOST_WORDS], row: Row, w: usize) -> u64
     requires { w < most_words }
 {
-    match x {
-        Reading::Read(instruction) => {
-            let at = WordIndex(w as u32);
-            let taken = needed_along(need, row, slot, edge_of(at, instruction, true), at_caller);
-            let other = needed_along(need, row, slot, edge_of(at, instruction, false), at_caller);
-            before_word(row, x, taken | other)
-        }
-        Reading::Unread(_) => 0,
+    let x = routine.readings[w];
+    let Reading::Read(instruction) = x else {
+        return 0;
+    };
+    let slot = routine.slot_of(w);
+    let mut after = 0;
+    for taken in [true, false] {
+        let e = edge_of(WordIndex(w as u32), instruction, taken);
+        after |= needed_along(routine, need, row, slot, e);
     }
+    before_word(row, x, after)
+}
+
+// The bit of an entry that says something.
+fn asked_bit(i: u8, e: Entry) -> u64 {
+    if e.kind == UNSET { 0 } else { bit(i) }
 }
 
 // What a row that is given asks for: all that it says something of.
-fn asked_by(row: Row) -> u64 {
-    let mut bits: u64 = 0;
-    let mut i: usize = 1;
-    while i < ENTRIES {
-        let e = row.entries[i];
-        if e.kind != UNSET {
-            bits = bits | bit(i as u8);
-        }
-        i += 1;
-    }
-    if row.note.kind != NOTE_UNSET {
-        return bits | bit(CODES);
+fn asked_by(row: &Row) -> u64 {
+    let mut bits = if row.note.kind == NOTE_UNSET { 0 } else { bit(CODES) };
+    for i in 1..ENTRIES {
+        bits |= asked_bit(i as u8, row.entries[i]);
     }
     bits
 }
 
 // One pass over the words, from the last to the first; whether anything has changed.
-fn need_once(
-    readings: [Reading; MOST_WORDS],
-    count: usize,
-    examined: &[bool; MOST_WORDS],
-    given: &[bool; MOST_WORDS],
-    table: &[u8; TABLE_BYTES],
-    need: &mut [u64; MOST_WORDS],
-    at_caller: u64,
-) -> bool
-    requires { count ≤ most_words }
-{
+fn need_once(routine: &Routine, rows: &[Row; MOST_WORDS], need: &mut [u64; MOST_WORDS]) -> bool {
     let mut changed = false;
-    let mut left = count;
-    while 0 < left {
-        left -= 1;
-        if examined[left] {
-            let x = readings[left];
-            let slot = slot_of(readings, left);
-            let row = read_row(table, ROW_BYTES * left);
-            let mut before = asked_by(row);
-            if !given[left] {
-                before = needed_from(need, row, left, x, slot, at_caller);
-            }
-            changed = changed | (before != need[left]);
-            need[left] = before;
+    for w in (0..routine.count).rev() {
+        if routine.examined[w] {
+            let before = if routine.given[w] {
+                asked_by(&rows[w])
+            } else {
+                needed_from(routine, need, rows[w], w)
+            };
+            changed |= before != need[w];
+            need[w] = before;
         }
     }
     changed
 }
 
 // What is read from each word on, by passes until nothing changes.
-pub fn find_needs(
-    readings: [Reading; MOST_WORDS],
-    count: usize,
-    examined: &[bool; MOST_WORDS],
-    given: &[bool; MOST_WORDS],
-    table: &[u8; TABLE_BYTES],
-    need: &mut [u64; MOST_WORDS],
-    at_caller: u64,
-)
-    requires { count ≤ most_words }
-{
-    let mut left = PASSES;
-    while 0 < left {
-        left -= 1;
-        if !need_once(readings, count, examined, given, table, need, at_caller) {
-            return;
+pub fn find_needs(routine: &Routine, rows: &[Row; MOST_WORDS]) -> [u64; MOST_WORDS] {
+    let mut need = [0; MOST_WORDS];
+    for _ in 0..PASSES {
+        if !need_once(routine, rows, &mut need) {
+            break;
         }
     }
+    need
 }

@@ -3,140 +3,78 @@ ghost use Rattle.std.specs.Prelude.{◌<◌};
 ghost use Rattle.v8.specs.Numbers.{most_words};
 
 use checker::change_by;
-use drafts::writing::is_there;
-use drafts::{TABLE_BYTES, narrowed};
+use drafts::{RESULT, Routine, fits_row, is_there, narrowed};
 use flow_edges::edges::edge_of;
 use flow_edges::{Destination, Edge};
 use policy::Policy;
-use rows::geometry::ROW_BYTES;
-use rows::{Entry, Row, entry_at, fits, flawless, misfit, row_with};
+use rows::{Row, entry_at, fits, row_with};
 use rules::Change;
 use v8::numbers::MOST_WORDS;
 use v8::{Reading, WordIndex};
 
-// r8, which has the result.
-pub const RESULT: u8 = 8;
-
-// The word hands on what fits, hands on what does not, is refused, or was not tried.
-pub const FITS: u8 = 0;
-
-const MISFITS: u8 = 1;
-
-const REFUSED: u8 = 2;
-
-pub const NOT_TRIED: u8 = 3;
-
-// A row made by a word, if the word is not refused.
-#[derive(Clone, Copy)]
-struct Made {
-    made: bool,
-    row: Row,
+// The word hands on what fits, hands on what does not, or is refused: the best comes first.
+#[derive(Clone, Copy, PartialEq, Eq, PartialOrd, Ord)]
+pub enum Fate {
+    Fits,
+    Misfits,
+    Refused,
 }
 
-// The row after a word, read as x, if that is not refused.
-fn made_by(policy: Policy, row: Row, x: Reading) -> Made {
+// The row after a word, read as x; none, where the word is refused.
+fn made_by(policy: &Policy, row: Row, x: Reading) -> Option<Row> {
     match change_by(policy, row, x) {
-        Change::Writes(register, entry, note) => Made {
-            made: true,
-            row: row_with(row, register, entry, note),
-        },
-        Change::Keeps => Made { made: true, row },
-        Change::Breaks(_, _) => Made { made: false, row },
+        Change::Writes(register, entry, note) => Some(row_with(row, register, entry, note)),
+        Change::Keeps => Some(row),
+        Change::Breaks(_, _) => None,
     }
 }
 
 // How a word fares whose row arrives at the end of an edge.
-fn arrival(table: &[u8; TABLE_BYTES], res: Entry, to: Destination, row: Row) -> u8 {
+fn arrival(routine: &Routine, rows: &[Row; MOST_WORDS], to: Destination, row: Row) -> Fate {
     match to {
-        Destination::To(d) => {
-            let i = d.0 as usize;
-            if MOST_WORDS <= i {
-                return FITS;
-            }
-            let at = ROW_BYTES * i;
-            if !is_there(table, at) {
-                return FITS;
-            }
-            if flawless(misfit(row, table, at)) {
-                return FITS;
-            }
-            MISFITS
-        }
-        Destination::Caller => {
-            if fits(entry_at(row, RESULT), res) {
-                return FITS;
-            }
-            REFUSED
-        }
+        Destination::To(d) => match rows.get(d.0 as usize) {
+            Some(next) if is_there(next) & !fits_row(&row, next) => Fate::Misfits,
+            _ => Fate::Fits,
+        },
+        Destination::Caller if fits(entry_at(row, RESULT), routine.res) => Fate::Fits,
+        Destination::Caller => Fate::Refused,
     }
 }
 
 // How a word fares along an edge, over its slot, read as x.
-fn along(
-    policy: Policy,
-    table: &[u8; TABLE_BYTES],
-    res: Entry,
-    x: Reading,
-    e: Edge,
-    row: Row,
-) -> u8 {
+fn along(routine: &Routine, rows: &[Row; MOST_WORDS], x: Reading, e: Edge, row: Row) -> Fate {
     if !e.exists {
-        return FITS;
+        return Fate::Fits;
     }
-    let c = narrowed(row, e);
-    if !c.arrives {
-        return FITS;
-    }
-    let to = e.to;
+    let Some(left) = narrowed(row, e) else {
+        return Fate::Fits;
+    };
     if !e.slot {
-        return arrival(table, res, to, c.row);
+        return arrival(routine, rows, e.to, left);
     }
-    let after = made_by(policy, c.row, x);
-    if !after.made {
-        return REFUSED;
+    match made_by(routine.policy, left, x) {
+        Some(after) => arrival(routine, rows, e.to, after),
+        None => Fate::Refused,
     }
-    arrival(table, res, to, after.row)
 }
 
-// How word u, read as x and its slot as `slot`, fares with a row.
-pub fn fares(
-    policy: Policy,
-    table: &[u8; TABLE_BYTES],
-    res: Entry,
-    u: usize,
-    x: Reading,
-    slot: Reading,
-    row: Row,
-) -> u8
+// How word u fares with a row.
+pub fn fares(routine: &Routine, rows: &[Row; MOST_WORDS], u: usize, row: Row) -> Fate
     requires { u < most_words }
 {
-    match x {
-        Reading::Read(instruction) => {
-            let at = WordIndex(u as u32);
-            let after = made_by(policy, row, x);
-            if !after.made {
-                return REFUSED;
-            }
-            let first = along(
-                policy,
-                table,
-                res,
-                slot,
-                edge_of(at, instruction, true),
-                after.row,
-            );
-            if first != FITS {
-                return first;
-            }
-            along(
-                policy,
-                table,
-                res,
-                slot,
-                edge_of(at, instruction, false),
-                after.row,
-            )
+    let x = routine.readings[u];
+    let Reading::Read(instruction) = x else {
+        return Fate::Refused;
+    };
+    let Some(after) = made_by(routine.policy, row, x) else {
+        return Fate::Refused;
+    };
+    for taken in [true, false] {
+        let e = edge_of(WordIndex(u as u32), instruction, taken);
+        let fate = along(routine, rows, routine.slot_of(u), e, after);
+        if fate != Fate::Fits {
+            return fate;
         }
-        Reading::Unread(_) => REFUSED,
     }
+    Fate::Fits
 }

@@ -9,4 +9,3 @@ mod faring;
 mod choosing;
 
 pub use choosing::strand;
-pub use faring::RESULT;
