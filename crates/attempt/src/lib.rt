@@ -2,10 +2,10 @@
 // grow, and all are checked.
 #![tactic(auto)]
 
-// The table of rows in draft.
+// The rows in draft, and what is written out of them.
 mod tables;
 // The attempt.
 mod trying;
 
 pub use tables::fill;
-pub use trying::try_rows;
+pub use trying::{Asked, Attempt};

@@ -1,18 +1,15 @@
 // Where an access or an address is refused, the cause may be an entry that grows in a loop with nothing
 // to bound it. Such entries are kept from growing, one after another: if the check then names the way
 // back on which one grows, by 12, the dealer is told of that.
-ghost use Rattle.std.specs.Prelude.{◌≡◌, ◌+◌, ◌≤◌, ◌*◌, length};
-ghost use Rattle.v8.specs.Numbers.{most_words};
-ghost use Rattle.rows.specs.Geometry.{row_bytes, entry_bytes, RowLies};
+ghost use Rattle.std.specs.Prelude.{◌≡◌, ◌+◌, ◌*◌, length};
+ghost use Rattle.rows.specs.Geometry.{row_bytes};
 
-use attempt::try_rows;
+use attempt::Asked;
 use drafts::TABLE_ENTRIES;
-use merging::NO_LIMIT;
+use merging::{Growth, Way};
 use passes::Answer;
-use policy::Policy;
 use rows::geometry::{ENTRIES, NOTE_NAME};
-use v8::Edition;
-use v8::numbers::{EDGE_MISFIT, MOST_WORDS, OFF_GRID, OUTSIDE_FIELDS, OUTSIDE_REGION};
+use v8::numbers::{EDGE_MISFIT, OFF_GRID, OUTSIDE_FIELDS, OUTSIDE_REGION};
 
 // How many entries are tried at most, and in how many turns: those first that were the first to grow with
 // nothing to bound them.
@@ -20,166 +17,113 @@ const TRIALS: u32 = 16;
 
 const TURNS: usize = 36;
 
-// The first of the numbers of growths that are tried; each further one is half of it.
-const FIRST_STRETCH: u16 = 128;
+// The numbers of growths that are tried, one after another, each beside those that are kept.
+const STRETCHES: [u8; 8] = [128, 64, 32, 16, 8, 4, 2, 1];
+
+// How often each entry may grow, where that is limited.
+type Limits = [Option<u8>; TABLE_ENTRIES];
 
 // Whether a refusal may come from an entry that grows too far.
 pub fn from_growth(number: u8) -> bool {
-    (number == OUTSIDE_FIELDS) | (number == OFF_GRID) | (number == OUTSIDE_REGION)
+    matches!(number, OUTSIDE_FIELDS | OFF_GRID | OUTSIDE_REGION)
 }
 
 // The number that names entry i of a row.
-fn name_of(i: usize) -> u32 {
-    let index = (i % ENTRIES) as u32;
-    if index < NOTE_NAME as u32 {
-        return index;
-    }
-    index + 1
+fn name_of(i: usize) -> usize {
+    let index = i % ENTRIES;
+    if index < NOTE_NAME as usize { index } else { index + 1 }
 }
 
 // Whether an answer names a way back, and entry i.
-fn is_way(a: Answer, way: u16, i: usize) -> bool {
-    let named = a.register as u32 == name_of(i);
-    named & (a.word.0 as u64 + 1 == way as u64 % 256)
+fn is_way(a: Answer, way: Way, i: usize) -> bool {
+    (a.register as usize == name_of(i)) & (a.word.0 == way.word as u32)
 }
 
-// Whether it is the turn of an entry with this way back.
-fn is_turn(way: u16, turn: usize) -> bool
-    requires { turn ≤ 36 }
-{
-    let first = (way / 256) as usize;
-    first == turn + 1
+// Whether it is an entry's turn.
+fn is_turn(growth: &Growth, turn: usize) -> bool {
+    growth.way.is_some_and(|way| way.first as usize == turn + 1)
 }
 
-// The next turn, from one on, that is an entry's which is not limited; the number of all turns, if there is
-// none. Turn after turn, all entries are gone through.
-fn next_turn(ways: &[u16; TABLE_ENTRIES], limits: &[u16; TABLE_ENTRIES], from: usize) -> usize {
-    let mut k = from;
-    while k < TURNS * TABLE_ENTRIES {
+// The next turn, from one on, that is an entry's which is not limited, if there is one. Turn after turn, all
+// entries are gone through.
+fn next_turn(growths: &[Growth; TABLE_ENTRIES], limits: &Limits, from: usize) -> Option<usize> {
+    for k in from..TURNS * TABLE_ENTRIES {
         let i = k % TABLE_ENTRIES;
-        if is_turn(ways[i], k / TABLE_ENTRIES) & (limits[i] == NO_LIMIT) {
-            return k;
+        if is_turn(&growths[i], k / TABLE_ENTRIES) & limits[i].is_none() {
+            return Some(k);
         }
-        k += 1;
     }
-    k
+    None
 }
 
 // Whether an answer names the way back on which an entry grows that is kept from it.
-fn is_named(ways: &[u16; TABLE_ENTRIES], limits: &[u16; TABLE_ENTRIES], a: Answer) -> bool {
+fn is_named(growths: &[Growth; TABLE_ENTRIES], limits: &Limits, a: Answer) -> bool {
     if a.number != EDGE_MISFIT {
         return false;
     }
-    let mut i: usize = 0;
-    while i < TABLE_ENTRIES {
-        if (limits[i] != NO_LIMIT) & is_way(a, ways[i], i) {
+    for i in 0..TABLE_ENTRIES {
+        if limits[i].is_some() & growths[i].way.is_some_and(|way| is_way(a, way, i)) {
             return true;
         }
-        i += 1;
     }
     false
 }
 
-// Whether two answers are the same.
-fn same(a: Answer, b: Answer) -> bool {
-    (a.number == b.number) & (a.word.0 == b.word.0) & (a.register == b.register)
-}
-
-// How many growths are kept, with some more or not.
-fn longer(kept: u16, more: u16, holds: bool) -> u16
-    requires { kept + more ≤ 256 }
-    ensures { result ≤ kept + more }
-{
-    if holds {
-        return kept + more;
-    }
-    kept
-}
-
 // Gives all entries that are limited the same limit.
-fn limit_all(limits: &mut [u16; TABLE_ENTRIES], n: u16) {
-    let mut i: usize = 0;
-    while i < TABLE_ENTRIES {
-        if limits[i] != NO_LIMIT {
-            limits[i] = n;
+fn limit_all(limits: &mut Limits, n: u8) {
+    for limit in limits.iter_mut() {
+        if limit.is_some() {
+            *limit = Some(n);
         }
-        i += 1;
     }
 }
 
 // Lets the entries that are limited grow as often as the answer stays the same, so that the rows show what
 // they are then.
-fn stretch(
-    edition: Edition,
-    policy: Policy,
-    words: &[u32],
-    given: &[bool; MOST_WORDS],
-    entry: &[u8],
-    res: &[u8],
-    rows: &mut [u8],
-    limits: &mut [u16; TABLE_ENTRIES],
-    named: Answer,
-)
-    requires { (length words.now ≤ most_words) × (row_bytes * length words.now ≡ length rows.old) × RowLies 0 (length entry.now) × (entry_bytes ≤ length res.now) }
+fn stretch(asked: &Asked, rows: &mut [u8], limits: &mut Limits, named: Answer)
+    requires { row_bytes * length asked.now.words.now ≡ length rows.old }
 {
-    let mut spare = [0u16; TABLE_ENTRIES];
-    let mut kept: u16 = 0;
-    let mut more = FIRST_STRETCH;
-    while 0 < more {
-        limit_all(limits, kept + more);
-        let found = try_rows(
-            edition, policy, words, given, limits, entry, res, rows, &mut spare,
-        );
-        kept = longer(kept, more, same(found, named));
-        more = more / 2;
+    let mut kept: u8 = 0;
+    for more in STRETCHES {
+        limit_all(limits, kept | more);
+        if asked.try_rows(limits, rows).answer == named {
+            kept |= more;
+        }
     }
     limit_all(limits, kept);
 }
 
 // Keeps entries from growing until the answer names the way back on which one grows. If none does, no
-// entry is limited at the end. `ways` and `first` are of the search without limits.
+// entry is limited at the end. `growths` and `first` are of the attempt without limits.
 pub fn blame(
-    edition: Edition,
-    policy: Policy,
-    words: &[u32],
-    given: &[bool; MOST_WORDS],
-    entry: &[u8],
-    res: &[u8],
+    asked: &Asked,
     rows: &mut [u8],
-    ways: &[u16; TABLE_ENTRIES],
-    limits: &mut [u16; TABLE_ENTRIES],
+    growths: &[Growth; TABLE_ENTRIES],
     first: Answer,
-)
-    requires { (length words.now ≤ most_words) × (row_bytes * length words.now ≡ length rows.old) × RowLies 0 (length entry.now) × (entry_bytes ≤ length res.now) }
+) -> Limits
+    requires { row_bytes * length asked.now.words.now ≡ length rows.old }
 {
-    let mut spare = [0u16; TABLE_ENTRIES];
+    let mut limits = [None; TABLE_ENTRIES];
     let mut answer = first;
-    let mut k: usize = 0;
-    let mut left = TRIALS;
-    while 0 < left {
-        left -= 1;
-        k = next_turn(ways, limits, k);
-        if TURNS * TABLE_ENTRIES <= k {
+    let mut from = 0;
+    for _ in 0..TRIALS {
+        let Some(k) = next_turn(growths, &limits, from) else {
             break;
-        }
+        };
         let i = k % TABLE_ENTRIES;
-        limits[i] = 0;
-        let found = try_rows(
-            edition, policy, words, given, limits, entry, res, rows, &mut spare,
-        );
-        if is_named(ways, limits, found) {
-            stretch(
-                edition, policy, words, given, entry, res, rows, limits, found,
-            );
-            return;
+        limits[i] = Some(0);
+        let found = asked.try_rows(&limits, rows).answer;
+        if is_named(growths, &limits, found) {
+            stretch(asked, rows, &mut limits, found);
+            return limits;
         }
         if (found.number != EDGE_MISFIT) & (answer.word.0 < found.word.0) {
             answer = found;
-            k = 0;
+            from = 0;
         } else {
-            limits[i] = NO_LIMIT;
-            k += 1;
+            limits[i] = None;
+            from = k + 1;
         }
     }
-    limit_all(limits, NO_LIMIT);
+    [None; TABLE_ENTRIES]
 }
