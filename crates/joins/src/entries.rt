@@ -20,11 +20,7 @@ fn of_one_sort(a: Entry, b: Entry) -> bool
 fn with_set(e: Entry, s: NumberSet) -> Entry
     ensures { result ≡ with_set e s }
 {
-    Entry {
-        kind: e.kind,
-        region: e.region,
-        set: s,
-    }
+    Entry { set: s, ..e }
 }
 
 // An entry of a kind that has no set.

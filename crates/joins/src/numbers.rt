@@ -1,34 +1,28 @@
 // The least set that two sets of numbers lie in (specs/Join.antt).
-ghost use Rattle.std.specs.Prelude.{◌≡◌, min, max};
-ghost use Rattle.joins.specs.Join.{common_step, join_sets};
+ghost use Rattle.std.specs.Prelude.{◌≡◌, ◌≤◌};
+ghost use Rattle.joins.specs.Join.{is_common, common_step, join_sets};
 
 use sets::{NumberSet, ended};
 
-// The smaller of two ends.
-fn smaller(a: u32, b: u32) -> u32
-    ensures { result ≡ min a b }
+// Whether a step is at most two others and divides a distance.
+fn is_common(step: u8, a: u8, b: u8, distance: u32) -> bool
+    requires { 1 ≤ step }
+    ensures { result ≡ is_common step a b distance }
 {
-    if a < b { a } else { b }
-}
-
-// The larger of two ends.
-fn larger(a: u32, b: u32) -> u32
-    ensures { result ≡ max a b }
-{
-    if a < b { b } else { a }
+    (step <= a) & (step <= b) & (distance % step as u32 == 0)
 }
 
 // The largest step that is at most two steps and divides a distance.
 fn common_step(a: u8, b: u8, distance: u32) -> u8
     ensures { result ≡ common_step a b distance }
 {
-    if (8 <= a) & (8 <= b) & (distance % 8 == 0) {
+    if is_common(8, a, b, distance) {
         return 8;
     }
-    if (4 <= a) & (4 <= b) & (distance % 4 == 0) {
+    if is_common(4, a, b, distance) {
         return 4;
     }
-    if (2 <= a) & (2 <= b) & (distance % 2 == 0) {
+    if is_common(2, a, b, distance) {
         return 2;
     }
     1
@@ -38,8 +32,8 @@ fn common_step(a: u8, b: u8, distance: u32) -> u8
 pub fn join_sets(a: NumberSet, b: NumberSet) -> NumberSet
     ensures { result ≡ join_sets a b }
 {
-    let lo = smaller(a.lo, b.lo);
-    let hi = larger(a.hi, b.hi);
-    let step = common_step(a.step, b.step, larger(a.lo, b.lo) - lo);
+    let lo = a.lo.min(b.lo);
+    let hi = a.hi.max(b.hi);
+    let step = common_step(a.step, b.step, a.lo.max(b.lo) - lo);
     ended(step, lo, hi)
 }

@@ -2,7 +2,7 @@
 ghost use Rattle.std.specs.Prelude.{◌≡◌, ◌+◌, ◌≤◌, length};
 ghost use Rattle.memory.specs.Memory.{load_width, load_of, store_width, store_of};
 
-use crate::reading::{byte_within, half_within, word_within};
+use crate::reading::{half_within, word_within};
 use v8::signed::sign_extend;
 use v8::{LoadOp, StoreOp};
 
@@ -13,9 +13,9 @@ pub fn load(op: LoadOp, memory: &[u8], at: usize) -> u32
 {
     match op {
         LoadOp::Ld => word_within(memory, at),
-        LoadOp::Ldub => byte_within(memory, at),
+        LoadOp::Ldub => memory[at] as u32,
         LoadOp::Lduh => half_within(memory, at),
-        LoadOp::Ldsb => sign_extend(8, byte_within(memory, at)),
+        LoadOp::Ldsb => sign_extend(8, memory[at] as u32),
         LoadOp::Ldsh => sign_extend(16, half_within(memory, at)),
     }
 }
@@ -27,17 +27,15 @@ pub fn store(op: StoreOp, part: &mut [u8], at: usize, v: u32)
 {
     match op {
         StoreOp::St => {
-            part[at] = (v / 16777216 % 256) as u8;
-            part[at + 1] = (v / 65536 % 256) as u8;
-            part[at + 2] = (v / 256 % 256) as u8;
-            part[at + 3] = (v % 256) as u8;
+            let bytes = v.to_be_bytes();
+            part[at..at + 4].copy_from_slice(&bytes);
         }
         StoreOp::Stb => {
             part[at] = (v % 256) as u8;
         }
         StoreOp::Sth => {
-            part[at] = (v / 256 % 256) as u8;
-            part[at + 1] = (v % 256) as u8;
+            let bytes = ((v % 65536) as u16).to_be_bytes();
+            part[at..at + 2].copy_from_slice(&bytes);
         }
     }
 }

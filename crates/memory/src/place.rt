@@ -15,10 +15,8 @@ pub fn part_start(sizes: &[u16; 8], region: u8) -> usize
     ensures { (result ≡ part_start sizes.now region) × (result ≤ 524280) }
 {
     let mut sum: usize = 0;
-    let mut i: u8 = 0;
-    while i < region {
+    for i in 0..region {
         sum += extent(sizes[i as usize]);
-        i += 1;
     }
     sum
 }

@@ -1,7 +1,7 @@
 // The bounds of 32-bit numbers (specs/Sets.antt).
 
 // 2^32: words and excess forms lie below it.
-pub const MODULUS: u64 = 4294967296;
+pub const MODULUS: u64 = 1 << 32;
 
 // The highest excess form.
-pub const LAST: u32 = (MODULUS - 1) as u32;
+pub const LAST: u32 = u32::MAX;

@@ -4,7 +4,7 @@ ghost use Rattle.sets.specs.Sets.{single, full, ended, is_step, set_ok, fits_set
 
 use crate::NumberSet;
 use crate::bounds::LAST;
-use crate::natural::{minus, remainder};
+use crate::natural::remainder;
 
 // One number: "a single number has step 8".
 pub fn single(n: u32) -> NumberSet
@@ -43,7 +43,7 @@ pub fn ended(step: u8, lo: u32, hi: u32) -> NumberSet
 fn is_step(step: u8) -> bool
     ensures { result ≡ is_step step }
 {
-    (step == 1) | (step == 2) | (step == 4) | (step == 8)
+    matches!(step, 1 | 2 | 4 | 8)
 }
 
 // Whether a set is well formed.
@@ -51,7 +51,7 @@ pub fn set_ok(s: NumberSet) -> bool
     ensures { result ≡ set_ok s }
 {
     let step = is_step(s.step);
-    let rest = remainder(minus(s.hi, s.lo), s.step);
+    let rest = remainder(s.hi.saturating_sub(s.lo), s.step);
     step & (s.lo <= s.hi) & (rest == 0) & ((s.lo != s.hi) | (s.step == 8))
 }
 
@@ -61,5 +61,5 @@ pub fn fits_set(a: NumberSet, b: NumberSet) -> bool
 {
     let between = (b.lo <= a.lo) & (a.hi <= b.hi);
     let finer = b.step <= a.step;
-    between & finer & (remainder(minus(a.lo, b.lo), b.step) == 0)
+    between & finer & (remainder(a.lo.saturating_sub(b.lo), b.step) == 0)
 }

@@ -6,8 +6,7 @@ ghost use Rattle.std.specs.Prelude.{◌≡◌};
 ghost use Rattle.sets_narrow.specs.Narrow.{at_most, at_least, less_than, greater_than, is_member, only, without, narrow_set};
 
 use alu::Narrowing;
-use sets::bounds::LAST;
-use sets::natural::{larger, minus, remainder, round_down, smaller};
+use sets::natural::{remainder, round_down};
 use sets::{NumberSet, ended, single};
 
 // The members up to `n`.
@@ -17,7 +16,7 @@ fn at_most(a: NumberSet, n: u32) -> Option<NumberSet>
     if n < a.lo {
         return None;
     }
-    let span = round_down(minus(smaller(a.hi, n), a.lo), a.step);
+    let span = round_down(a.hi.min(n).saturating_sub(a.lo), a.step);
     Some(ended(a.step, a.lo, a.lo + span))
 }
 
@@ -28,7 +27,7 @@ fn at_least(a: NumberSet, n: u32) -> Option<NumberSet>
     if a.hi < n {
         return None;
     }
-    let span = round_down(minus(a.hi, larger(a.lo, n)), a.step);
+    let span = round_down(a.hi.saturating_sub(a.lo.max(n)), a.step);
     Some(ended(a.step, a.hi - span, a.hi))
 }
 
@@ -36,27 +35,21 @@ fn at_least(a: NumberSet, n: u32) -> Option<NumberSet>
 fn less_than(a: NumberSet, n: u32) -> Option<NumberSet>
     ensures { result ≡ less_than a n }
 {
-    if n == 0 {
-        return None;
-    }
-    at_most(a, n - 1)
+    at_most(a, n.checked_sub(1)?)
 }
 
 // The members above `n`.
 fn greater_than(a: NumberSet, n: u32) -> Option<NumberSet>
     ensures { result ≡ greater_than a n }
 {
-    if n == LAST {
-        return None;
-    }
-    at_least(a, n + 1)
+    at_least(a, n.checked_add(1)?)
 }
 
 // Whether `n` is one of the set.
 fn is_member(a: NumberSet, n: u32) -> bool
     ensures { result ≡ is_member a n }
 {
-    let rest = remainder(minus(n, a.lo), a.step);
+    let rest = remainder(n.saturating_sub(a.lo), a.step);
     (a.lo <= n) & (n <= a.hi) & (rest == 0)
 }
 
@@ -64,10 +57,7 @@ fn is_member(a: NumberSet, n: u32) -> bool
 fn only(a: NumberSet, n: u32) -> Option<NumberSet>
     ensures { result ≡ only a n }
 {
-    if is_member(a, n) {
-        return Some(single(n));
-    }
-    None
+    is_member(a, n).then_some(single(n))
 }
 
 // The set without `n` where `n` is an end.

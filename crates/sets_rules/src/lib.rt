@@ -6,7 +6,6 @@ ghost use Rattle.std.specs.Prelude.{◌≡◌, ◌*◌, ◌%◌, ◌^◌, ◌<�
 ghost use Rattle.sets_rules.specs.Rules.{within, add_sets, sub_sets, and_sets, alu_sets, shifted_up, sll_set, shifted_down, sra_set, srl_set, shift_set};
 
 use sets::bounds::MODULUS;
-use sets::natural::{smaller, smaller_step};
 use sets::{NumberSet, ended, full};
 use v8::signed::BIAS;
 use v8::{AluOp, ShiftOp};
@@ -21,16 +20,7 @@ const BEYOND: u64 = MODULUS + BIAS as u64;
 fn within(step: u8, lo: u64, hi: u64) -> NumberSet
     ensures { result ≡ within step lo hi }
 {
-    if lo < LOWEST {
-        return full();
-    }
-    if hi < LOWEST {
-        return full();
-    }
-    if BEYOND <= lo {
-        return full();
-    }
-    if BEYOND <= hi {
+    if (lo < LOWEST) | (hi < LOWEST) | (BEYOND <= lo) | (BEYOND <= hi) {
         return full();
     }
     let low = (lo - LOWEST) as u32;
@@ -46,7 +36,7 @@ fn within(step: u8, lo: u64, hi: u64) -> NumberSet
 pub fn add_sets(a: NumberSet, b: NumberSet) -> NumberSet
     ensures { result ≡ add_sets a b }
 {
-    let step = smaller_step(a.step, b.step);
+    let step = a.step.min(b.step);
     let lo = a.lo as u64 + b.lo as u64;
     let hi = a.hi as u64 + b.hi as u64;
     within(step, lo, hi)
@@ -56,7 +46,7 @@ pub fn add_sets(a: NumberSet, b: NumberSet) -> NumberSet
 pub fn sub_sets(a: NumberSet, b: NumberSet) -> NumberSet
     ensures { result ≡ sub_sets a b }
 {
-    let step = smaller_step(a.step, b.step);
+    let step = a.step.min(b.step);
     let lo = a.lo as u64 + MODULUS - b.hi as u64;
     let hi = a.hi as u64 + MODULUS - b.lo as u64;
     within(step, lo, hi)
@@ -66,16 +56,12 @@ pub fn sub_sets(a: NumberSet, b: NumberSet) -> NumberSet
 fn and_sets(a: NumberSet, b: NumberSet) -> NumberSet
     ensures { result ≡ and_sets a b }
 {
-    if BIAS <= a.lo {
-        if BIAS <= b.lo {
-            return ended(1, BIAS, smaller(a.hi, b.hi));
-        }
-        return ended(1, BIAS, a.hi);
+    match (BIAS <= a.lo, BIAS <= b.lo) {
+        (true, true) => ended(1, BIAS, a.hi.min(b.hi)),
+        (true, false) => ended(1, BIAS, a.hi),
+        (false, true) => ended(1, BIAS, b.hi),
+        (false, false) => full(),
     }
-    if BIAS <= b.lo {
-        return ended(1, BIAS, b.hi);
-    }
-    full()
 }
 
 // What an operation makes of two sets.
@@ -85,12 +71,8 @@ pub fn alu_sets(op: AluOp, a: NumberSet, b: NumberSet) -> NumberSet
     match op {
         AluOp::Add => add_sets(a, b),
         AluOp::And => and_sets(a, b),
-        AluOp::Or => full(),
-        AluOp::Xor => full(),
         AluOp::Sub => sub_sets(a, b),
-        AluOp::Andn => full(),
-        AluOp::Orn => full(),
-        AluOp::Xnor => full(),
+        AluOp::Or | AluOp::Xor | AluOp::Andn | AluOp::Orn | AluOp::Xnor => full(),
     }
 }
 
@@ -101,7 +83,7 @@ fn shifted_up(n: u32, s: u32) -> u64
 {
     let top = ((n as u64) << s) + MODULUS;
     let low = (BIAS as u64) << s;
-    if top < low { 0 } else { top - low }
+    top.saturating_sub(low)
 }
 
 // The step of a set shifted left.
@@ -110,7 +92,7 @@ fn shifted_step(step: u8, s: u32) -> u8
     ensures { result ≡ min 8 (step * 2 ^ s) }
 {
     let t = (step as u64) << s;
-    if 8 < t { 8 } else { t as u8 }
+    t.min(8) as u8
 }
 
 // SLL by `s`.

@@ -1,39 +1,33 @@
--- `store` meets its contract: each arm's stores are those of the value's low bytes, at `at`, `at + 1` and so on. The store's
--- width gives the bounds, and no store changes the length.
-use mathlib.Core.Path.{ap}
+-- `store` meets its contract: the bytes that are put over a part of the slice are the value's low bytes, and the store's width gives the
+-- bounds.
+use Rattle.std.proofs.Common.{ℕ, ◌+◌, ◌-◌, ◌%◌, ◌≤◌, ◌≡◌, ◌∙◌, ◌/◌, List, length, append_assoc, arith}
 use native.Mathlib.Nat.{div-one}
-use native.Mathlib.Numerals.{towards_suc}
-use native.Mathlib.Omega.{arith}
-use lib.ListN.{length-set}
-use Rattle.memory.specs.Memory.{store_width}
+use lib.Seq.{sets, sets-eq, drop-drop}
+use borrow.Rule.Slice.PartMut.{put_mid}
+use Rattle.std.specs.Int.{w16, w32, to_be_bytes}
+use Rattle.memory.specs.Memory.{low_bytes, store_width}
 use Rattle.memory.proofs.big_endian.store.Goals as goal
 
-pub bounds-part-at : goal.bounds-part-at
-bounds-part-at c = omega (arith, ap store_width c.in-St.is)
+-- bytes put over a part of a memory stand in the whole one after the other
+put_over : (m bs : List ℕ) (a k : ℕ) → k ≡ length bs → a + length bs ≤ length m → put_mid a k m bs ≡ sets m a bs
+put_over m bs a k e l = rw (e, sets-eq bs m a l, append_assoc, drop-drop)
 
-pub bounds-part-at-in-St : goal.bounds-part-at-in-St
-bounds-part-at-in-St c = simp length-set (omega (arith, ap store_width c.in-St.is))
+-- a value's low bytes, as they are and as they are stored
+word_bytes : (v : ℕ) → to_be_bytes w32 v ≡ low_bytes 4 v
+word_bytes v = rw div-one
 
-pub bounds-part-at-in-St-2 : goal.bounds-part-at-in-St-2
-bounds-part-at-in-St-2 c = simp length-set (omega (arith, ap store_width c.in-St.is))
-
-pub bounds-part-at-in-St-3 : goal.bounds-part-at-in-St-3
-bounds-part-at-in-St-3 c = simp length-set (omega (arith, ap store_width c.in-St.is))
-
-pub bounds-part-at-in-Stb : goal.bounds-part-at-in-Stb
-bounds-part-at-in-Stb c = omega (arith, ap store_width c.in-Stb.is)
-
-pub bounds-part-at-in-Sth : goal.bounds-part-at-in-Sth
-bounds-part-at-in-Sth c = omega (arith, ap store_width c.in-Sth.is)
-
-pub bounds-part-at-in-Sth-2 : goal.bounds-part-at-in-Sth-2
-bounds-part-at-in-Sth-2 c = simp length-set (omega (arith, ap store_width c.in-Sth.is))
+half_bytes : (v : ℕ) → to_be_bytes w16 (v % 65536) ≡ low_bytes 2 v
+half_bytes v =
+    let high : v % 65536 / 256 % 256 ≡ v / 256 % 256 = omega arith in
+    let low : v % 65536 % 256 ≡ v % 256 = omega arith in
+    rw (high, low, div-one)
 
 pub returns-in-St : goal.returns-in-St
-returns-in-St c = simp (c.in-St.is, towards_suc, div-one)
-
-pub returns-in-Stb : goal.returns-in-Stb
-returns-in-Stb c = simp (c.in-Stb.is, div-one)
+returns-in-St c =
+    let bytes = c.copy_from_slice.ensures.after ∙ c.to_be_bytes-bytes.ensures ∙ word_bytes c.args.v in
+    rw (c.in-St.is, bytes) (put_over c.args.part.now (low_bytes 4 c.args.v) c.args.at _ (omega arith) (rw c.in-St.is at c.requires))
 
 pub returns-in-Sth : goal.returns-in-Sth
-returns-in-Sth c = simp (c.in-Sth.is, towards_suc, div-one)
+returns-in-Sth c =
+    let bytes = c.copy_from_slice-in-Sth.ensures.after ∙ c.to_be_bytes-bytes-in-Sth.ensures ∙ half_bytes c.args.v in
+    rw (c.in-Sth.is, bytes) (put_over c.args.part.now (low_bytes 2 c.args.v) c.args.at _ (omega arith) (rw c.in-Sth.is at c.requires))
