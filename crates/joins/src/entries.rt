@@ -58,6 +58,7 @@ fn region_named(a: Entry, b: Entry) -> u8
 }
 
 // An entry if both fit it; otherwise unset.
+#[tactic(auto, unfolding(crate::specs::Join::if_both_fit))]
 fn if_both_fit(a: Entry, b: Entry, e: Entry) -> Entry
     ensures { result ≡ if_both_fit a b e }
 {
@@ -75,6 +76,7 @@ fn start_or_unset(a: Entry, b: Entry) -> Entry
 }
 
 // The least entry that two well formed entries fit.
+#[tactic(auto, unfolding(crate::specs::Join::join_of))]
 pub fn join(a: Entry, b: Entry) -> Entry
     ensures { result ≡ join_of a b }
 {

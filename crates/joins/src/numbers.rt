@@ -13,6 +13,7 @@ fn is_common(step: u8, a: u8, b: u8, distance: u32) -> bool
 }
 
 // The largest step that is at most two steps and divides a distance.
+#[tactic(auto, unfolding(crate::specs::Join::common_step))]
 fn common_step(a: u8, b: u8, distance: u32) -> u8
     ensures { result ≡ common_step a b distance }
 {
@@ -29,6 +30,7 @@ fn common_step(a: u8, b: u8, distance: u32) -> u8
 }
 
 // The least set that two well formed sets lie in.
+#[tactic(auto, unfolding(crate::specs::Join::join_sets))]
 pub fn join_sets(a: NumberSet, b: NumberSet) -> NumberSet
     ensures { result ≡ join_sets a b }
 {

@@ -29,6 +29,7 @@ pub fn full() -> NumberSet
 }
 
 // The set with these ends; with one member it takes step 8.
+#[tactic(auto, using(v8::proofs::Choice::tests), unfolding(crate::specs::Sets::ended))]
 pub fn ended(step: u8, lo: u32, hi: u32) -> NumberSet
     ensures { result ≡ ended step lo hi }
 {
@@ -47,6 +48,7 @@ fn is_step(step: u8) -> bool
 }
 
 // Whether a set is well formed.
+#[tactic(auto, unfolding(crate::specs::Sets::set_ok))]
 pub fn set_ok(s: NumberSet) -> bool
     ensures { result ≡ set_ok s }
 {
@@ -56,6 +58,7 @@ pub fn set_ok(s: NumberSet) -> bool
 }
 
 // Whether the set of `a` lies in that of `b`, both well formed.
+#[tactic(auto, unfolding(crate::specs::Sets::fits_set))]
 pub fn fits_set(a: NumberSet, b: NumberSet) -> bool
     ensures { result ≡ fits_set a b }
 {

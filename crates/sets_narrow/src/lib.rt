@@ -10,6 +10,7 @@ use sets::natural::{remainder, round_down};
 use sets::{NumberSet, ended, single};
 
 // The members up to `n`.
+#[tactic(auto, using(v8::proofs::Choice::tests), unfolding(crate::specs::Narrow::at_most))]
 fn at_most(a: NumberSet, n: u32) -> Option<NumberSet>
     ensures { result ≡ at_most a n }
 {
@@ -21,6 +22,7 @@ fn at_most(a: NumberSet, n: u32) -> Option<NumberSet>
 }
 
 // The members from `n` on.
+#[tactic(auto, using(v8::proofs::Choice::tests), unfolding(crate::specs::Narrow::at_least))]
 fn at_least(a: NumberSet, n: u32) -> Option<NumberSet>
     ensures { result ≡ at_least a n }
 {
@@ -32,6 +34,7 @@ fn at_least(a: NumberSet, n: u32) -> Option<NumberSet>
 }
 
 // The members below `n`.
+#[tactic(auto, using(v8::proofs::Choice::tests), unfolding(crate::specs::Narrow::less_than))]
 fn less_than(a: NumberSet, n: u32) -> Option<NumberSet>
     ensures { result ≡ less_than a n }
 {
@@ -39,6 +42,7 @@ fn less_than(a: NumberSet, n: u32) -> Option<NumberSet>
 }
 
 // The members above `n`.
+#[tactic(auto, using(v8::proofs::Choice::tests), unfolding(crate::specs::Narrow::at_least))]
 fn greater_than(a: NumberSet, n: u32) -> Option<NumberSet>
     ensures { result ≡ greater_than a n }
 {
@@ -46,6 +50,7 @@ fn greater_than(a: NumberSet, n: u32) -> Option<NumberSet>
 }
 
 // Whether `n` is one of the set.
+#[tactic(auto, unfolding(crate::specs::Narrow::is_member))]
 fn is_member(a: NumberSet, n: u32) -> bool
     ensures { result ≡ is_member a n }
 {
@@ -54,6 +59,7 @@ fn is_member(a: NumberSet, n: u32) -> bool
 }
 
 // The member `n` alone.
+#[tactic(auto, using(v8::proofs::Choice::tests), unfolding(crate::specs::Narrow::only))]
 fn only(a: NumberSet, n: u32) -> Option<NumberSet>
     ensures { result ≡ only a n }
 {
@@ -61,6 +67,7 @@ fn only(a: NumberSet, n: u32) -> Option<NumberSet>
 }
 
 // The set without `n` where `n` is an end.
+#[tactic(auto, using(v8::proofs::Choice::tests), unfolding(crate::specs::Narrow::without))]
 fn without(a: NumberSet, n: u32) -> Option<NumberSet>
     ensures { result ≡ without a n }
 {

@@ -17,6 +17,7 @@ const LOWEST: u64 = MODULUS - BIAS as u64;
 const BEYOND: u64 = MODULUS + BIAS as u64;
 
 // The set with these ends, each held 2^32 more than it is; full if one leaves signed 32 bits.
+#[tactic(auto, using(v8::proofs::Choice::tests), unfolding(crate::specs::Rules::within))]
 fn within(step: u8, lo: u64, hi: u64) -> NumberSet
     ensures { result ≡ within step lo hi }
 {
@@ -33,6 +34,7 @@ fn within(step: u8, lo: u64, hi: u64) -> NumberSet
 }
 
 // ADD.
+#[tactic(auto, unfolding(crate::specs::Rules::add_sets))]
 pub fn add_sets(a: NumberSet, b: NumberSet) -> NumberSet
     ensures { result ≡ add_sets a b }
 {
@@ -43,6 +45,7 @@ pub fn add_sets(a: NumberSet, b: NumberSet) -> NumberSet
 }
 
 // SUB.
+#[tactic(auto, unfolding(crate::specs::Rules::sub_sets))]
 pub fn sub_sets(a: NumberSet, b: NumberSet) -> NumberSet
     ensures { result ≡ sub_sets a b }
 {
@@ -53,6 +56,7 @@ pub fn sub_sets(a: NumberSet, b: NumberSet) -> NumberSet
 }
 
 // AND.
+#[tactic(auto, using(v8::proofs::Choice::tests), unfolding(crate::specs::Rules::and_sets))]
 fn and_sets(a: NumberSet, b: NumberSet) -> NumberSet
     ensures { result ≡ and_sets a b }
 {
@@ -96,6 +100,7 @@ fn shifted_step(step: u8, s: u32) -> u8
 }
 
 // SLL by `s`.
+#[tactic(auto, unfolding(crate::specs::Rules::sll_set))]
 fn sll_set(a: NumberSet, s: u32) -> NumberSet
     requires { s < 32 }
     ensures { result ≡ sll_set a s }
@@ -116,6 +121,7 @@ fn shifted_down(n: u32, s: u32) -> u32
 }
 
 // SRA by `s`.
+#[tactic(auto, unfolding(crate::specs::Rules::sra_set))]
 fn sra_set(a: NumberSet, s: u32) -> NumberSet
     requires { s < 32 }
     ensures { result ≡ sra_set a s }
@@ -124,6 +130,7 @@ fn sra_set(a: NumberSet, s: u32) -> NumberSet
 }
 
 // SRL by `s`.
+#[tactic(auto, using(v8::proofs::Choice::tests), unfolding(crate::specs::Rules::srl_set))]
 fn srl_set(a: NumberSet, s: u32) -> NumberSet
     requires { s < 32 }
     ensures { result ≡ srl_set a s }
