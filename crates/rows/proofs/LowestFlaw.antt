@@ -1,13 +1,16 @@
 -- The search for the lowest place that has a flaw: how it goes on from a place, and that it finds none just where there is none.
-use Rattle.std.specs.Prelude.{Option, Some, None}
+use Rattle.std.specs.Prelude.{Option, Some, None, MatchOption, MatchBool, length}
 use Prim.Native.Nat.{ℕ, ◌+◌, ◌≤◌, ◌<◌}
 use mathlib.Core.Path.{◌≡◌, refl, sym, ap, ◌∙◌}
 use mathlib.Core.Bool.{Bool, true, false, cond}
+use native.Mathlib.Nat.{zero-add}
 use native.Mathlib.Omega.{arith, by_contra}
 use lib.Dec.{ltb}
 use borrow.Author.Tests.{lt-ltb, le-ltb, ltb-false}
-use Rattle.v8.specs.Search.{first}
-use Rattle.v8.proofs.Search.{first_here, first_next, first_end, first_passes, first_least}
+use Rattle.std.specs.List.{AllWithin, HoldsAt, range_with_len}
+use Rattle.std.proofs.lemmas.List.FromFn.{length-range_with_len, get_or-range_with_len}
+use Rattle.v8.specs.Search.{all, first}
+use Rattle.v8.proofs.Search.{all_each, all_not, first_here, first_next, first_end, first_passes, first_least, first_is}
 use Rattle.v8.proofs.Choice.{false_true}
 use Rattle.rows.specs.Geometry.{places}
 use Rattle.rows.specs.Flaw.{flaw_from, flawless}
@@ -52,3 +55,25 @@ module _ (broken : ℕ → Bool) where
     where
       lowest : ℕ
       lowest = first broken 0 places
+
+  -- what a search through the places finds is the lowest place that has a flaw, or that there is none
+  pub flaw_found :
+      (found : Option ℕ)
+      → MatchOption found ((k : ℕ) → 0 ≤ k → k < places → broken k ≡ false)
+      (λ i. (0 ≤ i) × (i < places) × (broken i ≡ true) × ((k : ℕ) → 0 ≤ k → k < i → broken k ≡ false))
+      → found ≡ flaw_from broken 0
+  unfolding flaw_from
+  flaw_found None h = sym (no_flaw (λ k l. h k (omega arith) l))
+  flaw_found (Some i) h = rw (first_is broken 0 places i h.0 h.1 h.2 h.3, lt-ltb i places h.1)
+
+-- what a pass over the numbers below n finds is whether every one passes the test
+pub all_found :
+    (f : ℕ → Bool) (n : ℕ) (found : Bool)
+    → MatchBool found (AllWithin (λ k. f k ≡ true) (range_with_len 0 n) 0 (length (range_with_len 0 n)))
+    ((k : ℕ) × (k < length (range_with_len 0 n)) × HoldsAt (λ k. f k ≡ false) (range_with_len 0 n) k)
+    → found ≡ all f n
+all_found f n true h =
+    sym (all_each f n (λ i l. rw (get_or-range_with_len 0 n i 0 l, zero-add) at (h i 0 (omega arith) (rw (length-range_with_len 0 n) l))))
+all_found f n false h =
+    let l : h.0 < n = rw (length-range_with_len 0 n) at h.1 in
+    sym (all_not f n h.0 l (rw (get_or-range_with_len 0 n h.0 0 l, zero-add) at (h.2 0)))

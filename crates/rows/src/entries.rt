@@ -117,20 +117,15 @@ fn is_region_start(r: u8, e: Entry) -> bool
 }
 
 // The size of a region; there is none above 7.
+#[tactic(auto, using(v8::proofs::Choice::tests), unfolding(crate::specs::Entry::size_in))]
 pub fn size_in(regions: &Regions, r: u8) -> u32
     ensures { (result ≡ size_in regions.now.sizes r) × (result ≤ 65535) }
 {
     if r < 8 {
-        return wide(regions.sizes[r as usize]);
+        regions.sizes[r as usize] as u32
+    } else {
+        0
     }
-    0
-}
-
-// A size as a number of bytes.
-fn wide(size: u16) -> u32
-    ensures { (result ≡ size) × (result ≤ 65535) }
-{
-    size as u32
 }
 
 // Whether the set's fields are those of a kind that has no set.
@@ -141,59 +136,50 @@ fn is_blank(s: NumberSet) -> bool
 }
 
 // Whether an entry is well formed, where there are these regions.
+#[tactic(auto, using(v8::proofs::Choice::tests), unfolding(crate::specs::Entry::entry_ok))]
 pub fn entry_ok(regions: &Regions, e: Entry) -> bool
     ensures { result ≡ entry_ok regions.now.count regions.now.sizes e }
 {
-    let kind = e.kind;
-    if kind == NUMBER {
-        return (e.region == 0) & set_ok(e.set);
+    match e.kind {
+        NUMBER => (e.region == 0) & set_ok(e.set),
+        ADDRESS => {
+            let highest = BIAS + size_in(regions, e.region);
+            let formed = set_ok(e.set);
+            (e.region < regions.count) & formed & (BIAS <= e.set.lo) & (e.set.hi <= highest)
+        }
+        START_OR_NULL => (e.region < regions.count) & is_blank(e.set),
+        UNSET | RETURN_ADDRESS | FRAME_ADDRESS => (e.region == 0) & is_blank(e.set),
+        _ => false,
     }
-    if kind == ADDRESS {
-        let size = size_in(regions, e.region);
-        let formed = set_ok(e.set);
-        return (e.region < regions.count) & formed & (BIAS <= e.set.lo) & (e.set.hi <= BIAS + size);
-    }
-    if kind == START_OR_NULL {
-        return (e.region < regions.count) & is_blank(e.set);
-    }
-    ((kind == UNSET) | (kind == RETURN_ADDRESS) | (kind == FRAME_ADDRESS))
-        & (e.region == 0)
-        & is_blank(e.set)
 }
 
 // Whether what a register holds by entry `a` obeys entry `b`.
+#[tactic(auto, using(v8::proofs::Choice::tests), unfolding(crate::specs::Entry::fits))]
 pub fn fits(a: Entry, b: Entry) -> bool
     ensures { result ≡ fits a b }
 {
-    let held = a.kind;
-    let asked = b.kind;
-    if asked == UNSET {
-        return true;
+    match b.kind {
+        UNSET => true,
+        NUMBER => (a.kind == NUMBER) & fits_set(a.set, b.set),
+        ADDRESS => (a.kind == ADDRESS) & (a.region == b.region) & fits_set(a.set, b.set),
+        START_OR_NULL => {
+            let zero_or_start = is_zero(a) | is_region_start(b.region, a);
+            (a.kind == START_OR_NULL) & (a.region == b.region) | zero_or_start
+        }
+        RETURN_ADDRESS => a.kind == RETURN_ADDRESS,
+        FRAME_ADDRESS => a.kind == FRAME_ADDRESS,
+        _ => false,
     }
-    if asked == NUMBER {
-        return (held == NUMBER) & fits_set(a.set, b.set);
-    }
-    if asked == ADDRESS {
-        return (held == ADDRESS) & (a.region == b.region) & fits_set(a.set, b.set);
-    }
-    if asked == START_OR_NULL {
-        let zero = is_zero(a);
-        let start = is_region_start(b.region, a);
-        return (held == START_OR_NULL) & (a.region == b.region) | (zero | start);
-    }
-    (held == RETURN_ADDRESS) & (asked == RETURN_ADDRESS)
-        | (held == FRAME_ADDRESS) & (asked == FRAME_ADDRESS)
 }
 
 // What a load of a field gives.
+#[tactic(auto, using(v8::proofs::Choice::tests), unfolding(crate::specs::Entry::field_entry))]
 pub fn field_entry(f: Field) -> Entry
     ensures { result ≡ field_entry f }
 {
-    if f.element < 6 {
-        return number_in(ended(1, f.lo, f.hi));
+    match f.element {
+        0..6 => number_in(ended(1, f.lo, f.hi)),
+        6 => region_start(f.target),
+        _ => start_or_null(f.target),
     }
-    if f.element == 6 {
-        return region_start(f.target);
-    }
-    start_or_null(f.target)
 }

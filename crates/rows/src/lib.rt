@@ -35,7 +35,7 @@ pub struct Entry {
 
 // What is known of the condition codes, by its kind: 0 unset; 1 set; 2 those that SUBcc gives for the
 // register's present value and the number, which stands in excess form.
-#[derive(Clone, Copy)]
+#[derive(Clone, Copy, PartialEq, Eq)]
 pub struct Note {
     pub kind: u8,
     pub register: u8,

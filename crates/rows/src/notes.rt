@@ -37,6 +37,7 @@ pub fn comparison(register: u8, number: u32) -> Note
 }
 
 // Whether a note is well formed.
+#[tactic(auto, using(v8::proofs::Choice::tests), unfolding(crate::specs::Entry::note_ok))]
 pub fn note_ok(n: Note) -> bool
     ensures { result ≡ note_ok n }
 {
@@ -47,10 +48,11 @@ pub fn note_ok(n: Note) -> bool
 }
 
 // Whether what is known of the codes obeys another note.
+#[tactic(auto, using(v8::proofs::Choice::tests), unfolding(crate::specs::Entry::fits_note))]
 pub fn fits_note(a: Note, b: Note) -> bool
     ensures { result ≡ fits_note a b }
 {
     (b.kind == NOTE_UNSET)
-        | (b.kind == NOTE_SET) & !(a.kind == NOTE_UNSET)
-        | (a.kind == b.kind) & (a.register == b.register) & (a.number == b.number)
+        | (b.kind == NOTE_SET) & (a.kind != NOTE_UNSET)
+        | (a == b)
 }

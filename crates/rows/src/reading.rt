@@ -23,17 +23,18 @@ fn number_at(bytes: &[u8], at: usize) -> u32
 }
 
 // The entry that begins at a byte.
+#[tactic(auto, unfolding(crate::specs::Row::entry_of))]
 pub fn read_entry(bytes: &[u8], at: usize) -> Entry
     requires { EntryLies at (length bytes.now) }
     ensures { result ≡ entry_of bytes.now at }
 {
-    let kind = bytes[at];
-    let region = bytes[at + 1];
-    let step = bytes[at + 2];
     let lo = number_at(bytes, at + 4);
     let hi = number_at(bytes, at + 8);
-    let set = NumberSet { step, lo, hi };
-    Entry { kind, region, set }
+    Entry {
+        kind: bytes[at],
+        region: bytes[at + 1],
+        set: NumberSet { step: bytes[at + 2], lo, hi },
+    }
 }
 
 // Whether the entry that begins at a byte is well formed, its zero byte too.
@@ -41,9 +42,7 @@ pub fn entry_formed(regions: &Regions, bytes: &[u8], at: usize) -> bool
     requires { EntryLies at (length bytes.now) }
     ensures { result ≡ entry_formed regions.now.count regions.now.sizes bytes.now at }
 {
-    let zero = bytes[at + 3];
-    let e = read_entry(bytes, at);
-    (zero == 0) & entry_ok(regions, e)
+    (bytes[at + 3] == 0) & entry_ok(regions, read_entry(bytes, at))
 }
 
 // r14, in which alone the frame address may stand.
@@ -55,25 +54,22 @@ pub fn entry_formed_as(regions: &Regions, bytes: &[u8], at: usize, i: usize) -> 
     requires { EntryLies at (length bytes.now) }
     ensures { result ≡ entry_formed_as regions.now.count regions.now.sizes bytes.now at i }
 {
-    let zero = bytes[at + 3];
     let e = read_entry(bytes, at);
-    let formed = entry_ok(regions, e);
+    let formed = entry_formed(regions, bytes, at);
     let null = is_zero(e);
-    (zero == 0) & formed & (!(i == 0) | null) & (!(e.kind == FRAME_ADDRESS) | (i == FRAME_REGISTER))
+    formed & ((i != 0) | null) & ((e.kind != FRAME_ADDRESS) | (i == FRAME_REGISTER))
 }
 
 // The note that begins at a byte.
+#[tactic(auto, unfolding(crate::specs::Row::note_of))]
 pub fn read_note(bytes: &[u8], at: usize) -> Note
     requires { NoteLies at (length bytes.now) }
     ensures { result ≡ note_of bytes.now at }
 {
-    let kind = bytes[at];
-    let register = bytes[at + 1];
-    let number = number_at(bytes, at + 4);
     Note {
-        kind,
-        register,
-        number,
+        kind: bytes[at],
+        register: bytes[at + 1],
+        number: number_at(bytes, at + 4),
     }
 }
 
@@ -82,10 +78,7 @@ pub fn note_formed(bytes: &[u8], at: usize) -> bool
     requires { NoteLies at (length bytes.now) }
     ensures { result ≡ note_formed bytes.now at }
 {
-    let third = bytes[at + 2];
-    let fourth = bytes[at + 3];
-    let n = read_note(bytes, at);
-    (third == 0) & (fourth == 0) & note_ok(n)
+    (bytes[at + 2] == 0) & (bytes[at + 3] == 0) & note_ok(read_note(bytes, at))
 }
 
 // The row that begins at a byte.
@@ -93,13 +86,9 @@ pub fn read_row(bytes: &[u8], at: usize) -> Row
     requires { RowLies at (length bytes.now) }
     ensures { result ≡ row_of bytes.now at }
 {
-    let none = no_entry();
-    let mut entries = [none; ENTRIES];
-    let mut i = 0;
-    while i < ENTRIES {
-        let e = read_entry(bytes, at + ENTRY_BYTES * i);
-        entries[i] = e;
-        i += 1;
+    let mut entries = [no_entry(); ENTRIES];
+    for (i, entry) in entries.iter_mut().enumerate() {
+        *entry = read_entry(bytes, at + ENTRY_BYTES * i);
     }
     let note = read_note(bytes, at + NOTE_OFFSET);
     Row { entries, note }

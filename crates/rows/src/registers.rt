@@ -8,28 +8,22 @@ use crate::geometry::ENTRIES;
 use crate::{Entry, Note, Row};
 
 // Entry r; there is none after the last.
+#[tactic(auto, using(v8::proofs::Choice::tests), unfolding(crate::specs::Row::entry_at))]
 pub fn entry_at(row: Row, r: u8) -> Entry
     ensures { result ≡ entry_at row r }
 {
-    let i = r as usize;
-    if i < ENTRIES {
-        return row.entries[i];
-    }
-    no_entry()
+    row.entries.get(r as usize).copied().unwrap_or(no_entry())
 }
 
 // The row after entry r is written and the codes have a note; r0 keeps its entry.
+#[tactic(auto, using(v8::proofs::Choice::tests), unfolding(crate::specs::Row::entries_with))]
 pub fn row_with(mut row: Row, r: u8, e: Entry, n: Note) -> Row
     ensures { result ≡ row_with row r e n }
 {
     row.note = n;
-    if r == 0 {
-        return row;
-    }
     let i = r as usize;
-    if ENTRIES <= i {
-        return row;
+    if (0 < i) & (i < ENTRIES) {
+        row.entries[i] = e;
     }
-    row.entries[i] = e;
     row
 }

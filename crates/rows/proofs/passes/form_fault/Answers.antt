@@ -1,24 +1,19 @@
--- `form_fault` meets its contract. The loop's invariant: the search from the present place on gives the answer of the whole search.
-use mathlib.Core.Bool.{not}
-use mathlib.Core.Path.{refl, sym, ap, ◌∙◌}
-use native.Mathlib.Omega.{arith}
-use Rattle.rows.specs.Row.{form_fault}
-use Rattle.rows.proofs.LowestFlaw.{flaw_here, flaw_next, flaw_end}
+-- `form_fault` meets its contract: the search through the places finds the lowest badly formed one.
+use mathlib.Core.Bool.{true, false}
+use mathlib.Core.Path.{◌≡◌}
+use borrow.Author.Rules.{rules}
+use borrow.Author.Tests.{tests}
+use Rattle.std.proofs.lemmas.Iterator.{first_from_Range}
+use Rattle.rows.specs.Row.{broken_at, form_fault}
+use Rattle.rows.proofs.LowestFlaw.{flaw_found}
 use Rattle.rows.proofs.passes.form_fault.Goals as goal
 
-pub loop-place-init : goal.loop-place-init
-unfolding form_fault
-loop-place-init c = (omega arith, refl)
-
-pub returns-then-not-formed_at : goal.returns-then-not-formed_at
-returns-then-not-formed_at c =
-    let broken = ap not (sym c.formed_at.ensures ∙ c.if-not-formed_at.true) in
-    sym (c.loop-place.invariant.1 ∙ flaw_here _ _ c.loop-place-test.true broken)
-
-pub loop-place-preserved : goal.loop-place-preserved
-loop-place-preserved c =
-    let formed = ap not (sym c.formed_at.ensures ∙ c.if-not-formed_at.false) in
-    (omega arith, c.loop-place.invariant.1 ∙ flaw_next _ _ c.loop-place-test.true formed)
-
 pub returns : goal.returns
-returns c = sym (c.loop-place.invariant.1 ∙ flaw_end _ _ c.loop-place-test.false)
+unfolding form_fault
+returns c =
+    let a = c.args in
+    let broken = broken_at a.regions.now.count a.regions.now.sizes a.bytes.now a.at in
+    flaw_found broken _
+    (first_from_Range _ _ _ _ (λ i. broken i ≡ true) (λ i. broken i ≡ false) c.find.ensures.ran
+    (λ x q k. search (rules, tests))
+    (λ x q k. search (rules, tests)))
