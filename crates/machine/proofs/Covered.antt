@@ -4,6 +4,7 @@
 use Prim.Native.Nat.{ℕ, ◌+◌, ◌-◌, ◌≤◌, ◌<◌}
 use mathlib.Core.Path.{◌≡◌, refl}
 use mathlib.Core.Bool.{true, ◌&&◌, and-false}
+use Rattle.std.specs.Prelude.{Option, Some, None}
 use mathlib.Core.List.{List}
 use native.Mathlib.Nat.{le_refl, le_trans}
 use native.Mathlib.Omega.{arith}
@@ -13,8 +14,6 @@ use borrow.Author.Tests.{eqb-true, ltb-true}
 use Rattle.v8.proofs.Choice.{cond_both, and_went}
 use Rattle.v8.proofs.Search.{needed_eq}
 use Rattle.policy.specs.declared.Policy.{Policy}
-use Rattle.policy_search.specs.declared.Found.{Found}
-use Rattle.policy_search.specs.declared.Found.TheVariants as Found·
 use Rattle.policy.specs.Policy.{policy_ok}
 use Rattle.policy_search.specs.Find.{find_field}
 use Rattle.policy.specs.Laws.{WellFormed}
@@ -46,7 +45,7 @@ module _ (p : Policy) (bases : List ℕ) (returns frame : ℕ) (memory : List �
     below : {n m : ℕ} → n ≤ m → n ≤ m + frame_bytes
     below l = omega arith
 
-    at_place : (place : ℕ) → find_field p r offset (offset + access_width a) ≡ Found·.At place → Covered p.regions.sizes (length memory) (access_width a) r offset
+    at_place : (place : ℕ) → find_field p r offset (offset + access_width a) ≡ Some place → Covered p.regions.sizes (length memory) (access_width a) r offset
     at_place place e =
         let f = found_holds p r offset (offset + access_width a) place e in
         record {
@@ -55,10 +54,10 @@ module _ (p : Policy) (bases : List ℕ) (returns frame : ℕ) (memory : List �
           part = rw long (below (part_ends p.regions.sizes r p.regions.count h));
         }
 
-    found : (x : Found) → find_field p r offset (offset + access_width a) ≡ x → Lies p.regions (length memory) (access_width a) (located p.fields a r offset x)
-    found (Found·.At place) e =
+    found : (x : Option ℕ) → find_field p r offset (offset + access_width a) ≡ x → Lies p.regions (length memory) (access_width a) (located p.fields a r offset x)
+    found (Some place) e =
         cond_both (Lies p.regions (length memory) (access_width a)) (touches p.fields a place) (λ t. at_place place e) (λ t. tt)
-    found Found·.Nothing e = tt
+    found None e = tt
 
   -- LD and ST of a scratch word
   scratch : p.regions.count ≤ 8 → (a : Access) (address : ℕ) → scratch_in frame a address ≡ true → Framed p.regions.sizes p.regions.count (length memory) (access_width a) (scratch_at (address - frame))

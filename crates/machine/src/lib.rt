@@ -13,6 +13,7 @@ use v8::Edition;
 use v8::numbers::{ACCEPTED, BAD_PLACEMENT, BAD_POLICY, BAD_SHAPE, MOST_WORDS};
 
 // The number that refuses a run, or 0.
+#[tactic(auto, unfolding(crate::specs::Run::refusal_of))]
 fn refusal(
     policy: &Policy,
     words: &[u32],

@@ -11,8 +11,8 @@ returns-then-answer-ne-ACCEPTED c =
     let a = c.args in
     let r = c.check-answer.result in
     let ran : ◌≡◌ {A = Checked}
-    (record { answer = r; run = refused r.number (record { values = a.registers.values; marks = c.unset_scratch.new.marks; codes = a.registers.codes }) a.memory.now })
-    (checked_run_of a.edition a.policy a.words.now a.rows.now a.entry.now a.res.now a.bases.now a.returns a.frame a.registers a.allowance a.memory.now) =
+    (record { answer = r; run = refused r.number c.unset_scratch.new.self a.memory.now })
+    (checked_run_of a.edition a.policy.now a.words.now a.rows.now a.entry.now a.res.now a.bases.now a.returns a.frame a.registers a.allowance a.memory.now) =
     rw c.unset_scratch.ensures (refused_left _ _ _ _ _ c.check-answer.ensures c.if-answer-ne-ACCEPTED.true) in
     record { ran = ran; guaranteed = holds_to _ _ _ _ _ _ _ _ _ _ _ _ _ ran }
 

@@ -19,15 +19,15 @@ unfolding run_of
 returns-then-number-ne-ACCEPTED c =
     let a = c.args in
     let n = c.refusal-number.result in
-    let ran : refused n (record { values = a.registers.values; marks = c.unset_scratch.new.marks; codes = a.registers.codes }) a.memory.now
-    ≡ run_of a.edition a.policy a.words.now a.bases.now a.returns a.frame a.registers a.allowance a.memory.now =
+    let ran : refused n c.unset_scratch.new.self a.memory.now
+    ≡ run_of a.edition a.policy.now a.words.now a.bases.now a.returns a.frame a.registers a.allowance a.memory.now =
     rw (← c.refusal-number.ensures, c.unset_scratch.ensures) (sym (refused_run n _ _ _ c.if-number-ne-ACCEPTED.true)) in
     record { ran = ran; number = same_number ran }
 
 pub run_steps-r-requires : goal.run_steps-r-requires
 run_steps-r-requires c =
     let refusal = c.refusal-number in
-    let policy = c.args.policy in
+    let policy = c.args.policy.now in
     let passed = begun _ _ _ _ _ _ (sym refusal.ensures ∙ c.if-number-ne-ACCEPTED.false) in
     let count = based policy _ _ _ _ passed.placed in
     (passed.most, record { few = (obeys _ passed.ok).regions_most; based = omega (arith, count); covers = covers _ _ _ _ _ passed.placed passed.ok })
@@ -37,7 +37,7 @@ unfolding run_of
 returns c =
     let a = c.args in
     let r = c.run_steps-r in
-    let ran : ran_of r.result r.new.values r.new.marks r.new.memory
-    ≡ run_of a.edition a.policy a.words.now a.bases.now a.returns a.frame a.registers a.allowance a.memory.now =
+    let ran : ran_of r.result r.new.registers r.new.memory
+    ≡ run_of a.edition a.policy.now a.words.now a.bases.now a.returns a.frame a.registers a.allowance a.memory.now =
     rw (sym c.refusal-number.ensures ∙ c.if-number-ne-ACCEPTED.false, ← c.unset_scratch-2.ensures) r.ensures in
     record { ran = ran; number = same_number ran }
