@@ -29,21 +29,14 @@ pub fn field_read(bytes: &[u8], i: usize) -> Field
     ensures { result ≡ field_read bytes.now i }
 {
     let at = field_place(bytes, i);
-    let element = byte_at(bytes, at);
-    let permission = byte_at(bytes, at + 1);
-    let target = byte_at(bytes, at + 2);
-    let offset = ByteOffset(half_at(bytes, at + 4) as u32);
-    let count = half_at(bytes, at + 6);
-    let lo = excess(word_at(bytes, at + 8));
-    let hi = excess(word_at(bytes, at + 12));
     Field {
-        element,
-        permission,
-        target,
-        offset,
-        count,
-        lo,
-        hi,
+        element: byte_at(bytes, at),
+        permission: byte_at(bytes, at + 1),
+        target: byte_at(bytes, at + 2),
+        offset: ByteOffset(half_at(bytes, at + 4) as u32),
+        count: half_at(bytes, at + 6),
+        lo: excess(word_at(bytes, at + 8)),
+        hi: excess(word_at(bytes, at + 12)),
     }
 }
 
@@ -74,31 +67,25 @@ fn with_regions(bytes: &[u8]) -> Built
     ensures { result ≡ with_regions bytes.now (region_count bytes.now) }
 {
     let count = region_count(bytes);
-    let policy = Policy::empty();
     let mut built = Built {
-        policy,
+        policy: Policy::empty(),
         number: ACCEPTED,
     };
-    let mut i = 0;
-    while i < count {
+    for i in 0..count {
         built = region_to(built, region_size(bytes, i));
-        i += 1;
     }
     built
 }
 
 // What the adds of a region's fields give, after others.
-fn with_fields_of(bytes: &[u8], region: usize, before: Built) -> Built
-    requires { (region < 255) × Sound before.policy }
-    ensures { result ≡ with_fields_of bytes.now region before (field_count bytes.now region) }
+fn with_fields_of(bytes: &[u8], region: usize, mut built: Built) -> Built
+    requires { (region < 255) × Sound built.policy }
+    ensures { result ≡ with_fields_of bytes.now region built (field_count bytes.now region) }
 {
     let first = fields_before(bytes, region);
     let count = field_count(bytes, region);
-    let mut built = before;
-    let mut i = 0;
-    while i < count {
+    for i in 0..count {
         built = field_to(built, region as u8, field_read(bytes, first + i));
-        i += 1;
     }
     built
 }
@@ -109,10 +96,8 @@ pub fn built_of(bytes: &[u8]) -> Built
 {
     let count = region_count(bytes);
     let mut built = with_regions(bytes);
-    let mut r = 0;
-    while r < count {
+    for r in 0..count {
         built = with_fields_of(bytes, r, built);
-        r += 1;
     }
     built
 }

@@ -18,10 +18,8 @@ fn words_from(bytes: &[u8], at: usize, count: usize) -> [u32; MOST_GIVEN]
     ensures { result ≡ words_held bytes.now at count }
 {
     let mut words = [0u32; MOST_GIVEN];
-    let mut i = 0;
-    while i < count {
+    for i in 0..count {
         words[i] = word_at(bytes, at + WORD_BYTES * i);
-        i += 1;
     }
     words
 }
@@ -30,10 +28,9 @@ fn words_from(bytes: &[u8], at: usize, count: usize) -> [u32; MOST_GIVEN]
 fn closed(number: u8) -> Opened
     ensures { result ≡ closed number }
 {
-    let policy = Policy::empty();
     Opened {
         number,
-        policy,
+        policy: Policy::empty(),
         count: 0,
         words: [0; MOST_GIVEN],
         entry: 0,
@@ -55,12 +52,11 @@ fn opened_with(bytes: &[u8], policy: Policy) -> Opened
     let code = result + ENTRY_BYTES;
     let rows = code + WORD_BYTES * count;
     let end = rows + rows_bytes(bytes, count);
-    let words = words_from(bytes, code, count);
     Opened {
         number: ACCEPTED,
         policy,
         count,
-        words,
+        words: words_from(bytes, code, count),
         entry,
         result,
         code,

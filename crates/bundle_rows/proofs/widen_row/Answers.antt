@@ -4,8 +4,4 @@ use Rattle.bundle_rows.proofs.widen_row.Goals as goal
 
 pub returns : goal.returns
 returns c =
-    let first = c.copy_on in
-    let zeros = c.zeros_on in
-    let last = c.copy_on-2 in
-    let a = c.args in
-    row_written a.bytes.now a.to.now first.new.to zeros.new.to last.new.to a.at a.place first.ensures zeros.ensures last.ensures
+    row_written _ _ _ _ _ _ _ c.requires.0 c.requires.1 c.copy_from_slice.ensures.after (c.fill.ensures.after (λ v e. e)) c.copy_from_slice-2.ensures.after

@@ -6,14 +6,14 @@ pub returns : goal.returns
 unfolding field_read
 returns c =
     rw (
-      c.excess-hi.ensures,
+      c.excess-2.ensures,
       c.word_at-2.ensures,
-      c.excess-lo.ensures,
+      c.excess.ensures,
       c.word_at.ensures,
-      c.half_at-count.ensures.0,
+      c.half_at-2.ensures.0,
       c.half_at.ensures.0,
-      c.byte_at-target.ensures.0,
-      c.byte_at-permission.ensures.0,
-      c.byte_at-element.ensures.0,
+      c.byte_at-3.ensures.0,
+      c.byte_at-2.ensures.0,
+      c.byte_at.ensures.0,
       c.field_place-at.ensures.0,
     )

@@ -9,7 +9,7 @@ use Rattle.bundle_open.proofs.Obeying.{regions_obey}
 use Rattle.bundle_open.proofs.building.with_regions.Goals as goal
 
 pub loop-i-init : goal.loop-i-init
-loop-i-init c = (search rules, rw (regions_first, c.empty-policy.ensures))
+loop-i-init c = (search rules, rw (regions_first, c.empty.ensures))
 
 pub region_to-built-requires : goal.region_to-built-requires
 region_to-built-requires c = rw c.loop-i.invariant.1 (regions_obey _ _)

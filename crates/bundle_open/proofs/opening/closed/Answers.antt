@@ -2,4 +2,4 @@
 use Rattle.bundle_open.proofs.opening.closed.Goals as goal
 
 pub returns : goal.returns
-returns c = rw c.empty-policy.ensures
+returns c = rw c.empty.ensures
