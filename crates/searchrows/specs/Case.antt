@@ -1,10 +1,8 @@
 -- The worked cases of the field search (document 02, request 3): what is given, what comes of it, and what the definitions give for it.
-use Rattle.std.specs.Prelude.{ℕ, ◌-◌, cond, eqb}
+use Rattle.std.specs.Prelude.{ℕ, ◌-◌, cond, eqb, Option, Some, None}
 use Rattle.v8.specs.Numbers.{acceptance}
 use Rattle.policy.specs.declared.Policy.{Policy}
 use Rattle.policy_search.specs.declared.FieldSearch.{FieldSearch}
-use Rattle.policy_search.specs.declared.Found.{Found}
-use Rattle.policy_search.specs.declared.Found.TheVariants.{At, Nothing}
 use Rattle.policy.specs.Policy.{place_of}
 use Rattle.policy_search.specs.Find.{search_in, search_of}
 
@@ -12,7 +10,7 @@ use Rattle.policy_search.specs.Find.{search_in, search_of}
 pub data Given : Type 0 where
   -- a search in a policy handed in
   policy : Policy → ℕ → ℕ → ℕ → Given
-  -- a search in a policy's lists of numbers, which nothing tests
+  -- a search in a policy's fields, which nothing tests
   lists : Policy → ℕ → ℕ → ℕ → Given
 
 -- what comes of it
@@ -30,9 +28,9 @@ pub record Row : Type 0 where
   pub expected : Outcome
 
 -- what a search in region r gave
-abbrev pub gave : ℕ → Found → ℕ → Outcome
-gave r (At place) looked = finds (place - place_of r 0) looked
-gave r Nothing looked = none looked
+abbrev pub gave : ℕ → Option ℕ → ℕ → Outcome
+gave r (Some place) looked = finds (place - place_of r 0) looked
+gave r None looked = none looked
 
 abbrev pub answered : ℕ → FieldSearch → Outcome
 answered r s = cond (eqb s.number acceptance) (gave r s.found s.looked) (refusal s.number)
@@ -41,5 +39,5 @@ answered r s = cond (eqb s.number acceptance) (gave r s.found s.looked) (refusal
 abbrev pub outcome : Given → Outcome
 outcome (policy p r low end) = answered r (search_of p r low end)
 outcome (lists p r low end) =
-    let s = search_in p.regions.fields p.fields.elements p.fields.offsets p.fields.counts r low end in
+    let s = search_in p.regions.fields p.fields r low end in
     gave r s.found s.looked
