@@ -1,19 +1,26 @@
-// Bundles in records on standard input, each answered, or completed and answered, and held against an
-// expected answer.
+// Bundles in records on standard input, each answered and held against an expected answer.
 #![tactic(auto)]
 
 // One record.
 mod record;
-// All records, and what is printed of them.
-mod report;
 
-pub use report::check_bundles;
+use crate::record::{Bundle, Fault, read_bundle};
+use passes::Answer;
+use records::judging::judge_all;
+use records::reading::{BadRecord, Records};
+use v8::Edition;
 
-// What is asked of a bundle.
-#[derive(Clone, Copy)]
-pub enum Asked {
-    // The answer to it as it stands.
-    Answer,
-    // The answer to it once its missing rows are found.
-    Completion,
+// The most bundles that are read.
+const MOST_BUNDLES: usize = 100000;
+
+// Gives each bundle to a function that answers it, and prints which answers are wrong and how many. Bad
+// data ends the run, and counts as wrong.
+pub fn check_bundles<F: Fn(Edition, &mut [u8]) -> Answer + Drop>(answer: F)
+    requires { F.IsAlwaysCallable answer }
+{
+    let judge = |bundle: Result<Bundle, BadRecord>| -> Result<(), Fault>
+        requires { F.IsAlwaysCallable answer }
+    { bundle?.judge(&answer) };
+    let verdicts = Records::new(read_bundle).map(judge);
+    judge_all(MOST_BUNDLES, verdicts).print(b"bundles");
 }

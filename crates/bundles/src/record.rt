@@ -4,114 +4,113 @@
 //   2        its register
 //   3 and 4  its word
 //   5 to 8   the bundle's length
-ghost use Rattle.std.specs.Prelude.{◌<◌};
+ghost use Rattle.std.specs.Prelude.{◌≤◌};
 
-use crate::Asked;
-use output::STDIN_FILENO;
+use output::{line_of, print, print_line, print_number, print_wrong};
 use passes::Answer;
-use records::edition::{Told, edition_of};
+use records::edition::edition_of;
+use records::judging::Wrong;
+use records::reading::{BadRecord, read_bytes, read_head};
 use v8::{Edition, WordIndex};
 
 // The longest bundle that is read: one byte more than any that is well-formed.
 const ROOM: usize = 62469;
 
+// What is wrong with a bundle.
 #[derive(Clone, Copy)]
-pub struct Answers {
-    pub answered: Answer,
-    pub expected: Answer,
-}
-
-#[derive(Clone, Copy)]
-pub enum Record {
-    Held(Answers),
+pub enum Fault {
     // There is no such edition, the bundle is too long, or the record is cut short.
     Bad,
-    // There is no further record.
-    End,
+    // The answers differ.
+    Other { answered: Answer, expected: Answer },
 }
 
-#[derive(Clone, Copy)]
-enum Answered {
-    With(Answer),
-    Bad,
-}
-
-fn half_of(high: u8, low: u8) -> u32
-    ensures { result < 65536 }
-{
-    high as u32 * 256 + low as u32
-}
-
-// The edition that a header's first byte tells.
-fn told_by(byte: u8) -> Told {
-    edition_of(byte as u32)
-}
-
-// The answer that a header expects.
-fn expected_of(header: &[u8; 9]) -> Answer {
-    let word = WordIndex(half_of(header[3], header[4]));
-    Answer {
-        number: header[1],
-        word,
-        register: header[2],
+impl From<BadRecord> for Fault {
+    fn from(_bad: BadRecord) -> Fault {
+        Fault::Bad
     }
 }
 
-// The bundle's length.
-fn length_of(header: &[u8; 9]) -> usize {
-    let length = half_of(header[5], header[6]) * 65536 + half_of(header[7], header[8]);
-    length as usize
+// A bundle's answer on a line: number, word and register.
+fn print_answer(bundle: u64, what: &[u8], a: Answer) {
+    print(b"bundle ");
+    print_number(bundle);
+    print(what);
+    print_line(line_of(
+        u64::from(a.number),
+        u64::from(a.word.0),
+        u64::from(a.register),
+    ));
 }
 
-// The answer to a bundle that is whole.
-fn answer_to(asked: Asked, edition: Edition, bytes: &mut [u8]) -> Answer {
-    match asked {
-        Asked::Answer => bundle::answer(edition, bytes),
-        Asked::Completion => completion::complete(edition, bytes),
-    }
-}
-
-// Reads a bundle that fills `part` and answers it.
-fn answer_in(asked: Asked, edition: Edition, part: &mut [u8]) -> Answered {
-    let n = io::read_full(STDIN_FILENO, part);
-    if n < part.len() {
-        return Answered::Bad;
-    }
-    Answered::With(answer_to(asked, edition, part))
-}
-
-// Reads a bundle of `length` bytes and answers it.
-fn answer_next(asked: Asked, edition: Edition, length: usize) -> Answered {
-    if length > ROOM {
-        return Answered::Bad;
-    }
-    let mut room = [0u8; ROOM];
-    answer_in(asked, edition, &mut room[..length])
-}
-
-// Reads the bundle after a header and answers it.
-fn record_of(asked: Asked, edition: Edition, header: &[u8; 9]) -> Record {
-    match answer_next(asked, edition, length_of(header)) {
-        Answered::With(answered) => {
-            let expected = expected_of(header);
-            Record::Held(Answers { answered, expected })
+impl Wrong for Fault {
+    fn print(&self, bundle: u64) {
+        match self {
+            Fault::Bad => print_wrong(b"bundle", bundle, b"bad data"),
+            Fault::Other { answered, expected } => {
+                print_answer(bundle, b": answered ", *answered);
+                print_answer(bundle, b": expected ", *expected);
+            }
         }
-        Answered::Bad => Record::Bad,
     }
 }
 
-// Reads the next record and answers its bundle.
-pub fn next_record(asked: Asked) -> Record {
-    let mut header = [0u8; 9];
-    let n = io::read_full(STDIN_FILENO, &mut header);
-    if n == 0 {
-        return Record::End;
+fn same(a: Answer, b: Answer) -> bool {
+    a.number == b.number && a.word.0 == b.word.0 && a.register == b.register
+}
+
+// A bundle, with zeros after its bytes, and the answer that is expected.
+#[derive(Drop)]
+pub struct Bundle {
+    edition: Edition,
+    expected: Answer,
+    bytes: [u8; ROOM],
+    length: usize,
+    ghost fits: { length ≤ 62469 },
+}
+
+// Reads the bundle behind a header.
+fn bundle_after(header: [u8; 9]) -> Result<Bundle, BadRecord> {
+    let [edition, number, register, w1, w0, l3, l2, l1, l0] = header;
+    let edition = edition_of(u32::from(edition)).ok_or(BadRecord)?;
+    let length = u32::from_be_bytes([l3, l2, l1, l0]) as usize;
+    if length > ROOM {
+        return Err(BadRecord);
     }
-    if n < 9 {
-        return Record::Bad;
-    }
-    match told_by(header[0]) {
-        Told::As(edition) => record_of(asked, edition, &header),
-        Told::Not => Record::Bad,
+    let word = WordIndex(u32::from(u16::from_be_bytes([w1, w0])));
+    Ok(Bundle {
+        edition,
+        expected: Answer {
+            number,
+            word,
+            register,
+        },
+        bytes: read_bytes(length)?,
+        length,
+    })
+}
+
+// Reads the next bundle.
+pub fn read_bundle() -> Option<Result<Bundle, BadRecord>> {
+    let header = read_head()?;
+    Some(header.and_then(bundle_after))
+}
+
+impl Bundle {
+    // Fails where a function gives it another answer than the expected one.
+    pub fn judge<F: Fn(Edition, &mut [u8]) -> Answer>(self, answer: &F) -> Result<(), Fault>
+        requires { F.IsAlwaysCallable answer.now }
+    {
+        let Bundle {
+            edition,
+            expected,
+            mut bytes,
+            length,
+        } = self;
+        let answered = answer(edition, &mut bytes[..length]);
+        if same(answered, expected) {
+            return Ok(());
+        }
+        Err(Fault::Other { answered, expected })
     }
 }

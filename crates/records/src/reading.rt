@@ -11,36 +11,62 @@ pub type Numbers = [u32; MOST_NUMBERS];
 #[derive(Clone, Copy)]
 pub struct BadRecord;
 
-// The records of standard input, each with its numbers. After a bad one there is none.
+// The records that a function reads, one after another. After a bad one there is none.
 #[derive(Drop)]
-pub struct Records {
+pub struct Records<F> {
+    read: F,
     ended: bool,
 }
 
-// Fills a part with bytes that are read, or fails where there are fewer.
-fn fill(part: &mut [u8]) -> Result<(), BadRecord> {
-    if io::read_full(STDIN_FILENO, part) < part.len() {
-        return Err(BadRecord);
+impl<F> Records<F> {
+    pub fn new(read: F) -> Records<F> {
+        Records { read, ended: false }
     }
-    Ok(())
 }
 
-// Reads so many bytes, with zeros after them.
+impl<T, F: FnMut() -> Option<Result<T, BadRecord>> + Drop> Iterator for Records<F> {
+    type Item = Result<T, BadRecord>;
+
+    ghost can_next = { λ s. F.IsAlwaysCallable s.read };
+
+    fn next(&mut self) -> Option<Result<T, BadRecord>> {
+        if self.ended {
+            return None;
+        }
+        let record = (self.read)()?;
+        self.ended = record.is_err();
+        Some(record)
+    }
+}
+
+// Reads so many bytes, and gives them with zeros after them.
 pub fn read_bytes<const N: usize>(length: usize) -> Result<[u8; N], BadRecord>
     requires { length ≤ N }
 {
     let mut bytes = [0; N];
-    fill(&mut bytes[..length])?;
+    if io::read_full(STDIN_FILENO, &mut bytes[..length]) < length {
+        return Err(BadRecord);
+    }
     Ok(bytes)
 }
 
-// Reads so many numbers.
-fn read_numbers(count: usize) -> Result<Numbers, BadRecord> {
+// Reads the bytes that a record begins with. There are none where there is no further record.
+pub fn read_head<const N: usize>() -> Option<Result<[u8; N], BadRecord>> {
+    let mut head = [0; N];
+    match io::read_full(STDIN_FILENO, &mut head) {
+        0 => None,
+        n if n < N => Some(Err(BadRecord)),
+        _ => Some(Ok(head)),
+    }
+}
+
+// Reads the numbers of a record behind its head.
+fn numbers_after(head: [u8; 4]) -> Result<Numbers, BadRecord> {
+    let count = u32::from_be_bytes(head) as usize;
     if MOST_NUMBERS < count {
         return Err(BadRecord);
     }
-    let mut bytes = [0; 4 * MOST_NUMBERS];
-    fill(&mut bytes[..4 * count])?;
+    let bytes: [u8; 4 * MOST_NUMBERS] = read_bytes(4 * count)?;
     let mut numbers = [0; MOST_NUMBERS];
     for (number, &bytes) in numbers.iter_mut().zip(bytes.as_chunks().0) {
         *number = u32::from_be_bytes(bytes);
@@ -48,32 +74,10 @@ fn read_numbers(count: usize) -> Result<Numbers, BadRecord> {
     Ok(numbers)
 }
 
-impl Records {
-    pub fn new() -> Records {
-        Records { ended: false }
-    }
-}
-
-impl Iterator for Records {
-    type Item = Result<Numbers, BadRecord>;
-
-    fn next(&mut self) -> Option<Result<Numbers, BadRecord>> {
-        if self.ended {
-            return None;
-        }
-        let mut head = [0; 4];
-        let n = io::read_full(STDIN_FILENO, &mut head);
-        if n == 0 {
-            return None;
-        }
-        let record = if n < 4 {
-            Err(BadRecord)
-        } else {
-            read_numbers(u32::from_be_bytes(head) as usize)
-        };
-        self.ended = record.is_err();
-        Some(record)
-    }
+// Reads the numbers of the next record.
+pub fn read_numbers() -> Option<Result<Numbers, BadRecord>> {
+    let head = read_head()?;
+    Some(head.and_then(numbers_after))
 }
 
 // A count, or the most that it may be.

@@ -3,8 +3,8 @@
 // (crates/bundles/src/record.rt). Prints each bundle that is answered otherwise, then counts.
 #![tactic(auto)]
 
-use bundles::{Asked, check_bundles};
+use bundles::check_bundles;
 
 fn main() {
-    check_bundles(Asked::Completion)
+    check_bundles(completion::complete)
 }

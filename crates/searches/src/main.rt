@@ -10,14 +10,14 @@ use crate::judge::judge;
 use crate::record::searches_of;
 use output::{print, print_number};
 use records::judging::judge_all;
-use records::reading::Records;
+use records::reading::{Records, read_numbers};
 
 // The most lists that are read.
 const MOST_LISTS: usize = 100000;
 
 fn main() {
     let mut searches: u64 = 0;
-    let verdicts = Records::new().map(|record| {
+    let verdicts = Records::new(read_numbers).map(|record| {
         let numbers = record?;
         searches = searches.saturating_add(searches_of(&numbers).len() as u64);
         judge(&numbers)

@@ -8,12 +8,12 @@ mod record;
 
 use crate::judge::judge;
 use records::judging::judge_all;
-use records::reading::Records;
+use records::reading::{Records, read_numbers};
 
 // The most cases that are read.
 const MOST_CASES: usize = 100000;
 
 fn main() {
-    let verdicts = Records::new().map(|record| judge(&record?));
+    let verdicts = Records::new(read_numbers).map(|record| judge(&record?));
     judge_all(MOST_CASES, verdicts).print(b"cases");
 }
