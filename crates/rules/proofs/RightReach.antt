@@ -139,6 +139,7 @@ module _ (p : Policy) (h : Host) (wf : WellFormed p) (laid : Laid p.regions.coun
           λ t₃. reached (not-false (serves a (field_at p place).element) t₁) (not-false (on_grid s (access_width a)) t₂) (not-false (allows a (field_at p place).permission) t₃)
 
     found_good : bias ≤ s.lo → (f : Option ℕ) → find_field p r (s.lo - bias) (reach_end s (access_width a)) ≡ f → Good (in_found p.fields a rs1 s f)
+    unfolding field_at
     found_good low (Some place) e = field_good place (found_holds p r (s.lo - bias) (reach_end s (access_width a)) place e) low
     found_good low None e = tt
 
