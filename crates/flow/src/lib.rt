@@ -16,21 +16,16 @@ use v8::{Instruction, Reading, WordIndex};
 fn inside(count: usize, at: WordIndex) -> bool
     ensures { result ≡ ltb at.0 count }
 {
-    let i = at.0 as usize;
-    i < count
+    (at.0 as usize) < count
 }
 
 // Whether an edge, if there is one, ends in the code or at the caller.
 fn edge_flow(count: usize, e: Edge) -> bool
     ensures { result ≡ edge_flow count e }
 {
-    if !e.exists {
-        return true;
-    }
-    let to = e.to;
-    match to {
-        Destination::To(at) => inside(count, at),
-        Destination::Caller => true,
+    match e.to {
+        Destination::To(at) if e.exists => inside(count, at),
+        _ => true,
     }
 }
 
@@ -39,8 +34,7 @@ fn edges_flow(count: usize, at: WordIndex, x: Instruction) -> bool
     requires { at.0 < most_words }
     ensures { result ≡ edges_flow count at.0 x }
 {
-    let taken = edge_flow(count, edge_of(at, x, true));
-    taken & edge_flow(count, edge_of(at, x, false))
+    edge_flow(count, edge_of(at, x, true)) && edge_flow(count, edge_of(at, x, false))
 }
 
 // The flow of an instruction, in a slot or not, examined as an ordinary word or not: the slot of a
@@ -57,13 +51,10 @@ fn instruction_flow(
     ensures { result ≡ flow_with count in_slot ordinary at.0 (Read x) }
 {
     let slot = inside(count, WordIndex(at.0 + 1));
-    if is_transfer(x) & !(slot & !in_slot) {
+    if is_transfer(x) && !(slot && !in_slot) {
         return false;
     }
-    if !ordinary {
-        return true;
-    }
-    edges_flow(count, at, x)
+    !ordinary || edges_flow(count, at, x)
 }
 
 // The flow of a word, in a slot or not, examined as an ordinary word or not, read as x.

@@ -29,10 +29,10 @@ pub fn reading_at(readings: &[Reading; MOST_WORDS], at: usize) -> Reading
     requires { length readings.now ≡ most_words }
     ensures { result ≡ reading_at readings.now at }
 {
-    if at < MOST_WORDS {
-        return readings[at];
-    }
-    Reading::Unread(NOT_READ)
+    readings
+        .get(at)
+        .copied()
+        .unwrap_or(Reading::Unread(NOT_READ))
 }
 
 // Whether a word is read as a transfer: a branch or the return.

@@ -1,4 +1,3 @@
-use Prim.Native.Nat.{◌≤◌, ◌-◌}
 use mathlib.Core.Path.{◌≡◌}
 use lib.ListN.{length}
 use Rattle.v8.specs.Numbers.{most_words}
@@ -7,7 +6,4 @@ use Rattle.flow_code.proofs.Examined.{Marked}
 use Rattle.flow_code.proofs.outside_slots.Given as goal
 
 abbrev pub invariant-loop-i : goal.invariant-loop-i
-invariant-loop-i l = (1 ≤ l.i) × (length l.marks ≡ most_words) × Marked (code_of l.readings l.count) l.marks l.i
-
-abbrev pub decreases-loop-i : goal.decreases-loop-i
-decreases-loop-i l = l.count - l.i
+invariant-loop-i l = (length l.marks ≡ most_words) × Marked (code_of l.readings l.count) l.marks l.i

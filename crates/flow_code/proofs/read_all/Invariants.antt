@@ -1,4 +1,3 @@
-use Prim.Native.Nat.{◌≤◌, ◌-◌}
 use mathlib.Core.Path.{◌≡◌}
 use lib.ListN.{length}
 use Rattle.v8.specs.Numbers.{most_words}
@@ -6,7 +5,4 @@ use Rattle.flow_code.proofs.Filled.{Filled}
 use Rattle.flow_code.proofs.read_all.Given as goal
 
 abbrev pub invariant-loop-i : goal.invariant-loop-i
-invariant-loop-i l = (l.i ≤ length l.words) × (length l.readings ≡ most_words) × Filled l.edition l.words l.readings l.i
-
-abbrev pub decreases-loop-i : goal.decreases-loop-i
-decreases-loop-i l = length l.words - l.i
+invariant-loop-i l = (length l.readings ≡ most_words) × Filled l.edition l.words l.readings l.i
