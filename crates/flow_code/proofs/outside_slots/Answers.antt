@@ -15,8 +15,7 @@ loop-i-init c = (refl, first_marked _ (replicate 127 true))
 pub loop-i-preserved : goal.loop-i-preserved
 loop-i-preserved c =
     let l = c.loop-i in
-    let x = array_has c.args.readings.now c.args.count c.requires (l.i - 1) _ (omega arith) in
-    (
+    let x = array_has c.args.readings.now c.args.count c.requires (l.i - 1) _ (omega arith) in (
       length-set l.marks l.i _ ∙ l.invariant.0,
       one_marked _ l.marks l.i _ l.invariant.1 (omega arith) (omega arith) (c.transfers.ensures ∙ ap transfers x),
     )
