@@ -2,7 +2,6 @@ pub mod Tests
 pub mod LowestFlaw
 pub mod Named
 pub mod FormKinds
-pub mod FitKinds
 pub mod ReadRows
 pub mod RowFit
 pub mod ByKind

@@ -2,8 +2,11 @@
 use Prim.Native.Nat.{ℕ, zero, suc, ◌+◌, ◌<◌}
 use mathlib.Core.List.{List}
 use mathlib.Core.Logic.{⊎_elim}
-use mathlib.Core.Path.{◌≡◌, refl, sym, ap, ◌∙◌}
-use native.Mathlib.Nat.{not-suc-le-zero, le_of_suc-le-suc, eq-or-lt_of_le, ne_of_lt}
+use mathlib.Core.Path.{◌≡◌, refl, sym, ap, ◌∙◌, subst}
+use denote.Param.Members.{Mut}
+use Rattle.std.specs.Array.{IsFromFnResultFrom}
+use Rattle.std.specs.Fn.{Called}
+use native.Mathlib.Nat.{add-zero, not-suc-le-zero, le_of_suc-le-suc, eq-or-lt_of_le, ne_of_lt}
 use native.Mathlib.Omega.{arith}
 use borrow.Author.Tests.{lt-ltb}
 use lib.ListN.{length, get_or, set}
@@ -29,19 +32,22 @@ pub entry_read_lem : (bytes : List ℕ) (at i : ℕ) → i < entry_count → ent
 unfolding entry_at row_of
 entry_read_lem bytes at i l = rw (lt-ltb _ _ l) (entries_read bytes at entry_count i l)
 
+-- what an array is filled with by a function of the index that its calls leave as it was
+pub filled :
+    {F B : Type 0} {g : Mut F (ℕ × Unit {0}) B} (f : F) (h : ℕ → B) (ys : List B) (d : B)
+    → ((x : ℕ) (y : B) (q : F) → Called g f (x, tt) y q → (q ≡ f) × (y ≡ h x))
+    → (n i : ℕ) → IsFromFnResultFrom g f ys i n → (k : ℕ) → k < n → get_or ys (i + k) d ≡ h (i + k)
+filled f h ys d stays zero i m k l = absurd (not-suc-le-zero l)
+filled f h ys d stays (suc n) i m zero l = rw add-zero (m.2.1 d ∙ (stays i m.1 m.0 m.3).1)
+filled {F} {B} {g} f h ys d stays (suc n) i m (suc k) l =
+    let next : i + suc k ≡ i + 1 + k = omega arith in
+    let rest = subst (λ (p : F). IsFromFnResultFrom g p ys (i + 1) n) (stays i m.1 m.0 m.3).0 m.4 in
+    rw next (filled f h ys d stays n (i + 1) rest k (le_of_suc-le-suc l))
+
 module _ (bytes : List ℕ) (at : ℕ) where
   -- the first n entries of a list are those at their places
   abbrev pub ReadTo : ℕ → List Entry → Type 0
   ReadTo n es = (i : ℕ) → i < n → get_or es i no_entry ≡ entry_of bytes (entry_start at i)
-
-  -- one entry more is read
-  pub read_more :
-      (r : ℕ) (es : List Entry) (e : Entry) → r < entry_count → length es ≡ entry_count → e ≡ entry_of bytes (entry_start at r) → ReadTo r es → ReadTo (r + 1) (set es r e)
-  read_more r es e l n p h i m =
-      ⊎_elim
-      (λ (q : i ≡ r). rw q (get_or-set_same es r e no_entry (omega arith) ∙ p))
-      (λ (q : i < r). get_or-set_other es r i e no_entry (ne_of_lt q) ∙ h i q)
-      (eq-or-lt_of_le (omega arith))
 
   -- as many entries as a row has that are each the one at its place are those of the row
   pub read_all : (es : List Entry) → length es ≡ entry_count → ReadTo entry_count es → es ≡ entries_from bytes at entry_count

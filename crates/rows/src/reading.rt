@@ -5,13 +5,14 @@ ghost use Rattle.memory.specs.Memory.{word_at};
 ghost use Rattle.rows.specs.Geometry.{EntryLies, NoteLies, RowLies};
 ghost use Rattle.rows.specs.Row.{entry_of, entry_formed, entry_formed_as, note_of, note_formed, row_of};
 
-use crate::entries::{FRAME_ADDRESS, entry_ok, is_zero, no_entry};
+use crate::entries::{FRAME_ADDRESS, entry_ok, is_zero};
 use crate::geometry::{ENTRIES, ENTRY_BYTES, NOTE_OFFSET};
 use crate::notes::note_ok;
 use crate::{Entry, Note, Row};
 use memory::word_within;
 use policy::Regions;
 use sets::NumberSet;
+use std::array;
 use v8::signed::excess;
 
 // The signed number at a place, in excess form.
@@ -86,10 +87,8 @@ pub fn read_row(bytes: &[u8], at: usize) -> Row
     requires { RowLies at (length bytes.now) }
     ensures { result ≡ row_of bytes.now at }
 {
-    let mut entries = [no_entry(); ENTRIES];
-    for (i, entry) in entries.iter_mut().enumerate() {
-        *entry = read_entry(bytes, at + ENTRY_BYTES * i);
+    Row {
+        entries: array::from_fn(|i| read_entry(bytes, at + ENTRY_BYTES * i)),
+        note: read_note(bytes, at + NOTE_OFFSET),
     }
-    let note = read_note(bytes, at + NOTE_OFFSET);
-    Row { entries, note }
 }
