@@ -29,6 +29,7 @@ pub fn change_by(policy: &Policy, row: Row, x: Reading) -> Change
 }
 
 // Along an edge of a word, over its slot, read as x, where that runs.
+#[tactic(auto, unfolding(crate::specs::Passes::cross))]
 fn cross(
     policy: &Policy,
     rows: &[u8],
@@ -54,6 +55,7 @@ fn cross(
 }
 
 // An edge, narrowed by its class; not examined where no members are left.
+#[tactic(auto, unfolding(crate::specs::Passes::narrowed_edge, rules::specs::Narrow::narrow_row))]
 fn narrowed_edge(
     policy: &Policy,
     rows: &[u8],
