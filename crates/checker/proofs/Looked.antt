@@ -17,7 +17,7 @@ use Rattle.rows.specs.Entry.{fits}
 use Rattle.rows.specs.Row.{entry_at, row_with, misfit}
 use Rattle.rules.specs.declared.Change.{Change}
 use Rattle.rules.specs.declared.Change.TheVariants.{Writes, Keeps, Breaks}
-use Rattle.rules.specs.Narrow.{RowLeft, left, narrows, narrow_row}
+use Rattle.rules.specs.Narrow.{RowLeft, left, narrow_row}
 use Rattle.rules.proofs.Numbered.{Numbered, change_numbered}
 use Rattle.passes.specs.declared.Answer.{Answer}
 use Rattle.passes.specs.Answer.{accepted, passes}
@@ -56,12 +56,6 @@ module _ (p : Policy) (rows result : List ℕ) where
   edge_looked w slot e row q t narrowed n =
       subst (λ (x : RowLeft). passes (if_left (cross p rows result w slot e) x) ≡ true) n
       (subst (λ (b : Bool). passes (cond b (narrowed_edge p rows result w slot e row) accepted) ≡ true) t q)
-
-  -- an edge without a slot that narrows nothing only arrives
-  pub straight : (w : ℕ) (x : Reading) (e : Edge) (row : Row) → e.slot ≡ false → narrows e.narrowing ≡ false
-      → arrive rows result w e.to row ≡ narrowed_edge p rows result w x e row
-  unfolding narrowed_edge cross narrow_row
-  straight w x e row a b = rw (b, a)
 
 pub edges_looked : EdgesLooked
 edges_looked p rows result w x slot row e taken =

@@ -3,8 +3,8 @@ ghost use Rattle.std.specs.Prelude.{◌≡◌, ◌<◌, ◌≤◌, length};
 ghost use Rattle.v8.specs.Numbers.{most_words};
 ghost use Rattle.v8.specs.declared.Reading.TheVariants.{Read};
 ghost use Rattle.rows.specs.Geometry.{entry_bytes};
-ghost use Rattle.checker.specs.Passes.{change_by, cross, narrowed_edge, edges};
-ghost use Rattle.checker.specs.Lent.{EndIn, EdgesIn};
+ghost use Rattle.checker.specs.Passes.{change_by, cross, narrowed_edge, edge_pass, edges};
+ghost use Rattle.checker.specs.Lent.{EndIn, EdgeIn, EdgesIn};
 
 use crate::arrival::arrive;
 use flow_edges::Edge;
@@ -81,8 +81,31 @@ fn narrowed_edge(
     }
 }
 
+// An edge, if there is one. One that has no slot and narrows nothing only arrives.
+#[tactic(auto, unfolding(crate::specs::Passes::narrowed_edge, crate::specs::Passes::cross, rules::specs::Narrow::narrow_row))]
+fn edge_pass(
+    policy: &Policy,
+    rows: &[u8],
+    res: &[u8],
+    at: WordIndex,
+    x: Reading,
+    e: Edge,
+    row: Row,
+) -> Answer
+    requires { (at.0 < most_words) × (entry_bytes ≤ length res.now) × EdgeIn e (length rows.now) }
+    ensures { result ≡ edge_pass policy.now rows.now res.now at.0 x e row }
+{
+    if !e.exists {
+        return accept();
+    }
+    if !e.slot & !narrows(e.narrowing) {
+        return arrive(rows, res, at, e.to, row);
+    }
+    narrowed_edge(policy, rows, res, at, x, e, row)
+}
+
 // The edges of an instruction, from the row that it makes: the taken one, then the other. The slot is
-// read as x. An edge that has none and narrows nothing only arrives.
+// read as x.
 pub fn edges_of(
     policy: &Policy,
     rows: &[u8],
@@ -96,18 +119,10 @@ pub fn edges_of(
     ensures { result ≡ edges policy.now rows.now res.now at.0 (Read instruction) x row }
 {
     let taken = edge_of(at, instruction, true);
-    if taken.exists {
-        let first = narrowed_edge(policy, rows, res, at, x, taken, row);
-        if first.number != ACCEPTED {
-            return first;
-        }
+    let first = edge_pass(policy, rows, res, at, x, taken, row);
+    if first.number != ACCEPTED {
+        return first;
     }
     let other = edge_of(at, instruction, false);
-    if !other.exists {
-        return accept();
-    }
-    if !other.slot & !narrows(other.narrowing) {
-        return arrive(rows, res, at, other.to, row);
-    }
-    narrowed_edge(policy, rows, res, at, x, other, row)
+    edge_pass(policy, rows, res, at, x, other, row)
 }

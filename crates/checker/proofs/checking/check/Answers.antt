@@ -22,7 +22,7 @@ abbrev given1 : Else-not-well_formed → Given
 given1 c =
     record {
       edition = c.args.edition;
-      policy = c.args.policy;
+      policy = c.args.policy.now;
       words = c.args.words.now;
       rows = c.args.rows.now;
       entry = c.args.entry.now;
@@ -37,7 +37,7 @@ abbrev given2 : Else-not-shape_ok → Given
 given2 c =
     record {
       edition = c.args.edition;
-      policy = c.args.policy;
+      policy = c.args.policy.now;
       words = c.args.words.now;
       rows = c.args.rows.now;
       entry = c.args.entry.now;
@@ -73,7 +73,7 @@ pub returns-then-not-well_formed : goal.returns-then-not-well_formed
 returns-then-not-well_formed c =
     let g : Given = record {
       edition = c.args.edition;
-      policy = c.args.policy;
+      policy = c.args.policy.now;
       words = c.args.words.now;
       rows = c.args.rows.now;
       entry = c.args.entry.now;

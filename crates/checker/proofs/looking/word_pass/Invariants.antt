@@ -1,4 +1,3 @@
-use Prim.Native.Nat.{◌≤◌, ◌-◌}
 use mathlib.Core.Path.{◌≡◌}
 use Rattle.flow_code.specs.Lent.{code_of}
 use Rattle.passes.specs.Answer.{pass_of}
@@ -7,8 +6,6 @@ use Rattle.passes.proofs.Passing.{pass_from}
 use Rattle.checker.proofs.looking.word_pass.Given as goal
 
 abbrev pub invariant-loop-i : goal.invariant-loop-i
-invariant-loop-i l = (l.i ≤ l.count)
-    × (pass_of (word_pass l.policy (code_of l.readings l.count) l.rows l.res) l.count ≡ pass_from (word_pass l.policy (code_of l.readings l.count) l.rows l.res) l.i l.count)
-
-abbrev pub decreases-loop-i : goal.decreases-loop-i
-decreases-loop-i l = l.count - l.i
+invariant-loop-i l =
+    pass_of (word_pass l.policy (code_of l.readings l.count) l.rows l.res) l.count
+    ≡ pass_from (word_pass l.policy (code_of l.readings l.count) l.rows l.res) l.i l.count
