@@ -86,8 +86,8 @@ returns-then-not-shape_ok c =
     let k = (goal.at.returns-then-not-shape_ok c).Else-not-well_formed in
     c.refuse-then-not-shape_ok.ensures ∙ sym (bad-shape (given1 k) (right-policy k) (sym c.shape_ok.ensures ∙ c.if-not-shape_ok.true))
 
-pub overflow_cast-length : goal.overflow_cast-length
-overflow_cast-length c = record { fits = omega (arith, (lengths (goal.at.overflow_cast-length c).Else-not-shape_ok).most) }
+pub overflow_cast-words : goal.overflow_cast-words
+overflow_cast-words c = record { fits = omega (arith, (lengths (goal.at.overflow_cast-words c).Else-not-shape_ok).most) }
 
 pub row_pass-formed-requires : goal.row_pass-formed-requires
 row_pass-formed-requires c =
