@@ -4,7 +4,6 @@
 
 ghost use Rattle.std.specs.Prelude.{◌≡◌, ◌<◌, ltb};
 ghost use Rattle.v8.specs.Numbers.{most_words};
-ghost use Rattle.v8.specs.declared.Reading.TheVariants.{Read};
 ghost use Rattle.flow.specs.Flow.{edge_flow, edges_flow, flow_with};
 
 use flow_edges::edges::edge_of;
@@ -37,33 +36,19 @@ fn edges_flow(count: usize, at: WordIndex, x: Instruction) -> bool
     edge_flow(count, edge_of(at, x, true)) && edge_flow(count, edge_of(at, x, false))
 }
 
-// The flow of an instruction, in a slot or not, examined as an ordinary word or not: the slot of a
+// The flow of a word, in a slot or not, examined as an ordinary word or not, read as x: the slot of a
 // transfer is of the code, and it is in no slot itself; the edges of a word that is examined end where
 // they may.
-fn instruction_flow(
-    count: usize,
-    at: WordIndex,
-    in_slot: bool,
-    ordinary: bool,
-    x: Instruction,
-) -> bool
-    requires { at.0 < most_words }
-    ensures { result ≡ flow_with count in_slot ordinary at.0 (Read x) }
-{
-    let slot = inside(count, WordIndex(at.0 + 1));
-    if is_transfer(x) && !(slot && !in_slot) {
-        return false;
-    }
-    !ordinary || edges_flow(count, at, x)
-}
-
-// The flow of a word, in a slot or not, examined as an ordinary word or not, read as x.
 pub fn flows(count: usize, at: WordIndex, in_slot: bool, ordinary: bool, x: Reading) -> bool
     requires { at.0 < most_words }
     ensures { result ≡ flow_with count in_slot ordinary at.0 x }
 {
-    match x {
-        Reading::Read(instruction) => instruction_flow(count, at, in_slot, ordinary, instruction),
-        Reading::Unread(_) => true,
+    let Reading::Read(instruction) = x else {
+        return true;
+    };
+    let slot = inside(count, WordIndex(at.0 + 1));
+    if is_transfer(instruction) && (!slot || in_slot) {
+        return false;
     }
+    !ordinary || edges_flow(count, at, instruction)
 }
