@@ -73,23 +73,6 @@ one_marked readings marks i t f h l e w b = here (eqb w i) refl
     here true q = rw (eqb-true w i q, slot) (get_or-set_same marks i (not t) false h)
     here false q = get_or-set_other marks i w (not t) false (eqb-false w i q) ∙ f w (omega (arith, eqb-false w i q))
 
--- nothing is added
-pub adds_none : (marks : List Bool) (f : ℕ → Bool) → ((w : ℕ) → w < length marks → f w ≡ false) → Adds marks marks f
-adds_none marks f h = record { long = refl; each = λ w l. rw (h w l, or-false) }
-
--- one mark is added
-pub adds_one : (marks : List Bool) (i : ℕ) → i < length marks → Adds marks (set marks i true) (eqb i)
-adds_one marks i l = record { long = length-set marks i true; each = λ w b. here w (eqb w i) refl }
-  where
-    here : (w : ℕ) (u : Bool) → eqb w i ≡ u → get_or (set marks i true) w false ≡ get_or marks w false || eqb i w
-    here w true q = rw (eqb-true w i q, eq-eqb i i refl, or-true) (get_or-set_same marks i true false l)
-    here w false q =
-        rw (ne_eqb i w (λ e. eqb-false w i q (sym e)), or-false) (get_or-set_other marks i w true false (eqb-false w i q))
-
--- a test that passes where another does adds the same
-pub adds_as : (marks after : List Bool) (f g : ℕ → Bool) → Adds marks after f → ((w : ℕ) → f w ≡ g w) → Adds marks after g
-adds_as marks after f g a h = record { long = a.long; each = λ w l. a.each w l ∙ ap (λ (b : Bool). get_or marks w false || b) (h w) }
-
 -- one number more passes, or something else does
 more : (free : Bool) (f : ℕ → Bool) (i : ℕ) → (free || any f i) || f i ≡ free || any f (i + 1)
 more true f i = refl

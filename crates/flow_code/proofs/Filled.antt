@@ -30,18 +30,6 @@ unread (suc n) (suc at) = unread n at
 pub none_filled : (e : Edition) (words : List ℕ) (n : ℕ) → Filled e words (replicate n (Unread not_read)) 0
 none_filled e words n at = rw (le-ltb at 0 (omega arith)) (unread n at)
 
-pub one_filled : (e : Edition) (words : List ℕ) (readings : List Reading) (i : ℕ) (x : Reading) → Filled e words readings i → i < length readings
-    → i < length words → x ≡ reading_of e (get_or words i 0) → Filled e words (set readings i x) (i + 1)
-one_filled e words readings i x f h b r at = here (eqb at i) refl
-  where
-    same : (t : Bool) → ltb at i ≡ t → eqb at i ≡ false → reading_at readings at ≡ cond (ltb at (i + 1)) (reading_at (readings_of e words) at) (Unread not_read)
-    same true t q = rw (lt-ltb at (i + 1) (omega (arith, ltb-true at i t))) (f at ∙ rw t)
-    same false t q = rw (le-ltb at (i + 1) (omega (arith, ltb-false at i t, eqb-false at i q))) (f at ∙ rw t)
-
-    here : (t : Bool) → eqb at i ≡ t → reading_at (set readings i x) at ≡ cond (ltb at (i + 1)) (reading_at (readings_of e words) at) (Unread not_read)
-    here true q = rw (eqb-true at i q, lt-ltb i (i + 1) (omega arith)) (get_or-set_same readings i x (Unread not_read) h ∙ r ∙ sym (fetched e words i b))
-    here false q = get_or-set_other readings i at x (Unread not_read) (eqb-false at i q) ∙ same (ltb at i) refl q
-
 module _ (e : Edition) (words : List ℕ) (readings : List Reading) (i : ℕ) (long : length readings ≡ most_words) (most : length words ≤ most_words)
     (f : Filled e words readings i) (all : i ≡ length words) where
   formed : Formed readings (length words)
