@@ -39,88 +39,35 @@ pub struct Condition {
     pub narrowing: Narrowing,
 }
 
+// A row of the table.
+macro_rules! row {
+    ($rule:ident, $negated:literal, $narrowing:ident) => {
+        Condition {
+            rule: Rule::$rule,
+            negated: $negated,
+            narrowing: Narrowing::$narrowing,
+        }
+    };
+}
+
 // The conditions by Bicc's four bits.
 const CONDITIONS: [Condition; 16] = [
-    Condition {
-        rule: Rule::Never,
-        negated: false,
-        narrowing: Narrowing::Unrelated,
-    },
-    Condition {
-        rule: Rule::Equal,
-        negated: false,
-        narrowing: Narrowing::EqualTo,
-    },
-    Condition {
-        rule: Rule::LessOrEqual,
-        negated: false,
-        narrowing: Narrowing::AtMost,
-    },
-    Condition {
-        rule: Rule::Less,
-        negated: false,
-        narrowing: Narrowing::LessThan,
-    },
-    Condition {
-        rule: Rule::LowerOrSame,
-        negated: false,
-        narrowing: Narrowing::Unrelated,
-    },
-    Condition {
-        rule: Rule::Carry,
-        negated: false,
-        narrowing: Narrowing::Unrelated,
-    },
-    Condition {
-        rule: Rule::Negative,
-        negated: false,
-        narrowing: Narrowing::Unrelated,
-    },
-    Condition {
-        rule: Rule::Overflow,
-        negated: false,
-        narrowing: Narrowing::Unrelated,
-    },
-    Condition {
-        rule: Rule::Never,
-        negated: true,
-        narrowing: Narrowing::Unrelated,
-    },
-    Condition {
-        rule: Rule::Equal,
-        negated: true,
-        narrowing: Narrowing::NotEqualTo,
-    },
-    Condition {
-        rule: Rule::LessOrEqual,
-        negated: true,
-        narrowing: Narrowing::GreaterThan,
-    },
-    Condition {
-        rule: Rule::Less,
-        negated: true,
-        narrowing: Narrowing::AtLeast,
-    },
-    Condition {
-        rule: Rule::LowerOrSame,
-        negated: true,
-        narrowing: Narrowing::Unrelated,
-    },
-    Condition {
-        rule: Rule::Carry,
-        negated: true,
-        narrowing: Narrowing::Unrelated,
-    },
-    Condition {
-        rule: Rule::Negative,
-        negated: true,
-        narrowing: Narrowing::Unrelated,
-    },
-    Condition {
-        rule: Rule::Overflow,
-        negated: true,
-        narrowing: Narrowing::Unrelated,
-    },
+    row!(Never, false, Unrelated),
+    row!(Equal, false, EqualTo),
+    row!(LessOrEqual, false, AtMost),
+    row!(Less, false, LessThan),
+    row!(LowerOrSame, false, Unrelated),
+    row!(Carry, false, Unrelated),
+    row!(Negative, false, Unrelated),
+    row!(Overflow, false, Unrelated),
+    row!(Never, true, Unrelated),
+    row!(Equal, true, NotEqualTo),
+    row!(LessOrEqual, true, GreaterThan),
+    row!(Less, true, AtLeast),
+    row!(LowerOrSame, true, Unrelated),
+    row!(Carry, true, Unrelated),
+    row!(Negative, true, Unrelated),
+    row!(Overflow, true, Unrelated),
 ];
 
 // The condition that Bicc's four bits name: those of `k` modulo 16.
