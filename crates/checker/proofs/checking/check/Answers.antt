@@ -102,22 +102,12 @@ returns-then-formed-ne-ACCEPTED c =
 pub read_all-readings-requires : goal.read_all-readings-requires
 read_all-readings-requires c = (lengths (goal.at.read_all-readings-requires c).Else-not-shape_ok).most
 
-pub read_pass-read-requires : goal.read_pass-read-requires
-read_pass-read-requires c = c.read_all-readings.ensures.formed
-
 pub returns-then-read-ne-ACCEPTED : goal.returns-then-read-ne-ACCEPTED
 returns-then-read-ne-ACCEPTED c =
     let k = (goal.at.returns-then-read-ne-ACCEPTED c).Else-not-shape_ok in
     let g = given2 k in
     let l = left3 g _ c.row_pass-formed.ensures c.if-formed-ne-ACCEPTED.false (left2 k) in
     sym (l ∙ stops _ _ _ (c.read_pass-read.ensures ∙ over_read g read_pass _ c.read_all-readings.ensures.is) c.if-read-ne-ACCEPTED.true)
-
-pub examine_all-marks-requires : goal.examine_all-marks-requires
-examine_all-marks-requires c = c.read_all-readings.ensures.formed
-
-pub flow_pass-flows-requires : goal.flow_pass-flows-requires
-flow_pass-flows-requires c =
-    (c.read_all-readings.ensures.formed, c.examine_all-marks.ensures)
 
 pub returns-then-flows-ne-ACCEPTED : goal.returns-then-flows-ne-ACCEPTED
 returns-then-flows-ne-ACCEPTED c =
