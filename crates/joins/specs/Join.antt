@@ -1,12 +1,11 @@
 -- The least entry that two entries fit, and the least note: what may stand in a row that two words lead to. (Laws: both fit it,
 -- and it fits whatever both fit.)
 use Rattle.std.specs.Prelude.{ℕ, ◌-◌, ◌%◌, min, max, Bool, cond, ◌&&◌, ◌||◌, leb, eqb}
-use Rattle.v8.specs.Signed.{bias}
 use Rattle.sets.specs.declared.NumberSet.{NumberSet}
 use Rattle.sets.specs.Sets.{ended}
 use Rattle.rows.specs.declared.Entry.{Entry}
 use Rattle.rows.specs.declared.Note.{Note}
-use Rattle.rows.specs.Entry.{is_number, is_address, start_or_null, fits, codes_set, fits_note}
+use Rattle.rows.specs.Entry.{is_number, is_address, blank, start_or_null, fits, codes_set, fits_note}
 
 -- a step is at most two others and divides a distance
 abbrev pub is_common : ℕ → ℕ → ℕ → ℕ → Bool
@@ -29,13 +28,9 @@ of_one_sort a b = is_number a && is_number b || is_address a && is_address b && 
 abbrev pub with_set : Entry → NumberSet → Entry
 with_set e s = record { kind = e.kind; region = e.region; set = s }
 
--- an entry of a kind that has no set
-abbrev pub without_set : ℕ → ℕ → Entry
-without_set kind region = record { kind = kind; region = region; set = record { step = 0; lo = bias; hi = bias } }
-
 -- the unset entry, as a row has it
 abbrev pub unset : Entry
-unset = without_set 0 0
+unset = record { kind = 0; region = 0; set = blank }
 
 -- the region that the first names if it is an address, otherwise the second's
 abbrev pub region_named : Entry → Entry → ℕ

@@ -1,12 +1,10 @@
 // The least entry that two entries fit (specs/Join.antt).
 ghost use Rattle.std.specs.Prelude.{◌≡◌};
-ghost use Rattle.joins.specs.Join.{of_one_sort, with_set, without_set, unset, region_named, if_both_fit, start_or_unset, join_of};
+ghost use Rattle.joins.specs.Join.{of_one_sort, unset, region_named, if_both_fit, start_or_unset, join_of};
 
 use crate::numbers::join_sets;
 use rows::Entry;
-use rows::entries::{ADDRESS, NUMBER, START_OR_NULL, UNSET, fits};
-use sets::NumberSet;
-use v8::signed::BIAS;
+use rows::entries::{ADDRESS, BLANK, NUMBER, UNSET, fits, start_or_null};
 
 // Whether both are numbers, or addresses of one region.
 fn of_one_sort(a: Entry, b: Entry) -> bool
@@ -16,34 +14,15 @@ fn of_one_sort(a: Entry, b: Entry) -> bool
         | (a.kind == ADDRESS) & (b.kind == ADDRESS) & (a.region == b.region)
 }
 
-// The entry with another set.
-fn with_set(e: Entry, s: NumberSet) -> Entry
-    ensures { result ≡ with_set e s }
-{
-    Entry { set: s, ..e }
-}
-
-// An entry of a kind that has no set.
-fn without_set(kind: u8, region: u8) -> Entry
-    ensures { result ≡ without_set kind region }
-{
-    let blank = NumberSet {
-        step: 0,
-        lo: BIAS,
-        hi: BIAS,
-    };
-    Entry {
-        kind,
-        region,
-        set: blank,
-    }
-}
-
 // The unset entry, as a row has it.
 pub fn unset() -> Entry
     ensures { result ≡ unset }
 {
-    without_set(UNSET, 0)
+    Entry {
+        kind: UNSET,
+        region: 0,
+        set: BLANK,
+    }
 }
 
 // The region that the first names if it is an address, otherwise the second's.
@@ -72,7 +51,7 @@ fn if_both_fit(a: Entry, b: Entry, e: Entry) -> Entry
 fn start_or_unset(a: Entry, b: Entry) -> Entry
     ensures { result ≡ start_or_unset a b }
 {
-    if_both_fit(a, b, without_set(START_OR_NULL, region_named(a, b)))
+    if_both_fit(a, b, start_or_null(region_named(a, b)))
 }
 
 // The least entry that two well formed entries fit.
@@ -87,7 +66,10 @@ pub fn join(a: Entry, b: Entry) -> Entry
         return b;
     }
     if of_one_sort(a, b) {
-        return with_set(a, join_sets(a.set, b.set));
+        return Entry {
+            set: join_sets(a.set, b.set),
+            ..a
+        };
     }
     start_or_unset(a, b)
 }

@@ -12,7 +12,8 @@ fn is_common(step: u8, a: u8, b: u8, distance: u32) -> bool
     (step <= a) & (step <= b) & (distance % step as u32 == 0)
 }
 
-// The largest step that is at most two steps and divides a distance.
+// The largest step that is at most two steps and divides a distance. One test for each step, as the
+// definition has them: must-fail edits change one of them in both.
 #[tactic(auto, unfolding(crate::specs::Join::common_step))]
 fn common_step(a: u8, b: u8, distance: u32) -> u8
     ensures { result ≡ common_step a b distance }

@@ -12,10 +12,11 @@ pub const SCRATCH_WORDS: usize = 6;
 pub const SCRATCH_FIRST: u32 = 96;
 
 // Whether an offset of the frame is that of a scratch word.
+#[tactic(auto, unfolding(crate::specs::Frame::is_scratch))]
 pub fn is_scratch(offset: ByteOffset) -> bool
     ensures { result ≡ is_scratch offset.0 }
 {
-    (SCRATCH_FIRST <= offset.0) & (offset.0 < 120) & (offset.0 % 4 == 0)
+    (SCRATCH_FIRST <= offset.0) & (offset.0 < FRAME_BYTES as u32) & (offset.0 % 4 == 0)
 }
 
 // Which scratch word stands at an offset of the frame.

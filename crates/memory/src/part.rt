@@ -17,6 +17,7 @@ pub fn load_in(memory: &[u8], start: usize, size: usize, op: LoadOp, at: ByteOff
 }
 
 // Stores the low bytes of a value at an offset of the part; the rest of the memory stays.
+#[tactic(auto, using(crate::proofs::Parts::store_in_part))]
 pub fn store_in(memory: &mut [u8], start: usize, size: usize, op: StoreOp, at: ByteOffset, v: u32)
     requires { (at.0 + store_width op ≤ size) × (start + size ≤ length memory.old) }
     ensures { memory.new ≡ store_of op v (start + at.0) memory.old }

@@ -1,11 +1,14 @@
 // Entries: the kinds, an entry of each, their form, and when one fits another (specs/Entry.antt).
 ghost use Rattle.std.specs.Prelude.{◌≡◌, ◌≤◌};
-ghost use Rattle.rows.specs.Entry.{no_entry, number_in, address_in, start_or_null, constant, region_start, is_blank, is_constant, only_zero, is_zero, is_region_start, size_in, entry_ok, fits, field_entry};
+ghost use Rattle.rows.specs.Entry.{no_entry, number_in, address_in, start_or_null, constant, region_start, is_constant, only_zero, is_zero, is_region_start, size_in, entry_ok, fits, field_entry};
 
 use crate::Entry;
 use policy::{Field, Regions};
 use sets::{NumberSet, ended, fits_set, set_ok, single};
 use v8::signed::{BIAS, excess};
+
+// The kinds. They stay numbers: `read_entry` takes any byte for a kind (`entry_of`), and the form of a
+// row tells those that are none.
 
 // Nothing is known of the register.
 pub const UNSET: u8 = 0;
@@ -20,19 +23,21 @@ pub const RETURN_ADDRESS: u8 = 4;
 // The frame address.
 pub const FRAME_ADDRESS: u8 = 5;
 
+// The set of a kind that has none.
+pub const BLANK: NumberSet = NumberSet {
+    step: 0,
+    lo: BIAS,
+    hi: BIAS,
+};
+
 // The entry of a register of which nothing is known.
 pub fn no_entry() -> Entry
     ensures { result ≡ no_entry }
 {
-    let set = NumberSet {
-        step: 0,
-        lo: 0,
-        hi: 0,
-    };
     Entry {
         kind: UNSET,
         region: 0,
-        set,
+        set: NumberSet { step: 0, lo: 0, hi: 0 },
     }
 }
 
@@ -59,18 +64,13 @@ pub fn address_in(r: u8, s: NumberSet) -> Entry
 }
 
 // The address of a region's start, or null.
-fn start_or_null(r: u8) -> Entry
+pub fn start_or_null(r: u8) -> Entry
     ensures { result ≡ start_or_null r }
 {
-    let blank = NumberSet {
-        step: 0,
-        lo: BIAS,
-        hi: BIAS,
-    };
     Entry {
         kind: START_OR_NULL,
         region: r,
-        set: blank,
+        set: BLANK,
     }
 }
 
@@ -128,13 +128,6 @@ pub fn size_in(regions: &Regions, r: u8) -> u32
     }
 }
 
-// Whether the set's fields are those of a kind that has no set.
-fn is_blank(s: NumberSet) -> bool
-    ensures { result ≡ is_blank s }
-{
-    (s.step == 0) & (s.lo == BIAS) & (s.hi == BIAS)
-}
-
 // Whether an entry is well formed, where there are these regions.
 #[tactic(auto, using(v8::proofs::Choice::tests), unfolding(crate::specs::Entry::entry_ok))]
 pub fn entry_ok(regions: &Regions, e: Entry) -> bool
@@ -147,8 +140,8 @@ pub fn entry_ok(regions: &Regions, e: Entry) -> bool
             let formed = set_ok(e.set);
             (e.region < regions.count) & formed & (BIAS <= e.set.lo) & (e.set.hi <= highest)
         }
-        START_OR_NULL => (e.region < regions.count) & is_blank(e.set),
-        UNSET | RETURN_ADDRESS | FRAME_ADDRESS => (e.region == 0) & is_blank(e.set),
+        START_OR_NULL => (e.region < regions.count) & (e.set == BLANK),
+        UNSET | RETURN_ADDRESS | FRAME_ADDRESS => (e.region == 0) & (e.set == BLANK),
         _ => false,
     }
 }

@@ -6,6 +6,8 @@ ghost use Rattle.rows.specs.Entry.{codes_set, comparison, note_ok, fits_note};
 use crate::Note;
 use v8::signed::BIAS;
 
+// The kinds, numbers for the reason that those of entries are.
+
 // Nothing is known of the codes.
 pub const NOTE_UNSET: u8 = 0;
 // The codes are set.

@@ -56,7 +56,7 @@ pub fn entry_formed_as(regions: &Regions, bytes: &[u8], at: usize, i: usize) -> 
     ensures { result ≡ entry_formed_as regions.now.count regions.now.sizes bytes.now at i }
 {
     let e = read_entry(bytes, at);
-    let formed = entry_formed(regions, bytes, at);
+    let formed = (bytes[at + 3] == 0) & entry_ok(regions, e);
     let null = is_zero(e);
     formed & ((i != 0) | null) & ((e.kind != FRAME_ADDRESS) | (i == FRAME_REGISTER))
 }

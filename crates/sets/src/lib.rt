@@ -12,7 +12,7 @@ pub use form::{ended, fits_set, full, set_ok, single};
 
 // The numbers from lo to hi that lie on the steps from lo. Signed numbers stand in excess form, 2^31
 // more than the number.
-#[derive(Clone, Copy)]
+#[derive(Clone, Copy, PartialEq, Eq)]
 pub struct NumberSet {
     pub step: u8,
     pub lo: u32,

@@ -24,12 +24,10 @@ fn within(step: u8, lo: u64, hi: u64) -> NumberSet
     if (lo < LOWEST) | (hi < LOWEST) | (BEYOND <= lo) | (BEYOND <= hi) {
         return full();
     }
-    let low = (lo - LOWEST) as u32;
-    let high = (hi - LOWEST) as u32;
     NumberSet {
         step,
-        lo: low,
-        hi: high,
+        lo: (lo - LOWEST) as u32,
+        hi: (hi - LOWEST) as u32,
     }
 }
 
