@@ -1,15 +1,17 @@
 // One line of a listing, judged.
 ghost use Rattle.std.specs.Prelude.{◌≤◌, length};
 
-use crate::text::put_instruction;
-use hex_words::{Digits, word_of};
-use v8::numbers::{ACCEPTED, NOT_READ, PRIVILEGED};
-use v8::{Edition, Instruction, Reading, read_word};
-use writer::{Writing, write_instruction};
+use crate::text::is_text_of;
+use hex_words::word_of;
+use output::print_wrong;
+use records::judging::Wrong;
+use v8::numbers::{NOT_READ, PRIVILEGED};
+use v8::{Edition, Reading, read_word};
+use writer::write_instruction;
 
 // What a line shows.
 #[derive(Clone, Copy)]
-pub enum Verdict {
+pub enum Shown {
     // A word of the subset, read as the text says and written back.
     Kept,
     // The same on the newer terminal, and the older one refuses it with 2.
@@ -18,6 +20,11 @@ pub enum Verdict {
     Refused,
     // A privileged word, refused with 24 as the line says.
     Privileged,
+}
+
+// What is wrong with a line.
+#[derive(Drop)]
+pub enum Fault {
     // No word and text.
     Malformed,
     // A word of the subset that is not read.
@@ -31,154 +38,79 @@ pub enum Verdict {
     OtherNumber,
 }
 
-// Whether a text is the first `n` bytes of a buffer.
-fn same(text: &[u8], buf: &[u8; 64], n: usize) -> bool
-    requires { n ≤ 64 }
-{
-    if text.len() != n {
-        return false;
-    }
-    let mut i = 0;
-    while i < n {
-        if text[i] != buf[i] {
-            return false;
-        }
-        i += 1;
-    }
-    true
-}
-
-// Whether an instruction's text is the one given. A text that fills the buffer may be cut, and is
-// no instruction's.
-fn has_text(x: Instruction, text: &[u8]) -> bool {
-    let mut buf = [0u8; 64];
-    let n = put_instruction(&mut buf, x);
-    if n < 64 {
-        return same(text, &buf, n);
-    }
-    false
-}
-
-fn writes(edition: Edition, x: Instruction, w: u32) -> bool {
-    match write_instruction(edition, x) {
-        Writing::Written(v) => v == w,
-        Writing::Unwritable => false,
+impl Wrong for Fault {
+    fn print(&self, line: u64) {
+        let text: &[u8] = match self {
+            Fault::Malformed => b"not a word and its text",
+            Fault::NotRead => b"not read",
+            Fault::ReadOtherwise => b"read as something else",
+            Fault::NotWrittenBack => b"not written back",
+            Fault::ReadOutside => b"read, but outside the subset",
+            Fault::OtherNumber => b"refused with another number",
+        };
+        print_wrong(b"line", line, text);
     }
 }
 
 // A word that the terminal reads, with its text.
-fn judge_inside(edition: Edition, w: u32, text: &[u8]) -> Verdict {
-    match read_word(edition, w) {
-        Reading::Read(x) => {
-            if !has_text(x, text) {
-                return Verdict::ReadOtherwise;
-            }
-            if writes(edition, x, w) {
-                return Verdict::Kept;
-            }
-            Verdict::NotWrittenBack
-        }
-        Reading::Unread(_) => Verdict::NotRead,
+fn judge_inside(edition: Edition, w: u32, text: &[u8]) -> Result<Shown, Fault> {
+    let Reading::Read(x) = read_word(edition, w) else {
+        return Err(Fault::NotRead);
+    };
+    if !is_text_of(x, text) {
+        return Err(Fault::ReadOtherwise);
     }
+    if write_instruction(edition, x) != Some(w) {
+        return Err(Fault::NotWrittenBack);
+    }
+    Ok(Shown::Kept)
 }
 
 // A word that the terminal refuses, with the number.
-fn judge_outside(edition: Edition, w: u32, number: u8) -> Verdict {
+fn judge_outside(edition: Edition, w: u32, number: u8) -> Result<Shown, Fault> {
     match read_word(edition, w) {
-        Reading::Read(_) => Verdict::ReadOutside,
-        Reading::Unread(given) => {
-            if given != number {
-                return Verdict::OtherNumber;
-            }
-            if given == PRIVILEGED {
-                return Verdict::Privileged;
-            }
-            Verdict::Refused
+        Reading::Read(_) => Err(Fault::ReadOutside),
+        Reading::Unread(given) if given != number => Err(Fault::OtherNumber),
+        Reading::Unread(PRIVILEGED) => Ok(Shown::Privileged),
+        Reading::Unread(_) => Ok(Shown::Refused),
+    }
+}
+
+// The number that a text begins with where its word is outside the subset: `!2 ` or `!24 `.
+fn number_in(text: &[u8]) -> Option<u8> {
+    if text.starts_with(b"!2 ") {
+        Some(NOT_READ)
+    } else if text.starts_with(b"!24 ") {
+        Some(PRIVILEGED)
+    } else {
+        None
+    }
+}
+
+// A word on both terminals. Words that only the newer one reads are marked `V9 `.
+fn judge_word(w: u32, text: &[u8]) -> Result<Shown, Fault> {
+    if let Some(text) = text.strip_prefix(b"V9 ") {
+        judge_outside(Edition::V8, w, NOT_READ)?;
+        judge_inside(Edition::V9, w, text)?;
+        return Ok(Shown::KeptByNewer);
+    }
+    match number_in(text) {
+        Some(number) => {
+            judge_outside(Edition::V8, w, number)?;
+            judge_outside(Edition::V9, w, number)
+        }
+        None => {
+            judge_inside(Edition::V8, w, text)?;
+            judge_inside(Edition::V9, w, text)
         }
     }
 }
 
-fn is_wrong(verdict: Verdict) -> bool {
-    match verdict {
-        Verdict::Kept => false,
-        Verdict::KeptByNewer => false,
-        Verdict::Refused => false,
-        Verdict::Privileged => false,
-        _ => true,
-    }
-}
-
-// What a word shows on both terminals: what is wrong on either, or what the newer one shows.
-fn on_both(older: Verdict, newer: Verdict) -> Verdict {
-    if is_wrong(older) {
-        return older;
-    }
-    newer
-}
-
-// A word that the newer terminal reads and the older refuses.
-fn judge_newer(w: u32, text: &[u8]) -> Verdict {
-    let verdict = on_both(
-        judge_outside(Edition::V8, w, NOT_READ),
-        judge_inside(Edition::V9, w, text),
-    );
-    if is_wrong(verdict) {
-        return verdict;
-    }
-    Verdict::KeptByNewer
-}
-
-// Whether a text begins with the mark of words that only the newer terminal reads, `V9 `.
-fn is_newer(text: &[u8]) -> bool
-    requires { 4 ≤ length text.now }
-{
-    (text[0] == b'V') & (text[1] == b'9') & (text[2] == b' ')
-}
-
-// The number that a text begins with where its word is outside the subset: `!2 ` or `!24 `. 0 if none.
-fn number_in(text: &[u8]) -> u8
-    requires { 4 ≤ length text.now }
-{
-    let marked = (text[0] == b'!') & (text[1] == b'2');
-    if marked & (text[2] == b' ') {
-        return NOT_READ;
-    }
-    if marked & (text[2] == b'4') & (text[3] == b' ') {
-        return PRIVILEGED;
-    }
-    ACCEPTED
-}
-
-fn judge_word(w: u32, text: &[u8]) -> Verdict
-    requires { 4 ≤ length text.now }
-{
-    if is_newer(text) {
-        return judge_newer(w, &text[3..]);
-    }
-    let number = number_in(text);
-    if number == ACCEPTED {
-        return on_both(
-            judge_inside(Edition::V8, w, text),
-            judge_inside(Edition::V9, w, text),
-        );
-    }
-    on_both(
-        judge_outside(Edition::V8, w, number),
-        judge_outside(Edition::V9, w, number),
-    )
-}
-
 // A line has eight digits, a space and a text; the shortest text is `retl`.
-pub fn judge(line: &[u8]) -> Verdict {
-    if line.len() < 13 {
-        return Verdict::Malformed;
+pub fn judge(line: &[u8]) -> Result<Shown, Fault> {
+    if line.len() < 13 || line[8] != b' ' {
+        return Err(Fault::Malformed);
     }
-    if line[8] != b' ' {
-        return Verdict::Malformed;
-    }
-    let text = &line[9..];
-    match word_of(line) {
-        Digits::Word(w) => judge_word(w, text),
-        Digits::Wrong => Verdict::Malformed,
-    }
+    let w = word_of(line).ok_or(Fault::Malformed)?;
+    judge_word(w, &line[9..])
 }

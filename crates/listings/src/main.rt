@@ -10,12 +10,15 @@ mod line;
 mod report;
 mod text;
 
+// Room for a listing, and a byte more than it may have.
+const ROOM: usize = 65536;
+
 fn main() {
-    let mut input = io::large_buffer();
+    let mut input = [0; ROOM];
     let n = io::read_full(output::STDIN_FILENO, &mut input);
-    if n < 65536 {
+    if n < ROOM {
         report::check_lines(&input[..n]);
     } else {
-        io::write_all(output::STDOUT_FILENO, b"more than 65535 bytes\n");
+        output::print(b"more than 65535 bytes\n");
     }
 }
