@@ -2,7 +2,6 @@
 #![tactic(auto)]
 
 ghost use Rattle.std.specs.Prelude.{◌≡◌, true, false, length};
-ghost use Rattle.passes.specs.Answer.{refuse};
 ghost use Rattle.bundle_layout.specs.Layout.{narrow};
 ghost use Rattle.bundle.specs.Bundle.{bundle_answer};
 ghost use Rattle.bundle_open.specs.Open.{Holds, Inside};
@@ -12,65 +11,46 @@ use bundle_open::{Opened, open};
 use bundle_rows::{ROWS_ROOM, widen};
 use checker::check;
 use passes::Answer;
+use passes::answers::refuse;
 use rows::geometry::ROW_BYTES;
 use v8::numbers::ACCEPTED;
 use v8::{Edition, WordIndex};
 
-// A refusal that names no word and no register.
-fn refused(number: u8) -> Answer
-    ensures { result ≡ refuse number 0 0 }
-{
-    let word = WordIndex(0);
-    Answer {
-        number,
-        word,
-        register: 0,
-    }
-}
-
 // The check of what stands in a bundle of version 2, as it stands.
-fn check_wide(edition: Edition, bytes: &[u8], opened: Opened) -> Answer
-    requires { Holds bytes.now opened × Inside opened (length bytes.now) × (narrow bytes.now ≡ false) }
+fn check_wide(edition: Edition, bytes: &[u8], opened: &Opened) -> Answer
+    requires { Holds bytes.now opened.now
+        × Inside opened.now (length bytes.now)
+        × (narrow bytes.now ≡ false) }
     ensures { result ≡ bundle_answer edition bytes.now }
 {
-    let words = opened.words;
-    let count = opened.count;
-    let entry = opened.entry;
-    let result = opened.result;
-    let code = opened.code;
-    let rows = opened.rows;
-    let end = opened.end;
     check(
         edition,
-        opened.policy,
-        &words[..count],
-        &bytes[rows..end],
-        &bytes[entry..result],
-        &bytes[result..code],
+        &opened.policy,
+        &opened.words[..opened.count],
+        &bytes[opened.rows..opened.end],
+        &bytes[opened.entry..opened.result],
+        &bytes[opened.result..opened.code],
     )
 }
 
 // The check of what stands in a bundle of version 1, with its rows widened.
-fn check_narrow(edition: Edition, bytes: &[u8], opened: Opened) -> Answer
-    requires { Holds bytes.now opened × Inside opened (length bytes.now) × (narrow bytes.now ≡ true) }
+fn check_narrow(edition: Edition, bytes: &[u8], opened: &Opened) -> Answer
+    requires { Holds bytes.now opened.now
+        × Inside opened.now (length bytes.now)
+        × (narrow bytes.now ≡ true) }
     ensures { result ≡ bundle_answer edition bytes.now }
 {
-    let words = opened.words;
-    let count = opened.count;
-    let result = opened.result;
-    let code = opened.code;
     let mut entry = [0u8; ROW_BYTES];
     let mut rows = [0u8; ROWS_ROOM];
     widen(bytes, opened.entry, 1, &mut entry);
-    widen(bytes, opened.rows, count, &mut rows);
-    let end = ROW_BYTES * count;
+    widen(bytes, opened.rows, opened.count, &mut rows);
     check(
         edition,
-        opened.policy,
-        &words[..count],
-        &rows[..end],
+        &opened.policy,
+        &opened.words[..opened.count],
+        &rows[..ROW_BYTES * opened.count],
         &entry,
-        &bytes[result..code],
+        &bytes[opened.result..opened.code],
     )
 }
 
@@ -80,10 +60,10 @@ pub fn answer(edition: Edition, bytes: &[u8]) -> Answer
 {
     let opened = open(bytes);
     if opened.number != ACCEPTED {
-        return refused(opened.number);
+        return refuse(opened.number, WordIndex(0), 0);
     }
     if is_narrow(bytes) {
-        return check_narrow(edition, bytes, opened);
+        return check_narrow(edition, bytes, &opened);
     }
-    check_wide(edition, bytes, opened)
+    check_wide(edition, bytes, &opened)
 }

@@ -1,14 +1,16 @@
 -- Bytes that stay while others are written: outside a part, in rows that are there, and before all rows; and where the rows of an opened
 -- bundle stand.
-use Prim.Native.Nat.{ℕ, ◌+◌, ◌*◌, ◌<◌, ◌≤◌}
+use Prim.Native.Nat.{ℕ, ◌+◌, ◌-◌, ◌*◌, ◌<◌, ◌≤◌}
 use mathlib.Core.Path.{◌≡◌, refl, sym, ap, ◌∙◌, subst}
 use mathlib.Core.Bool.{true, false, not, true≢false}
 use mathlib.Core.List.{List}
 use native.Mathlib.Nat.{mul-le-mul_left, mul-add, mul-one, not-suc-le-zero}
 use native.Mathlib.Omega.{arith}
 use lib.Dec.{eqb}
-use lib.ListN.{set}
-use lib.Seq.{get_or-set_other}
+use borrow.Rule.Slice.PartMut.{put_mid}
+use lib.ListN.{length, get_or}
+use Rattle.std.proofs.lemmas.List.{get_or-drop, get_or-take}
+use Rattle.std.proofs.lemmas.Slice.{take-put_mid_below, drop-put_mid}
 use borrow.Author.Tests.{eq-eqb}
 use Rattle.v8.specs.Numbers.{bad_bundle}
 use Rattle.v8.proofs.Choice.{cond_both}
@@ -26,13 +28,20 @@ use Rattle.completion.specs.Kept.{SameAt, is_there, RowsKept, Kept, SameOutside,
 pub outside_self : (b : List ℕ) (place n : ℕ) → SameOutside place n b b
 outside_self b place n = record { below = λ k l. refl; above = λ k l. refl }
 
--- one byte more is written
-pub outside_set :
-    (before to : List ℕ) (place n i v : ℕ) → i < n → SameOutside place n before to → SameOutside place n before (set to (place + i) v)
-outside_set before to place n i v l s =
+-- a part is written
+pub outside_mid : (before ys : List ℕ) (place n : ℕ) → length ys ≡ n → place + n ≤ length before → SameOutside place n before (put_mid place n before ys)
+outside_mid before ys place n e l =
     record {
-      below = λ k m. get_or-set_other to (place + i) k v 0 (λ e. absurd (omega (arith, e, m))) ∙ s.below k m;
-      above = λ k m. get_or-set_other to (place + i) k v 0 (λ e. absurd (omega (arith, e, m, l))) ∙ s.above k m;
+      below = λ k m.
+          sym (get_or-take place (put_mid place n before ys) k 0 m)
+          ∙ ap (λ (t : List ℕ). get_or t k 0) (take-put_mid_below place n before ys place (omega arith) (omega (arith, l)))
+          ∙ get_or-take place before k 0 m;
+      above = λ k m.
+          let far : k ≡ place + n + (k - (place + n)) = omega (arith, m) in
+          rw far
+          (sym (get_or-drop (place + n) (put_mid place n before ys) (k - (place + n)) 0)
+          ∙ ap (λ (t : List ℕ). get_or t (k - (place + n)) 0) (drop-put_mid place n before ys (place + n) (omega arith) (omega (arith, l)) e)
+          ∙ get_or-drop (place + n) before (k - (place + n)) 0);
     }
 
 -- two parts, one after the other

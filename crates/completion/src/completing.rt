@@ -6,9 +6,9 @@ ghost use Rattle.bundle.specs.Bundle.{bundle_answer};
 ghost use Rattle.bundle_open.specs.Open.{Holds, Inside};
 ghost use Rattle.completion.specs.Kept.{RowsKept, Kept};
 
-use crate::copying::{copy_part, narrow_rows, wide_rows};
+use crate::copying::put_rows;
 use bundle::answer;
-use bundle_layout::is_narrow;
+use bundle_layout::{NARROW_ROW_BYTES, is_narrow};
 use bundle_open::{Opened, open};
 use bundle_rows::{ROWS_ROOM, widen};
 use finder::find_rows;
@@ -18,59 +18,57 @@ use v8::Edition;
 use v8::numbers::ACCEPTED;
 
 // Finds the rows of an opened bundle, in a room that begins with those that it has.
-fn find_in(edition: Edition, opened: Opened, room: &mut [u8], entry: &[u8], res: &[u8])
-    requires { (most_given ≡ length opened.words) × (opened.count ≤ most_given) × (row_bytes * opened.count ≤ length room.old) }
+fn find_in(edition: Edition, opened: &Opened, room: &mut [u8], entry: &[u8], res: &[u8])
+    requires { (opened.now.count ≤ most_given) × (row_bytes * opened.now.count ≤ length room.old) }
 {
-    let words = opened.words;
-    let count = opened.count;
-    let n = ROW_BYTES * count;
     find_rows(
         edition,
-        opened.policy,
-        &words[..count],
-        &mut room[..n],
+        &opened.policy,
+        &opened.words[..opened.count],
+        &mut room[..ROW_BYTES * opened.count],
         entry,
         res,
     );
 }
 
 // Finds the rows of a bundle of version 2.
-fn complete_wide(edition: Edition, bytes: &mut [u8], opened: Opened)
-    requires { Holds bytes.old opened × Inside opened (length bytes.old) × (narrow bytes.old ≡ false) }
-    ensures { RowsKept row_bytes opened.count opened.rows bytes.old bytes.new }
+fn complete_wide(edition: Edition, bytes: &mut [u8], opened: &Opened)
+    requires { Holds bytes.old opened.now
+        × Inside opened.now (length bytes.old)
+        × (narrow bytes.old ≡ false) }
+    ensures { RowsKept row_bytes opened.now.count opened.now.rows bytes.old bytes.new }
 {
-    let count = opened.count;
-    let entry = opened.entry;
-    let result = opened.result;
-    let code = opened.code;
-    let rows = opened.rows;
     let mut room = [0u8; ROWS_ROOM];
-    copy_part(bytes, rows, ROW_BYTES * count, &mut room, 0);
+    room[..ROW_BYTES * opened.count].copy_from_slice(&bytes[opened.rows..opened.end]);
     find_in(
         edition,
         opened,
         &mut room,
-        &bytes[entry..result],
-        &bytes[result..code],
+        &bytes[opened.entry..opened.result],
+        &bytes[opened.result..opened.code],
     );
-    wide_rows(&room, count, bytes, rows);
+    put_rows(&room, opened.count, bytes, opened.rows, ROW_BYTES);
 }
 
 // Finds the rows of a bundle of version 1: widened, and put back without scratch words.
-fn complete_narrow(edition: Edition, bytes: &mut [u8], opened: Opened)
-    requires { Holds bytes.old opened × Inside opened (length bytes.old) × (narrow bytes.old ≡ true) }
-    ensures { RowsKept narrow_row_bytes opened.count opened.rows bytes.old bytes.new }
+fn complete_narrow(edition: Edition, bytes: &mut [u8], opened: &Opened)
+    requires { Holds bytes.old opened.now
+        × Inside opened.now (length bytes.old)
+        × (narrow bytes.old ≡ true) }
+    ensures { RowsKept narrow_row_bytes opened.now.count opened.now.rows bytes.old bytes.new }
 {
-    let count = opened.count;
-    let result = opened.result;
-    let code = opened.code;
-    let rows = opened.rows;
     let mut entry = [0u8; ROW_BYTES];
     let mut room = [0u8; ROWS_ROOM];
     widen(bytes, opened.entry, 1, &mut entry);
-    widen(bytes, rows, count, &mut room);
-    find_in(edition, opened, &mut room, &entry, &bytes[result..code]);
-    narrow_rows(&room, count, bytes, rows);
+    widen(bytes, opened.rows, opened.count, &mut room);
+    find_in(
+        edition,
+        opened,
+        &mut room,
+        &entry,
+        &bytes[opened.result..opened.code],
+    );
+    put_rows(&room, opened.count, bytes, opened.rows, NARROW_ROW_BYTES);
 }
 
 // Finds the missing rows of a bundle, in place, for a terminal of the edition. The answer is that to the
@@ -84,9 +82,9 @@ pub fn complete(edition: Edition, bytes: &mut [u8]) -> Answer
         return answer(edition, bytes);
     }
     if is_narrow(bytes) {
-        complete_narrow(edition, bytes, opened);
+        complete_narrow(edition, bytes, &opened);
         return answer(edition, bytes);
     }
-    complete_wide(edition, bytes, opened);
+    complete_wide(edition, bytes, &opened);
     answer(edition, bytes)
 }

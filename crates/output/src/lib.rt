@@ -10,7 +10,6 @@ pub use line::{Line, line_of};
 
 // The descriptors of standard input and output.
 pub const STDIN_FILENO: i32 = 0;
-
 pub const STDOUT_FILENO: i32 = 1;
 
 pub fn print(text: &[u8]) {
@@ -26,9 +25,7 @@ pub fn print_number(n: u64) {
 pub fn print_line(line: Line)
     requires { IsPrefixLen line.count line.text }
 {
-    let text = line.text;
-    let count = line.count;
-    print(&text[..count]);
+    print(&line.text[..line.count]);
 }
 
 // What is wrong with one of the things counted, with its number, on a line.

@@ -2,9 +2,8 @@
 ghost use Rattle.std.specs.Prelude.{◌+◌, ◌≤◌, ◌<◌, ◌≡◌, [], ◌∷◌, ◌++◌, length, take};
 ghost use Rattle.output.specs.Line.{Adds, LineOf};
 
-const SPACE: u8 = 32;
-
-const NEWLINE: u8 = 10;
+const SPACE: u8 = b' ';
+const NEWLINE: u8 = b'\n';
 
 // A line: the first `count` bytes of the text.
 #[derive(Clone, Copy)]
@@ -31,11 +30,7 @@ fn put_number(text: &mut [u8], at: usize, n: u64) -> usize
 {
     let mut digits = [0u8; 20];
     let k = io::decimal(n, &mut digits);
-    let mut i: usize = 0;
-    while i < k {
-        text[at + i] = digits[i];
-        i += 1;
-    }
+    text[at..at + k].copy_from_slice(&digits[..k]);
     at + k
 }
 

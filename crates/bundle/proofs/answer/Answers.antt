@@ -5,7 +5,7 @@ use Rattle.bundle.proofs.Lent.{refused_is}
 use Rattle.bundle.proofs.answer.Goals as goal
 
 pub returns-then-opened-ne-ACCEPTED : goal.returns-then-opened-ne-ACCEPTED
-returns-then-opened-ne-ACCEPTED c = c.refused.ensures ∙ refused_is _ _ _ c.open-opened.ensures.opened (ne_eqb _ _ c.if-opened-ne-ACCEPTED.true)
+returns-then-opened-ne-ACCEPTED c = c.refuse.ensures ∙ refused_is _ _ _ c.open-opened.ensures.opened (ne_eqb _ _ c.if-opened-ne-ACCEPTED.true)
 
 pub check_narrow-requires : goal.check_narrow-requires
 check_narrow-requires c = let opened = c.open-opened.ensures in

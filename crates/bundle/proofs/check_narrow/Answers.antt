@@ -21,12 +21,12 @@ widen-requires-2 c = let pre = c.requires in
     (omega (arith, laid.1, places.6), omega (arith, places.1), places.1)
 
 pub slice_bounds-check-end : goal.slice_bounds-check-end
-slice_bounds-check-end c = let opened = c.args.opened in
+slice_bounds-check-end c = let opened = c.args.opened.now in
     let places = c.requires.1 in
     sym (length-take-le opened.count opened.words (omega (arith, places.0, places.1)))
 
 pub slice_bounds-check-end-2 : goal.slice_bounds-check-end-2
-slice_bounds-check-end-2 c = let opened = c.args.opened in
+slice_bounds-check-end-2 c = let opened = c.args.opened.now in
     let places = c.requires.1 in
     let written = c.widen-2 in
     sym (length-take-le (row_bytes * opened.count) written.new.room (omega (arith, places.1)))

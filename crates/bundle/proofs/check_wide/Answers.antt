@@ -6,7 +6,7 @@ use Rattle.bundle.proofs.Lent.{wide_is}
 use Rattle.bundle.proofs.check_wide.Goals as goal
 
 pub slice_bounds-check-end : goal.slice_bounds-check-end
-slice_bounds-check-end c = let opened = c.args.opened in
+slice_bounds-check-end c = let opened = c.args.opened.now in
     let places = c.requires.1 in
     sym (length-take-le opened.count opened.words (omega (arith, places.0, places.1)))
 
