@@ -69,6 +69,11 @@ fn is_named(growths: &[Growth; TABLE_ENTRIES], limits: &Limits, a: Answer) -> bo
     false
 }
 
+// Whether two answers are the same.
+fn same(a: Answer, b: Answer) -> bool {
+    (a.number == b.number) & (a.word.0 == b.word.0) & (a.register == b.register)
+}
+
 // Gives all entries that are limited the same limit.
 fn limit_all(limits: &mut Limits, n: u8) {
     for limit in limits.iter_mut() {
@@ -86,7 +91,7 @@ fn stretch(asked: &Asked, rows: &mut [u8], limits: &mut Limits, named: Answer)
     let mut kept: u8 = 0;
     for more in STRETCHES {
         limit_all(limits, kept | more);
-        if asked.try_rows(limits, rows).answer == named {
+        if same(asked.try_rows(limits, rows).answer, named) {
             kept |= more;
         }
     }
