@@ -39,9 +39,9 @@ fn is_way(a: Answer, way: Way, i: usize) -> bool {
     (a.register as usize == name_of(i)) & (a.word.0 == way.word as u32)
 }
 
-// Whether it is an entry's turn.
+// Whether it is an entry's turn, counted from 1.
 fn is_turn(growth: &Growth, turn: usize) -> bool {
-    growth.way.is_some_and(|way| way.first as usize == turn + 1)
+    growth.way.is_some_and(|way| way.first as usize == turn)
 }
 
 // The next turn, from one on, that is an entry's which is not limited, if there is one. Turn after turn, all
@@ -49,7 +49,7 @@ fn is_turn(growth: &Growth, turn: usize) -> bool {
 fn next_turn(growths: &[Growth; TABLE_ENTRIES], limits: &Limits, from: usize) -> Option<usize> {
     for k in from..TURNS * TABLE_ENTRIES {
         let i = k % TABLE_ENTRIES;
-        if is_turn(&growths[i], k / TABLE_ENTRIES) & limits[i].is_none() {
+        if is_turn(&growths[i], k / TABLE_ENTRIES + 1) & limits[i].is_none() {
             return Some(k);
         }
     }
