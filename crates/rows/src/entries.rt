@@ -37,7 +37,11 @@ pub fn no_entry() -> Entry
     Entry {
         kind: UNSET,
         region: 0,
-        set: NumberSet { step: 0, lo: 0, hi: 0 },
+        set: NumberSet {
+            step: 0,
+            lo: 0,
+            hi: 0,
+        },
     }
 }
 

@@ -54,7 +54,5 @@ pub fn note_ok(n: Note) -> bool
 pub fn fits_note(a: Note, b: Note) -> bool
     ensures { result ≡ fits_note a b }
 {
-    (b.kind == NOTE_UNSET)
-        | (b.kind == NOTE_SET) & (a.kind != NOTE_UNSET)
-        | (a == b)
+    (b.kind == NOTE_UNSET) | (b.kind == NOTE_SET) & (a.kind != NOTE_UNSET) | (a == b)
 }

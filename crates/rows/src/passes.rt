@@ -4,11 +4,11 @@ ghost use Rattle.std.specs.Prelude.{◌≡◌, ◌<◌, length};
 ghost use Rattle.rows.specs.Geometry.{places, RowLies};
 ghost use Rattle.rows.specs.Row.{row_of, formed_at, form_fault, scratch_unset, fits_at, misfit};
 
+use crate::Row;
 use crate::entries::{UNSET, fits};
 use crate::geometry::{ENTRY_BYTES, NOTE_NAME, NOTE_OFFSET, PLACES, REGISTERS, entry_named};
 use crate::notes::fits_note;
 use crate::reading::{entry_formed_as, note_formed, read_entry, read_note};
-use crate::Row;
 use memory::frame::SCRATCH_WORDS;
 use policy::Regions;
 
@@ -38,8 +38,7 @@ pub fn scratch_unset(bytes: &[u8], at: usize) -> bool
     requires { RowLies at (length bytes.now) }
     ensures { result ≡ scratch_unset bytes.now at }
 {
-    (0..SCRATCH_WORDS)
-        .all(|k| read_entry(bytes, at + ENTRY_BYTES * (REGISTERS + k)).kind == UNSET)
+    (0..SCRATCH_WORDS).all(|k| read_entry(bytes, at + ENTRY_BYTES * (REGISTERS + k)).kind == UNSET)
 }
 
 // Whether the place so named of a row fits that of the row that begins at a byte.

@@ -34,7 +34,11 @@ pub fn read_entry(bytes: &[u8], at: usize) -> Entry
     Entry {
         kind: bytes[at],
         region: bytes[at + 1],
-        set: NumberSet { step: bytes[at + 2], lo, hi },
+        set: NumberSet {
+            step: bytes[at + 2],
+            lo,
+            hi,
+        },
     }
 }
 

@@ -14,5 +14,5 @@ returns c =
     let a = c.args in
     let made = c.from_fn.ensures.items in
     let read = filled _ (λ i. entry_of a.bytes.now (entry_start a.at i)) c.from_fn.result no_entry
-        (λ x y q k. search (rules, tests)) entry_count 0 made.each in
+    (λ x y q k. search (rules, tests)) entry_count 0 made.each in
     rw (read_all a.bytes.now a.at c.from_fn.result made.long (λ i l. simp zero-add at (read i l)), c.read_note.ensures)
