@@ -9,18 +9,9 @@ pub fn width_of(a: Access) -> u32
     ensures { (result ≡ access_width a) × (1 ≤ result) × (result ≤ 4) }
 {
     match a {
-        Access::Loads(op) => match op {
-            LoadOp::Ld => 4,
-            LoadOp::Ldub => 1,
-            LoadOp::Lduh => 2,
-            LoadOp::Ldsb => 1,
-            LoadOp::Ldsh => 2,
-        },
-        Access::Stores(op) => match op {
-            StoreOp::St => 4,
-            StoreOp::Stb => 1,
-            StoreOp::Sth => 2,
-        },
+        Access::Loads(LoadOp::Ld) | Access::Stores(StoreOp::St) => 4,
+        Access::Loads(LoadOp::Lduh | LoadOp::Ldsh) | Access::Stores(StoreOp::Sth) => 2,
+        Access::Loads(LoadOp::Ldub | LoadOp::Ldsb) | Access::Stores(StoreOp::Stb) => 1,
     }
 }
 
@@ -36,18 +27,13 @@ pub fn serves_element(a: Access, e: u8) -> bool
     ensures { result ≡ serves a e }
 {
     match a {
-        Access::Loads(op) => match op {
-            LoadOp::Ld => (5 <= e) & (e <= 7),
-            LoadOp::Ldub => e == 1,
-            LoadOp::Lduh => e == 3,
-            LoadOp::Ldsb => e == 2,
-            LoadOp::Ldsh => e == 4,
-        },
-        Access::Stores(op) => match op {
-            StoreOp::St => (5 <= e) & (e <= 7),
-            StoreOp::Stb => (e == 1) | (e == 2),
-            StoreOp::Sth => (e == 3) | (e == 4),
-        },
+        Access::Loads(LoadOp::Ld) | Access::Stores(StoreOp::St) => (5 <= e) & (e <= 7),
+        Access::Loads(LoadOp::Ldub) => e == 1,
+        Access::Loads(LoadOp::Lduh) => e == 3,
+        Access::Loads(LoadOp::Ldsb) => e == 2,
+        Access::Loads(LoadOp::Ldsh) => e == 4,
+        Access::Stores(StoreOp::Stb) => (e == 1) | (e == 2),
+        Access::Stores(StoreOp::Sth) => (e == 3) | (e == 4),
     }
 }
 

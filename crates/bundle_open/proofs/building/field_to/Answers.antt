@@ -3,9 +3,6 @@ use Rattle.v8.proofs.Choice.{tests}
 use Rattle.bundle_open.specs.Build.{field_to}
 use Rattle.bundle_open.proofs.building.field_to.Goals as goal
 
-pub push_field-requires : goal.push_field-requires
-push_field-requires c = c.requires.ok
-
 pub returns-then-built-eq-ACCEPTED : goal.returns-then-built-eq-ACCEPTED
 unfolding field_to
 returns-then-built-eq-ACCEPTED c = search (tests, c.push_field.ensures)

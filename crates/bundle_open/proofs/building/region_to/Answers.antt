@@ -3,9 +3,6 @@ use Rattle.v8.proofs.Choice.{tests}
 use Rattle.bundle_open.specs.Build.{region_to}
 use Rattle.bundle_open.proofs.building.region_to.Goals as goal
 
-pub push_region-requires : goal.push_region-requires
-push_region-requires c = c.requires.ok
-
 pub returns-then-built-eq-ACCEPTED : goal.returns-then-built-eq-ACCEPTED
 unfolding region_to
 returns-then-built-eq-ACCEPTED c = search (tests, c.push_region.ensures)
