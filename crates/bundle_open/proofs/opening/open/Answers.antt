@@ -9,13 +9,17 @@ use Rattle.bundle_open.proofs.opening.open.Goals as goal
 pub returns-then-not-bundle_ok : goal.returns-then-not-bundle_ok
 unfolding opened_of
 returns-then-not-bundle_ok c =
-    record { opened = (opened_is _ _ (c.closed.ensures ∙ simp (sym c.bundle_ok.ensures ∙ c.if-not-bundle_ok.true))).0; places = (opened_is _ _ (c.closed.ensures ∙ simp (sym c.bundle_ok.ensures ∙ c.if-not-bundle_ok.true))).1 }
+    let r = opened_is c.args.bytes.now _ (c.closed.ensures ∙ simp (sym c.bundle_ok.ensures ∙ c.if-not-bundle_ok.true)) in
+    record { opened = r.0; places = r.1 }
 
 pub returns-then-built-ne-ACCEPTED : goal.returns-then-built-ne-ACCEPTED
 unfolding opened_of
 returns-then-built-ne-ACCEPTED c =
     let ok = sym c.bundle_ok.ensures ∙ c.if-not-bundle_ok.false in
-    record { opened = (opened_is _ _ (c.closed-then-built-ne-ACCEPTED.ensures ∙ rw (← c.built_of-built.ensures) (simp (ok, ne_eqb _ _ c.if-built-ne-ACCEPTED.true)))).0; places = (opened_is _ _ (c.closed-then-built-ne-ACCEPTED.ensures ∙ rw (← c.built_of-built.ensures) (simp (ok, ne_eqb _ _ c.if-built-ne-ACCEPTED.true)))).1 }
+    let r =
+      opened_is c.args.bytes.now _
+      (c.closed-then-built-ne-ACCEPTED.ensures ∙ rw (← c.built_of-built.ensures) (simp (ok, ne_eqb _ _ c.if-built-ne-ACCEPTED.true))) in
+    record { opened = r.0; places = r.1 }
 
 pub opened_with-requires : goal.opened_with-requires
 opened_with-requires c = let ok = sym c.bundle_ok.ensures ∙ c.if-not-bundle_ok.false in
@@ -25,4 +29,5 @@ pub returns : goal.returns
 unfolding opened_of
 returns c =
     let ok = sym c.bundle_ok.ensures ∙ c.if-not-bundle_ok.false in
-    record { opened = (opened_is _ _ (c.opened_with.ensures ∙ rw (← c.built_of-built.ensures) (simp (ok, c.if-built-ne-ACCEPTED.false)))).0; places = (opened_is _ _ (c.opened_with.ensures ∙ rw (← c.built_of-built.ensures) (simp (ok, c.if-built-ne-ACCEPTED.false)))).1 }
+    let r = opened_is c.args.bytes.now _ (c.opened_with.ensures ∙ rw (← c.built_of-built.ensures) (simp (ok, c.if-built-ne-ACCEPTED.false))) in
+    record { opened = r.0; places = r.1 }
