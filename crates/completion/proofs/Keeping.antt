@@ -29,20 +29,23 @@ pub outside_self : (b : List ℕ) (place n : ℕ) → SameOutside place n b b
 outside_self b place n = record { below = λ k l. refl; above = λ k l. refl }
 
 -- a part is written
-pub outside_mid : (before ys : List ℕ) (place n : ℕ) → length ys ≡ n → place + n ≤ length before → SameOutside place n before (put_mid place n before ys)
-outside_mid before ys place n e l =
-    record {
-      below = λ k m.
-          sym (get_or-take place (put_mid place n before ys) k 0 m)
-          ∙ ap (λ (t : List ℕ). get_or t k 0) (take-put_mid_below place n before ys place (omega arith) (omega (arith, l)))
-          ∙ get_or-take place before k 0 m;
-      above = λ k m.
-          let far : k ≡ place + n + (k - (place + n)) = omega (arith, m) in
-          rw far
-          (sym (get_or-drop (place + n) (put_mid place n before ys) (k - (place + n)) 0)
-          ∙ ap (λ (t : List ℕ). get_or t (k - (place + n)) 0) (drop-put_mid place n before ys (place + n) (omega arith) (omega (arith, l)) e)
-          ∙ get_or-drop (place + n) before (k - (place + n)) 0);
-    }
+pub outside_mid : (before ys : List ℕ) (place n k : ℕ) → k ≡ n → length ys ≡ n → place + n ≤ length before → SameOutside place n before (put_mid place k before ys)
+outside_mid before ys place n k e g l = rw e (record { below = below; above = above })
+  where
+    below : (j : ℕ) → j < place → SameAt before (put_mid place n before ys) j
+    below j m =
+        sym (get_or-take place (put_mid place n before ys) j 0 m)
+        ∙ ap (λ (t : List ℕ). get_or t j 0) (take-put_mid_below place n before ys place (omega arith) (omega (arith, l)))
+        ∙ get_or-take place before j 0 m
+
+    after : (i : ℕ) → SameAt before (put_mid place n before ys) (place + n + i)
+    after i =
+        sym (get_or-drop (place + n) (put_mid place n before ys) i 0)
+        ∙ ap (λ (t : List ℕ). get_or t i 0) (drop-put_mid place n before ys (place + n) (omega arith) (omega (arith, l)) g)
+        ∙ get_or-drop (place + n) before i 0
+
+    above : (j : ℕ) → place + n ≤ j → SameAt before (put_mid place n before ys) j
+    above j m = subst (SameAt before (put_mid place n before ys)) (omega (arith, m)) (after (j - (place + n)))
 
 -- two parts, one after the other
 pub outside_on :

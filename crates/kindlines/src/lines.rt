@@ -22,20 +22,13 @@ fn show_word(w: usize, word: u32, table: &[u8; TABLE_MARKS])
 
 // The lines of the words; a routine that is listed has no more than a table has room for.
 fn show_words(words: &[u32], table: &[u8; TABLE_MARKS]) {
-    let mut w: usize = 0;
-    while w < words.len() {
-        if MOST_WORDS <= w {
-            return;
-        }
-        show_word(w, words[w], table);
-        w += 1;
+    for (w, &word) in words.iter().take(MOST_WORDS).enumerate() {
+        show_word(w, word, table);
     }
 }
 
 // The lines of a bundle that is listed in a table.
 pub fn show_listing(bytes: &[u8], table: &[u8; TABLE_MARKS]) {
     let opened = open(bytes);
-    let words = opened.words;
-    let count = opened.count;
-    show_words(&words[..count], table);
+    show_words(&opened.words[..opened.count], table);
 }

@@ -15,35 +15,39 @@ use v8::numbers::ACCEPTED;
 use v8::{Edition, WordIndex};
 
 // Lists a bundle of version 2, with its entry row as it stands.
-fn list_wide(edition: Edition, bytes: &[u8], opened: Opened, table: &mut [u8]) -> Answer
-    requires { Holds bytes.now opened × Inside opened (length bytes.now) × (narrow bytes.now ≡ false) }
+fn list_wide(edition: Edition, bytes: &[u8], opened: &Opened, table: &mut [u8]) -> Answer
+    requires { Holds bytes.now opened.now
+        × Inside opened.now (length bytes.now)
+        × (narrow bytes.now ≡ false) }
     ensures { record { answer = result; table = table.new }
         ≡ bundle_listed edition bytes.now table.old }
 {
-    let words = opened.words;
-    let count = opened.count;
-    let entry = opened.entry;
-    let result = opened.result;
     list_kinds(
         edition,
-        opened.policy,
-        &words[..count],
-        &bytes[entry..result],
+        &opened.policy,
+        &opened.words[..opened.count],
+        &bytes[opened.entry..opened.result],
         table,
     )
 }
 
 // Lists a bundle of version 1, with its entry row widened.
-fn list_narrow(edition: Edition, bytes: &[u8], opened: Opened, table: &mut [u8]) -> Answer
-    requires { Holds bytes.now opened × Inside opened (length bytes.now) × (narrow bytes.now ≡ true) }
+fn list_narrow(edition: Edition, bytes: &[u8], opened: &Opened, table: &mut [u8]) -> Answer
+    requires { Holds bytes.now opened.now
+        × Inside opened.now (length bytes.now)
+        × (narrow bytes.now ≡ true) }
     ensures { record { answer = result; table = table.new }
         ≡ bundle_listed edition bytes.now table.old }
 {
-    let words = opened.words;
-    let count = opened.count;
     let mut row = [0u8; ROW_BYTES];
     widen(bytes, opened.entry, 1, &mut row);
-    list_kinds(edition, opened.policy, &words[..count], &row, table)
+    list_kinds(
+        edition,
+        &opened.policy,
+        &opened.words[..opened.count],
+        &row,
+        table,
+    )
 }
 
 // Lists the kinds of a bundle's routine, for a terminal of the edition, in a lent table. Any bytes have
@@ -57,7 +61,7 @@ pub fn list_bundle(edition: Edition, bytes: &[u8], table: &mut [u8]) -> Answer
         return refuse(opened.number, WordIndex(0), 0);
     }
     if is_narrow(bytes) {
-        return list_narrow(edition, bytes, opened, table);
+        return list_narrow(edition, bytes, &opened, table);
     }
-    list_wide(edition, bytes, opened, table)
+    list_wide(edition, bytes, &opened, table)
 }

@@ -12,20 +12,18 @@ pub const TEXT_LENGTH: usize = 35;
 const SPACE: u8 = b' ';
 
 // Not reached, number, address, address or null, return, unset.
-const LETTERS: [u8; 6] = [b'.', b'n', b'a', b'z', b'r', b'-'];
+const LETTERS: [u8; 6] = *b".nazr-";
 
 // The letter of a mark.
+#[tactic(auto, using(v8::proofs::Choice::tests), unfolding(crate::specs::Text::letter_of))]
 fn letter_of(mark: u8) -> u8
     ensures { result ≡ letter_of mark }
 {
-    let at = mark as usize;
-    if at < 6 {
-        return LETTERS[at];
-    }
-    b'?'
+    LETTERS.get(mark as usize).copied().unwrap_or(b'?')
 }
 
 // What stands at place k of the text: a letter, or a space after eight of them.
+#[tactic(auto, using(v8::proofs::Choice::tests), unfolding(crate::specs::Text::text_at))]
 fn text_at(table: &[u8; TABLE_MARKS], w: usize, k: usize) -> u8
     requires { (w < most_words) × (k < text_length) }
     ensures { result ≡ text_at table.now w k }
@@ -42,10 +40,8 @@ pub fn marks_text(table: &[u8; TABLE_MARKS], w: usize) -> [u8; TEXT_LENGTH]
     ensures { result ≡ marks_text table.now w }
 {
     let mut text = [SPACE; TEXT_LENGTH];
-    let mut k: usize = 0;
-    while k < TEXT_LENGTH {
+    for k in 0..TEXT_LENGTH {
         text[k] = text_at(table, w, k);
-        k += 1;
     }
     text
 }

@@ -1,8 +1,7 @@
 -- `put_rows` meets its contract. Invariant: i rows are put.
-use Prim.Native.Nat.{◌*◌}
-use mathlib.Core.Path.{refl, ◌∙◌}
+use mathlib.Core.Path.{refl}
 use native.Mathlib.Omega.{arith}
-use native.Mathlib.Nat.{mul-le-mul_left, mul-add, mul-one, le_antisymm}
+use native.Mathlib.Nat.{mul-le-mul_left, mul-le-mul_right, mul-add, mul-one}
 use borrow.Author.Rules.{rules}
 use Rattle.completion.proofs.Keeping.{none_put, more_put, all_put}
 use Rattle.completion.proofs.copying.put_rows.Goals as goal
@@ -11,10 +10,16 @@ pub loop-i-init : goal.loop-i-init
 loop-i-init c = (refl, none_put c.args.size _ _)
 
 pub put_row-requires : goal.put_row-requires
-put_row-requires c = ?
-
-pub overflow_mul-put_row : goal.overflow_mul-put_row
-overflow_mul-put_row c = ?
+put_row-requires c =
+    let i = c.loop-i.i in
+    let more = mul-le-mul_left c.args.size (c.loop-i-test.true) in
+    let one = mul-add c.args.size i 1 in
+    let unit = mul-one c.args.size in (
+      omega (arith, c.told-rows, c.requires.0, c.loop-i-test.true),
+      omega (arith, more, one, unit, c.requires.1, c.loop-i.invariant.0),
+      c.requires.2,
+      c.requires.3,
+    )
 
 pub loop-i-preserved : goal.loop-i-preserved
 loop-i-preserved c =
@@ -23,4 +28,4 @@ loop-i-preserved c =
 
 pub returns : goal.returns
 returns c = let l = c.loop-i in
-    all_put c.args.size _ l.i _ _ _ ? l.invariant.1
+    all_put c.args.size _ l.i _ _ _ (omega (arith, c.loop-i-test.false, l.auto.i-end)) l.invariant.1

@@ -14,7 +14,7 @@ widen-requires c = let pre = c.requires in
     (omega (arith, laid.0, places.3, places.4, places.5, places.6), omega arith, omega arith)
 
 pub slice_bounds-list_kinds-end : goal.slice_bounds-list_kinds-end
-slice_bounds-list_kinds-end c = let opened = c.args.opened in
+slice_bounds-list_kinds-end c = let opened = c.args.opened.now in
     let places = c.requires.1 in
     sym (length-take-le opened.count opened.words (omega (arith, places.0, places.1)))
 

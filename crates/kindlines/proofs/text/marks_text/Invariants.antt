@@ -1,4 +1,4 @@
-use Prim.Native.Nat.{◌-◌, ◌≤◌}
+use Prim.Native.Nat.{◌≤◌}
 use mathlib.Core.Path.{◌≡◌}
 use lib.ListN.{length}
 use Rattle.marks.proofs.Values.{HasTo}
@@ -7,6 +7,3 @@ use Rattle.kindlines.proofs.text.marks_text.Given as goal
 
 abbrev pub invariant-loop-k : goal.invariant-loop-k
 invariant-loop-k l = (l.k ≤ text_length) × (text_length ≡ length l.text) × HasTo (text_at l.table l.w) l.k l.text
-
-abbrev pub decreases-loop-k : goal.decreases-loop-k
-decreases-loop-k l = text_length - l.k
