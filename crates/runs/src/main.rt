@@ -5,9 +5,16 @@
 
 mod judge;
 mod record;
-mod report;
 mod start;
 
+use crate::judge::judge;
+use records::judging::judge_all;
+use records::reading::Records;
+
+// The most runs that are read.
+const MOST_RUNS: usize = 100000;
+
 fn main() {
-    report::check_runs();
+    let verdicts = Records::new().map(|record| judge(&record?));
+    judge_all(MOST_RUNS, verdicts).print(b"runs");
 }

@@ -15,8 +15,7 @@
 // offset and count, 16 bits each; lo; hi. The bytes are memory before, and memory after if it is changed.
 ghost use Rattle.std.specs.Prelude.{◌≤◌};
 
-use records::MOST_NUMBERS;
-use records::reading::{count_of, fill};
+use records::reading::{BadRecord, Numbers, count_of, read_bytes};
 
 pub const EDITION: usize = 0;
 
@@ -63,45 +62,37 @@ const MOST_FIELDS: u32 = 128;
 pub const MOST_BYTES: usize = 2168;
 
 // Some bytes of memory with zeros after them.
-#[derive(Clone, Copy)]
-pub struct Bytes {
-    pub bytes: [u8; MOST_BYTES],
-    pub whole: bool,
-}
+pub type Bytes = [u8; MOST_BYTES];
 
 // Where the bases end.
-pub fn bases_end(numbers: &[u32; MOST_NUMBERS]) -> usize
+pub fn bases_end(numbers: &Numbers) -> usize
     ensures { (27 ≤ result) × (result ≤ 35) }
 {
     BASES + count_of(numbers[BASE_COUNT], MOST_BASES)
 }
 
 // Where the words end and the fields begin.
-pub fn words_end(numbers: &[u32; MOST_NUMBERS]) -> usize
+pub fn words_end(numbers: &Numbers) -> usize
     ensures { (104 ≤ result) × (result ≤ 235) }
 {
     WORDS + count_of(numbers[WORD_COUNT], MOST_WORDS)
 }
 
 // How many fields there are.
-pub fn field_count(numbers: &[u32; MOST_NUMBERS]) -> usize
+pub fn field_count(numbers: &Numbers) -> usize
     ensures { result ≤ 128 }
 {
     count_of(numbers[FIELD_COUNT], MOST_FIELDS)
 }
 
 // How long memory is.
-pub fn memory_length(numbers: &[u32; MOST_NUMBERS]) -> usize
+pub fn memory_length(numbers: &Numbers) -> usize
     ensures { result ≤ 2168 }
 {
     count_of(numbers[LENGTH], MOST_BYTES as u32)
 }
 
-// Reads so many bytes of memory.
-pub fn read_memory(length: usize) -> Bytes
-    requires { length ≤ 2168 }
-{
-    let mut bytes = [0u8; MOST_BYTES];
-    let whole = fill(&mut bytes[..length]);
-    Bytes { bytes, whole }
+// Reads the bytes of memory.
+pub fn read_memory(numbers: &Numbers) -> Result<Bytes, BadRecord> {
+    read_bytes(memory_length(numbers))
 }

@@ -4,11 +4,10 @@
 // allowance as a power of ten. Prints how the run ended, the steps, and r10.
 #![tactic(auto)]
 
-use alu::Codes;
 use machine_steps::Outcome;
 use output::{STDIN_FILENO, STDOUT_FILENO};
 use policy::{Field, Policy};
-use states::end_number;
+use states::{codes_of, end_number};
 use step::{MARKS, MarkedCodes, Registers};
 use v8::{ByteOffset, Edition};
 
@@ -56,53 +55,32 @@ fn one_field() -> Policy {
 
 // Each of its words is a field.
 fn sixteen_fields() -> Policy {
-    let mut policy = region();
-    let mut k: u32 = 0;
-    while k < 16 {
-        policy = with_words(policy, 4 * k, 1);
-        k += 1;
-    }
-    policy
+    (0..16).fold(region(), |policy, k| with_words(policy, 4 * k, 1))
 }
 
 // r8 is the start of the region, r9 to r12 are 0.
 fn start() -> Registers {
-    let mut values = [0u32; 32];
-    let mut marks = [false; MARKS];
-    values[8] = 4096;
-    marks[8] = true;
-    marks[9] = true;
-    marks[10] = true;
-    marks[11] = true;
-    marks[12] = true;
-    Registers {
-        values,
-        marks,
+    let mut registers = Registers {
+        values: [0; 32],
+        marks: [false; MARKS],
         codes: MarkedCodes {
-            value: Codes {
-                n: false,
-                z: false,
-                v: false,
-                c: false,
-            },
+            value: codes_of(0),
             set: false,
         },
+    };
+    registers.write(8, 4096);
+    for r in 9..13 {
+        registers.write(r, 0);
     }
-}
-
-fn wide(x: u32) -> u64 {
-    x as u64
+    registers
 }
 
 fn report(o: Outcome) {
-    let end = o.end;
-    let r = o.registers;
-    let values = r.values;
-    io::print_decimal(STDOUT_FILENO, end_number(end));
+    io::print_decimal(STDOUT_FILENO, end_number(o.end));
     io::write_all(STDOUT_FILENO, b" ");
     io::print_decimal(STDOUT_FILENO, o.steps);
     io::write_all(STDOUT_FILENO, b" ");
-    io::print_hex(STDOUT_FILENO, wide(values[10]), 8);
+    io::print_hex(STDOUT_FILENO, u64::from(o.registers.values[10]), 8);
     io::write_all(STDOUT_FILENO, b"\n");
 }
 
@@ -117,7 +95,7 @@ fn allowance_of(digit: u8) -> u64 {
     }
 }
 
-fn run_loop(policy: Policy, words: &[u32], allowance: u64) {
+fn run_loop(policy: &Policy, words: &[u32], allowance: u64) {
     let bases = [4096u32; 1];
     let mut memory = [0u8; 184];
     report(machine::run(
@@ -135,11 +113,11 @@ fn run_loop(policy: Policy, words: &[u32], allowance: u64) {
 
 fn run_routine(routine: u8, allowance: u64) {
     match routine {
-        b'1' => run_loop(one_field(), &MEMORY, allowance),
-        b'2' => run_loop(sixteen_fields(), &loads(0), allowance),
-        b'3' => run_loop(sixteen_fields(), &loads(28), allowance),
-        b'4' => run_loop(sixteen_fields(), &loads(60), allowance),
-        _ => run_loop(one_field(), &ARITHMETIC, allowance),
+        b'1' => run_loop(&one_field(), &MEMORY, allowance),
+        b'2' => run_loop(&sixteen_fields(), &loads(0), allowance),
+        b'3' => run_loop(&sixteen_fields(), &loads(28), allowance),
+        b'4' => run_loop(&sixteen_fields(), &loads(60), allowance),
+        _ => run_loop(&one_field(), &ARITHMETIC, allowance),
     }
 }
 

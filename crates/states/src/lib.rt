@@ -6,7 +6,7 @@ ghost use Rattle.states.specs.Told.{told_number};
 
 use alu::Codes;
 use machine_steps::End;
-use step::{MARKS, MarkedCodes, Registers};
+use step::{MarkedCodes, Registers};
 
 // How a run ended, as a number: 0 returned, 1 spent, else the fault's or the refusal's.
 pub fn end_number(end: End) -> u64
@@ -15,53 +15,32 @@ pub fn end_number(end: End) -> u64
     match end {
         End::Returned => 0,
         End::Spent => 1,
-        End::Fault(n) => n as u64,
-        End::Refused(n) => n as u64,
+        End::Fault(n) | End::Refused(n) => u64::from(n),
     }
 }
 
 // The codes NZVC of the lowest four bits, N the highest of them.
 pub fn codes_of(number: u32) -> Codes {
     Codes {
-        n: number / 8 % 2 == 1,
-        z: number / 4 % 2 == 1,
-        v: number / 2 % 2 == 1,
-        c: number % 2 == 1,
+        n: number & 8 != 0,
+        z: number & 4 != 0,
+        v: number & 2 != 0,
+        c: number & 1 != 0,
     }
+}
+
+// The mark and the codes. (`Codes`, in the crate alu, has no equality.)
+fn parts(codes: MarkedCodes) -> [bool; 5] {
+    let Codes { n, z, v, c } = codes.value;
+    [codes.set, n, z, v, c]
 }
 
 // Whether the codes are the same, with the same mark; those that are unset too.
 pub fn same_codes(a: MarkedCodes, b: MarkedCodes) -> bool {
-    let x = a.value;
-    let y = b.value;
-    (a.set == b.set) & (x.n == y.n) & (x.z == y.z) & (x.v == y.v) & (x.c == y.c)
-}
-
-// Whether the values are the same.
-fn same_values(a: Registers, b: Registers) -> bool {
-    let mut r = 0;
-    while r < 32 {
-        if a.values[r] != b.values[r] {
-            return false;
-        }
-        r += 1;
-    }
-    true
-}
-
-// Whether the marks are the same, of registers and of scratch words.
-fn same_marks(a: Registers, b: Registers) -> bool {
-    let mut i = 0;
-    while i < MARKS {
-        if a.marks[i] != b.marks[i] {
-            return false;
-        }
-        i += 1;
-    }
-    true
+    parts(a) == parts(b)
 }
 
 // Whether the registers hold the same, with the same marks; those that are unset too.
-pub fn same_registers(a: Registers, b: Registers) -> bool {
-    same_values(a, b) & same_marks(a, b)
+pub fn same_registers(a: &Registers, b: &Registers) -> bool {
+    a.values == b.values && a.marks == b.marks
 }

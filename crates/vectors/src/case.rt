@@ -5,94 +5,66 @@
 //   18 to 23   what they hold after
 //   24         the edition that the terminal follows, 8 or 9
 // A place that is not needed names r0 and holds 0. Codes are NZVC, N the highest of four bits.
-ghost use Rattle.std.specs.Prelude.{◌+◌, ◌≤◌, ◌<◌, length};
+ghost use Rattle.std.specs.Prelude.{◌+◌, ◌≤◌, ◌<◌};
 
-use hex_words::{Digits, word_of};
+use hex_words::word_of;
 use states::codes_of;
 use step::{MARKS, MarkedCodes, Registers};
+
+// How many bytes a line has.
+pub const LINE: usize = 225;
+
+// A line, and its words.
+pub type Line = [u8; LINE];
+
+pub type Fields = [u32; 25];
 
 // The return address of every case.
 pub const RETURNS: u32 = 65536;
 
-#[derive(Clone, Copy)]
-pub struct Case {
-    pub fields: [u32; 25],
-    pub well_formed: bool,
-}
-
-// Word i of a line, or none where it or the byte after it is wrong.
-fn word_at(line: &[u8], i: usize) -> Digits
-    requires i_bound { i < 25 }
-    requires in_bounds { 225 ≤ length line.now }
-{
-    let at = 9 * i;
-    let end = at + 8;
-    let mark = if i < 24 { b' ' } else { b'\n' };
-    if line[end] != mark {
-        return Digits::Wrong;
+// The word of nine bytes, or none where it or the byte after it is wrong.
+fn word_before(mark: u8, bytes: &[u8; 9]) -> Option<u32> {
+    if bytes[8] != mark {
+        return None;
     }
-    word_of(&line[at..end])
+    word_of(bytes)
 }
 
 // What a line says.
-pub fn case_of(line: &[u8; 225]) -> Case {
-    let text = &line[..];
-    let mut fields = [0u32; 25];
-    let mut i = 0;
-    while i < 25 {
-        match word_at(text, i) {
-            Digits::Word(w) => {
-                fields[i] = w;
-            }
-            Digits::Wrong => {
-                return Case {
-                    fields,
-                    well_formed: false,
-                };
-            }
-        }
-        i += 1;
+pub fn case_of(line: &Line) -> Option<Fields> {
+    let mut fields = [0; 25];
+    for (i, (field, bytes)) in fields.iter_mut().zip(line.as_chunks().0).enumerate() {
+        let mark = if i < 24 { b' ' } else { b'\n' };
+        *field = word_before(mark, bytes)?;
     }
-    Case {
-        fields,
-        well_formed: true,
-    }
+    Some(fields)
 }
 
 // Byte k of words 10 and 11.
-fn byte(fields: &[u32; 25], k: usize) -> u8
+fn byte(fields: &Fields, k: usize) -> u8
     requires { k < 8 }
 {
-    let w = fields[10 + k / 4];
-    let shifted = match k % 4 {
-        0 => w / 16777216,
-        1 => w / 65536,
-        2 => w / 256,
-        _ => w,
-    };
-    (shifted % 256) as u8
+    fields[10 + k / 4].to_be_bytes()[k % 4]
 }
 
 // The registers with the six words from `from` on in those that the case names, the return address
 // in r15, zero in r0 and all others unset; and the codes of byte `k`.
-fn registers_of(fields: &[u32; 25], from: usize, k: usize) -> Registers
+fn registers_of(fields: &Fields, from: usize, k: usize) -> Registers
     requires from_bound { from + 6 ≤ 25 }
     requires k_bound { k < 8 }
 {
-    let mut values = [0u32; 32];
+    let mut values = [0; 32];
     let mut marks = [false; MARKS];
     marks[0] = true;
     values[15] = RETURNS;
     marks[15] = true;
-    let mut i = 0;
-    while i < 6 {
-        let r = (byte(fields, i) % 32) as usize;
+    for i in 0..6 {
+        let r = usize::from(byte(fields, i) % 32);
         values[r] = fields[from + i];
         marks[r] = true;
-        i += 1;
     }
     let codes = MarkedCodes {
-        value: codes_of(byte(fields, k) as u32),
+        value: codes_of(u32::from(byte(fields, k))),
         set: true,
     };
     Registers {
@@ -103,11 +75,11 @@ fn registers_of(fields: &[u32; 25], from: usize, k: usize) -> Registers
 }
 
 // How the case begins.
-pub fn before(fields: &[u32; 25]) -> Registers {
+pub fn before(fields: &Fields) -> Registers {
     registers_of(fields, 12, 6)
 }
 
 // How the case must end.
-pub fn after(fields: &[u32; 25]) -> Registers {
+pub fn after(fields: &Fields) -> Registers {
     registers_of(fields, 18, 7)
 }

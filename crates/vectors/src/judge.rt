@@ -1,25 +1,35 @@
 // A case run by the machine and compared with what the emulator left.
-ghost use Rattle.std.specs.Prelude.{◌≤◌, length};
-
-use crate::case::{RETURNS, after, before, case_of};
+use crate::case::{Fields, Line, RETURNS, after, before, case_of};
 use machine_steps::{End, Outcome};
 use memory::frame::FRAME_BYTES;
+use output::print_wrong;
 use policy::Policy;
-use records::edition::{Told, edition_of};
+use records::edition::edition_of;
+use records::judging::Wrong;
 use states::{same_codes, same_registers};
 use step::Registers;
 use v8::Edition;
 
-// What a case shows.
-#[derive(Clone, Copy)]
-pub enum Verdict {
-    // The machine leaves what the emulator left.
-    Kept,
+// What is wrong with a case.
+#[derive(Drop)]
+pub enum Fault {
     // The line is no case.
     Malformed,
     NotReturned,
     OtherRegisters,
     OtherCodes,
+}
+
+impl Wrong for Fault {
+    fn print(&self, case: u64) {
+        let text: &[u8] = match self {
+            Fault::Malformed => b"not a case",
+            Fault::NotReturned => b"not returned",
+            Fault::OtherRegisters => b"other registers",
+            Fault::OtherCodes => b"other codes",
+        };
+        print_wrong(b"case", case, text);
+    }
 }
 
 // More steps than any case runs.
@@ -29,16 +39,13 @@ const ALLOWANCE: u64 = 1000;
 const FRAME: u32 = 4096;
 
 // The run of a case's routine, with no memory to reach but the frame.
-fn run_of(edition: Edition, fields: &[u32], start: Registers) -> Outcome
-    requires { 10 ≤ length fields.now }
-{
-    let bases = [0u32; 1];
-    let mut memory = [0u8; FRAME_BYTES];
+fn run_of(edition: Edition, fields: &Fields, start: Registers) -> Outcome {
+    let mut memory = [0; FRAME_BYTES];
     machine::run(
         edition,
-        Policy::empty(),
+        &Policy::empty(),
         &fields[..10],
-        &bases[..0],
+        &[],
         RETURNS,
         FRAME,
         start,
@@ -47,43 +54,29 @@ fn run_of(edition: Edition, fields: &[u32], start: Registers) -> Outcome
     )
 }
 
-fn has_returned(end: End) -> bool {
-    match end {
-        End::Returned => true,
-        End::Spent => false,
-        End::Fault(_) => false,
-        End::Refused(_) => false,
-    }
-}
-
-fn judge_on(edition: Edition, fields: &[u32; 25]) -> Verdict {
+// Runs a case, and compares what it leaves with what the emulator left.
+fn judge_on(edition: Edition, fields: &Fields) -> Result<(), Fault> {
     let outcome = run_of(edition, fields, before(fields));
-    let end = outcome.end;
-    let left = outcome.registers;
     let expected = after(fields);
-    if !has_returned(end) {
-        return Verdict::NotReturned;
+    if !matches!(outcome.end, End::Returned) {
+        return Err(Fault::NotReturned);
     }
-    if !same_registers(left, expected) {
-        return Verdict::OtherRegisters;
+    if !same_registers(&outcome.registers, &expected) {
+        return Err(Fault::OtherRegisters);
     }
-    if same_codes(left.codes, expected.codes) {
-        return Verdict::Kept;
+    if !same_codes(outcome.registers.codes, expected.codes) {
+        return Err(Fault::OtherCodes);
     }
-    Verdict::OtherCodes
+    Ok(())
 }
 
-fn judge_case(fields: &[u32; 25]) -> Verdict {
-    match edition_of(fields[24]) {
-        Told::As(edition) => judge_on(edition, fields),
-        Told::Not => Verdict::Malformed,
-    }
-}
-
-pub fn judge(line: &[u8; 225]) -> Verdict {
-    let case = case_of(line);
-    if case.well_formed {
-        return judge_case(&case.fields);
-    }
-    Verdict::Malformed
+// What is wrong with the case of a line, if something is.
+pub fn judge(line: &Line) -> Result<(), Fault> {
+    let Some(fields) = case_of(line) else {
+        return Err(Fault::Malformed);
+    };
+    let Some(edition) = edition_of(fields[24]) else {
+        return Err(Fault::Malformed);
+    };
+    judge_on(edition, &fields)
 }
