@@ -25,7 +25,11 @@ pub fn fill(count: usize, given: &[bool; MOST_WORDS], table: &[Row; MOST_WORDS],
 {
     for w in 0..count {
         if !given[w] {
-            let found = if is_there(&table[w]) { table[w] } else { unset_row() };
+            let found = if is_there(&table[w]) {
+                table[w]
+            } else {
+                unset_row()
+            };
             write_row(rows, ROW_BYTES * w, &found);
         }
     }

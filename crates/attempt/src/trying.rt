@@ -99,7 +99,14 @@ impl Asked<'_> {
         find_all(&routine, &mut draft);
         fill(count, self.given, &draft.rows, rows);
         Attempt {
-            answer: check(self.edition, self.policy, self.words, rows, self.entry, self.res),
+            answer: check(
+                self.edition,
+                self.policy,
+                self.words,
+                rows,
+                self.entry,
+                self.res,
+            ),
             growths: draft.growths,
         }
     }

@@ -80,7 +80,11 @@ fn cut_sum(regions: &Regions, op: AluOp, o: Operands) -> Entry {
     if is_sub(op) {
         return cut(regions, a.region, sub_sets(a.set, b.set));
     }
-    let region = if a.kind == ADDRESS { a.region } else { b.region };
+    let region = if a.kind == ADDRESS {
+        a.region
+    } else {
+        b.region
+    };
     cut(regions, region, add_sets(a.set, b.set))
 }
 
@@ -93,13 +97,25 @@ fn note_left(n: Note, rd: u8) -> Note {
 }
 
 // What is left of a row after arithmetic or logic that was refused with a number.
-fn alu_hope(policy: &Policy, row: Row, op: AluOp, cc: bool, rd: u8, o: Operands, number: u8) -> Row {
+fn alu_hope(
+    policy: &Policy,
+    row: Row,
+    op: AluOp,
+    cc: bool,
+    rd: u8,
+    o: Operands,
+    number: u8,
+) -> Row {
     let e = if number == OUTSIDE_REGION {
         cut_sum(&policy.regions, op, o)
     } else {
         unset()
     };
-    let n = if cc { codes_set() } else { note_left(row.note, rd) };
+    let n = if cc {
+        codes_set()
+    } else {
+        note_left(row.note, rd)
+    };
     row_with(row, rd, e, n)
 }
 

@@ -15,7 +15,11 @@ pub fn is_there(row: &Row) -> bool {
 // Whether all that a row says fits what another says.
 pub fn fits_row(held: &Row, asked: &Row) -> bool {
     fits_note(held.note, asked.note)
-        & held.entries.iter().zip(asked.entries.iter()).all(|(&a, &b)| fits(a, b))
+        & held
+            .entries
+            .iter()
+            .zip(asked.entries.iter())
+            .all(|(&a, &b)| fits(a, b))
 }
 
 // The note that nothing is known of the codes.

@@ -1,7 +1,7 @@
 // Where an access or an address is refused, the cause may be an entry that grows in a loop with nothing
 // to bound it. Such entries are kept from growing, one after another: if the check then names the way
 // back on which one grows, by 12, the dealer is told of that.
-ghost use Rattle.std.specs.Prelude.{◌≡◌, ◌+◌, ◌*◌, length};
+ghost use Rattle.std.specs.Prelude.{◌≡◌, ◌<◌, ◌*◌, length, IfSome};
 ghost use Rattle.rows.specs.Geometry.{row_bytes};
 
 use attempt::Asked;
@@ -31,7 +31,11 @@ pub fn from_growth(number: u8) -> bool {
 // The number that names entry i of a row.
 fn name_of(i: usize) -> usize {
     let index = i % ENTRIES;
-    if index < NOTE_NAME as usize { index } else { index + 1 }
+    if index < NOTE_NAME as usize {
+        index
+    } else {
+        index + 1
+    }
 }
 
 // Whether an answer names a way back, and entry i.
@@ -46,7 +50,9 @@ fn is_turn(growth: &Growth, turn: usize) -> bool {
 
 // The next turn, from one on, that is an entry's which is not limited, if there is one. Turn after turn, all
 // entries are gone through.
-fn next_turn(growths: &[Growth; TABLE_ENTRIES], limits: &Limits, from: usize) -> Option<usize> {
+fn next_turn(growths: &[Growth; TABLE_ENTRIES], limits: &Limits, from: usize) -> Option<usize>
+    ensures { IfSome result (λ k. k < TURNS * TABLE_ENTRIES) }
+{
     for k in from..TURNS * TABLE_ENTRIES {
         let i = k % TABLE_ENTRIES;
         if is_turn(&growths[i], k / TABLE_ENTRIES + 1) & limits[i].is_none() {

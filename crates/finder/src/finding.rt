@@ -58,7 +58,12 @@ fn write_rows(asked: &Asked, rows: &mut [u8])
     if flows(asked.edition, asked.words) {
         search(asked, rows);
     } else {
-        fill(asked.words.len(), asked.given, &[no_row(); MOST_WORDS], rows);
+        fill(
+            asked.words.len(),
+            asked.given,
+            &[no_row(); MOST_WORDS],
+            rows,
+        );
     }
 }
 

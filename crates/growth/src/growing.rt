@@ -23,10 +23,7 @@ const LAST_SWEEPS: u32 = 254;
 fn compared_with(x: Reading, after: &Row) -> Option<u32> {
     match x {
         Reading::Read(Instruction::Plain(Operation::Alu { op, cc: true, .. }))
-            if is_sub(op) & (after.note.kind == NOTE_COMPARISON) =>
-        {
-            Some(after.note.number)
-        }
+            if is_sub(op) & (after.note.kind == NOTE_COMPARISON) => { Some(after.note.number) }
         _ => None,
     }
 }

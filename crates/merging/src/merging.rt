@@ -45,7 +45,10 @@ impl Draft {
             rows: [no_row(); MOST_WORDS],
             pending: [false; MOST_WORDS],
             bounds: [None; MOST_WORDS],
-            growths: [Growth { times: 0, way: None }; TABLE_ENTRIES],
+            growths: [Growth {
+                times: 0,
+                way: None,
+            }; TABLE_ENTRIES],
         }
     }
 
@@ -77,7 +80,10 @@ impl Draft {
         self.growths[pair].times = grown;
         if !wide.bounded {
             let first = self.growths[pair].way.map_or(grown, |way| way.first);
-            self.growths[pair].way = Some(Way { first, word: w as u8 });
+            self.growths[pair].way = Some(Way {
+                first,
+                word: w as u8,
+            });
         }
         self.rows[d].entries[i] = wide.entry;
         true

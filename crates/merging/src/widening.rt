@@ -109,7 +109,8 @@ impl Climb {
             return Some(self.end);
         }
         let numbers = bounds?;
-        self.by_bounds(numbers.near).or_else(|| self.by_bounds(numbers.all))
+        self.by_bounds(numbers.near)
+            .or_else(|| self.by_bounds(numbers.all))
     }
 
     // The last place on its steps.
@@ -163,7 +164,11 @@ pub fn widen_entry(
         };
     }
     if (TAKEN < grown) & (old.kind == NUMBER) & (new.kind == NUMBER) {
-        let asked = if grown <= TO_BOUND { Some(bounds) } else { None };
+        let asked = if grown <= TO_BOUND {
+            Some(bounds)
+        } else {
+            None
+        };
         let (set, bounded) = widen_set(asked, old.set, new.set, 0, u32::MAX);
         return Widened {
             entry: number_in(set),

@@ -172,7 +172,11 @@ fn asked_bit(i: u8, e: Entry) -> u64 {
 
 // What a row that is given asks for: all that it says something of.
 fn asked_by(row: &Row) -> u64 {
-    let mut bits = if row.note.kind == NOTE_UNSET { 0 } else { bit(CODES) };
+    let mut bits = if row.note.kind == NOTE_UNSET {
+        0
+    } else {
+        bit(CODES)
+    };
     for i in 1..ENTRIES {
         bits |= asked_bit(i as u8, row.entries[i]);
     }
