@@ -5,12 +5,6 @@ use Rattle.v8.proofs.Choice.{and_went}
 use Rattle.access.specs.Locate.{scratch_in}
 use Rattle.access.proofs.locate.in_frame.Goals as goal
 
-pub overflow_sub-offset : goal.overflow_sub-offset
-overflow_sub-offset c = leb-true _ _ (and_went c.is_word.result _ c.if-is_word-frame.true).1
-
-pub scratch_at-requires : goal.scratch_at-requires
-scratch_at-requires c = sym c.is_scratch.ensures ∙ c.if-is_scratch.true
-
 pub returns-then-is_scratch : goal.returns-then-is_scratch
 unfolding scratch_in
 returns-then-is_scratch c = rw (← c.is_word.ensures, ← c.is_scratch.ensures, c.if-is_word-frame.true, c.if-is_scratch.true, c.scratch_at.ensures.0)

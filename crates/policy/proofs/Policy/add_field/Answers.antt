@@ -3,9 +3,6 @@ use mathlib.Core.Path.{sym, ◌∙◌}
 use Rattle.policy.specs.Build.{field_number, built}
 use Rattle.policy.proofs.Policy.add_field.Goals as goal
 
-pub push_field-requires : goal.push_field-requires
-push_field-requires c = sym c.well_formed-2.ensures ∙ c.if-well_formed.true
-
 pub returns : goal.returns
 unfolding built field_number
 returns c = simp (sym c.well_formed-2.ensures ∙ c.if-well_formed.false)

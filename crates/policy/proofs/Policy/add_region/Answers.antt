@@ -3,9 +3,6 @@ use mathlib.Core.Path.{sym, ◌∙◌}
 use Rattle.policy.specs.Build.{region_number, built}
 use Rattle.policy.proofs.Policy.add_region.Goals as goal
 
-pub push_region-requires : goal.push_region-requires
-push_region-requires c = sym c.well_formed-2.ensures ∙ c.if-well_formed.true
-
 pub returns : goal.returns
 unfolding built region_number
 returns c = simp (sym c.well_formed-2.ensures ∙ c.if-well_formed.false)

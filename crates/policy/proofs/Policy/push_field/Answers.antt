@@ -64,10 +64,6 @@ returns-then-not-field_follows c =
 pub bounds-self-place : goal.bounds-self-place
 bounds-self-place c = place-below (goal.at.bounds-self-place c).Else-not-field_follows
 
-pub overflow_add-self : goal.overflow_add-self
-overflow_add-self c =
-    record { fits = omega (arith, c.if-count-ge16.false) }
-
 pub bounds-self-r-3 : goal.bounds-self-r-3
 bounds-self-r-3 c = below-8 (goal.at.bounds-self-r-3 c).Else-self-region
 
