@@ -7,37 +7,32 @@ use bundle_layout::{
 use bundle_open::building::{field_read, region_size};
 use output::print;
 use policy::element::width_of;
-use policy::{Built, Field, Policy};
+use policy::{Field, Policy};
 use v8::numbers::ACCEPTED;
 
-// Where so many elements from an offset on end.
-fn end_after(element: u8, offset: u32, count: u16) -> u64 {
-    let width = width_of(element);
-    offset as u64 + width as u64 * count as u64
+// Where a field's elements end.
+fn end_of(f: Field) -> u64 {
+    f.offset.0 as u64 + width_of(f.element) as u64 * f.count as u64
 }
 
 // The first test that a field breaks whose add is refused, after fields that end before it.
 fn test_of(size: u64, end: u64, f: Field) -> u64 {
-    let element = f.element;
-    let permission = f.permission;
-    let count = f.count;
-    let offset = f.offset.0;
-    if (element < 1) | (7 < element) {
+    if f.element < 1 || 7 < f.element {
         return 1;
     }
-    if (permission < 1) | (3 < permission) {
+    if f.permission < 1 || 3 < f.permission {
         return 2;
     }
-    if count < 1 {
+    if f.count < 1 {
         return 3;
     }
-    if offset % width_of(element) as u32 != 0 {
+    if f.offset.0 % width_of(f.element) as u32 != 0 {
         return 4;
     }
-    if size < end_after(element, offset, count) {
+    if size < end_of(f) {
         return 5;
     }
-    if (offset as u64) < end {
+    if (f.offset.0 as u64) < end {
         return 7;
     }
     6
@@ -60,65 +55,48 @@ fn show_field(at: usize, size: u64, end: u64, r: usize, k: usize, f: Field) {
     }
 }
 
-// The adds of a region's fields, up to the first that is refused, which is shown.
-fn add_fields(bytes: &[u8], r: usize, before: Policy) -> Built {
-    let region = r % 255;
+// The adds of a region's fields, up to the first that is refused, which is shown; the policy after them,
+// or none.
+fn add_fields(bytes: &[u8], region: usize, mut policy: Policy) -> Option<Policy>
+    requires { region < 256 }
+{
     let first = fields_before(bytes, region);
-    let count = field_count(bytes, region);
     let size = region_size(bytes, region) as u64;
-    let mut policy = before;
     let mut end: u64 = 0;
-    let mut k: usize = 0;
-    while k < count {
+    for k in 0..field_count(bytes, region) {
         let f = field_read(bytes, first + k);
         let built = policy.add_field(region as u8, f);
         if built.number != ACCEPTED {
             show_field(field_place(bytes, first + k), size, end, region, k, f);
-            return built;
+            return None;
         }
         policy = built.policy;
-        end = end_after(f.element, f.offset.0, f.count);
-        k += 1;
+        end = end_of(f);
     }
-    Built {
-        policy,
-        number: ACCEPTED,
-    }
+    Some(policy)
 }
 
-// The adds of the regions, up to the first that is refused, which is shown.
-fn add_regions(bytes: &[u8]) -> Built {
-    let count = region_count(bytes);
+// The adds of the regions, up to the first that is refused, which is shown; the policy after them, or none.
+fn add_regions(bytes: &[u8]) -> Option<Policy> {
     let mut policy = Policy::empty();
-    let mut r: usize = 0;
-    while r < count {
+    for r in 0..region_count(bytes) {
         let size = region_size(bytes, r);
         let built = policy.add_region(size);
         if built.number != ACCEPTED {
             single(b"at", (HEAD_BYTES + REGION_BYTES * r) as u64);
             single(b"part region", r as u64);
             single(b"size", size as u64);
-            return built;
+            return None;
         }
         policy = built.policy;
-        r += 1;
     }
-    Built {
-        policy,
-        number: ACCEPTED,
-    }
+    Some(policy)
 }
 
 // The region or the field whose add is refused.
 pub fn show_adds(bytes: &[u8]) {
-    let count = region_count(bytes);
-    let mut built = add_regions(bytes);
-    let mut r: usize = 0;
-    while r < count {
-        if built.number != ACCEPTED {
-            return;
-        }
-        built = add_fields(bytes, r, built.policy);
-        r += 1;
+    let mut policy = add_regions(bytes);
+    for r in 0..region_count(bytes) {
+        policy = policy.and_then(|before| add_fields(bytes, r, before));
     }
 }

@@ -11,7 +11,7 @@ use rows::entries::UNSET;
 use rows::geometry::{
     ENTRY_BYTES, NOTE_NAME, NOTE_OFFSET, PLACES, REGISTERS, ROW_BYTES, entry_named, scratch_name,
 };
-use rows::{Flaw, form_fault, read_entry};
+use rows::{form_fault, read_entry};
 use v8::numbers::MOST_WORDS;
 
 // How many bytes a note has.
@@ -22,14 +22,10 @@ const NARROW_NOTE_OFFSET: usize = 384;
 // The bytes from a place on.
 fn show_part(bytes: &[u8], at: usize, count: usize) {
     single(b"at", at as u64);
-    if bytes.len() < count {
+    if bytes.len() < count || bytes.len() - count < at {
         return;
     }
-    if bytes.len() - count < at {
-        return;
-    }
-    let end = at + count;
-    show_bytes(&bytes[at..end]);
+    show_bytes(&bytes[at..at + count]);
 }
 
 // Where the note stands in a row of the bundle's version.
@@ -58,63 +54,54 @@ fn show_place(bytes: &[u8], row: usize, place: u8) {
 }
 
 // The lowest scratch word of a row that is set.
-fn scratch_set(row: &[u8]) -> Flaw
+fn scratch_set(row: &[u8]) -> Option<u8>
     requires { RowLies 0 (length row.now) }
 {
-    let mut k: usize = 0;
-    while k < SCRATCH_WORDS {
+    for k in 0..SCRATCH_WORDS {
         let e = read_entry(row, ENTRY_BYTES * (REGISTERS + k));
         if e.kind != UNSET {
-            return Flaw::At(scratch_name(k as u8));
+            return Some(scratch_name(k as u8));
         }
-        k += 1;
     }
-    Flaw::None
+    None
 }
 
 // The lowest badly formed place of an entry row, or its lowest scratch word that is set.
-fn entry_flaw(policy: Policy, row: &[u8]) -> Flaw
+fn entry_fault(policy: &Policy, row: &[u8]) -> Option<u8>
     requires { RowLies 0 (length row.now) }
 {
-    match form_fault(policy.regions.count, &policy.regions.sizes, row, 0) {
-        Flaw::None => scratch_set(row),
-        Flaw::At(place) => Flaw::At(place),
-    }
+    form_fault(&policy.regions, row, 0).or_else(|| scratch_set(row))
 }
 
 // Where the entry row is badly formed, or the result entry where the entry row is not.
-fn show_entry_row(bytes: &[u8], o: Opened, row: &[u8]) {
+fn show_entry_row(bytes: &[u8], o: &Opened, row: &[u8]) {
     if row.len() < ROW_BYTES {
         return;
     }
-    match entry_flaw(o.policy, row) {
-        Flaw::None => {
-            bare(b"part result");
-            show_part(bytes, o.result, ENTRY_BYTES);
-        }
-        Flaw::At(place) => {
+    match entry_fault(&o.policy, row) {
+        Some(place) => {
             bare(b"part entry");
             show_place(bytes, o.entry, place);
+        }
+        None => {
+            bare(b"part result");
+            show_part(bytes, o.result, ENTRY_BYTES);
         }
     }
 }
 
 // Why the shape of a routine is refused: its count of words, its entry row, as it is read, or its result
 // entry.
-pub fn show_shape(bytes: &[u8], o: Opened, entry: &[u8]) {
-    let count = o.count;
-    if (count < 1) | (MOST_WORDS < count) {
-        return single(b"words", count as u64);
+pub fn show_shape(bytes: &[u8], o: &Opened, entry: &[u8]) {
+    if o.count < 1 || MOST_WORDS < o.count {
+        return single(b"words", o.count as u64);
     }
     show_entry_row(bytes, o, entry)
 }
 
 // The named place of a word's row.
 pub fn show_broken_row(bytes: &[u8], rows: usize, at: usize, place: u8) {
-    if MOST_WORDS <= at {
-        return;
-    }
-    if bytes.len() < rows {
+    if MOST_WORDS <= at || bytes.len() < rows {
         return;
     }
     show_place(bytes, rows + rows_bytes(bytes, at), place)

@@ -5,31 +5,25 @@ use bundle_layout::{
     most_bytes, region_count, region_zero,
 };
 
-// The first region whose zero is not zero.
+// The first region whose zero is not zero, and whether there is one.
 fn show_region_zero(bytes: &[u8]) -> bool {
-    let count = region_count(bytes);
-    let mut i: usize = 0;
-    while i < count {
+    for i in 0..region_count(bytes) {
         if !region_zero(bytes, i) {
             single(b"part region", i as u64);
             single(b"at", (HEAD_BYTES + REGION_BYTES * i + 3) as u64);
             return true;
         }
-        i += 1;
     }
     false
 }
 
 // The first field whose zero is not zero.
 fn show_field_zero(bytes: &[u8]) {
-    let count = field_total(bytes);
-    let mut i: usize = 0;
-    while i < count {
+    for i in 0..field_total(bytes) {
         if !field_zero(bytes, i) {
             single(b"part field", i as u64);
             return single(b"at", (field_place(bytes, i) + 3) as u64);
         }
-        i += 1;
     }
 }
 
@@ -48,8 +42,7 @@ pub fn show_no_bundle(bytes: &[u8]) {
     if length != given {
         return single(b"given", given as u64);
     }
-    if show_region_zero(bytes) {
-        return;
+    if !show_region_zero(bytes) {
+        show_field_zero(bytes);
     }
-    show_field_zero(bytes)
 }

@@ -17,10 +17,7 @@ pub fn end_entry(e: Entry) {
 
 // The entry that a place of a row names; there is none at the note's and after the last.
 pub fn entry_of(row: Row, place: u8) -> Entry {
-    if place == NOTE_NAME {
-        return no_entry();
-    }
-    if PLACES <= place {
+    if place == NOTE_NAME || PLACES <= place {
         return no_entry();
     }
     entry_at(row, entry_named(place) as u8)
@@ -47,10 +44,8 @@ pub fn show_note(name: &[u8], n: Note) {
 
 // The entries of a row that are not unset, and its note.
 pub fn show_row(row: Row) {
-    let mut place: u8 = 0;
-    while place < PLACES {
+    for place in 0..PLACES {
         show_entry(place, entry_of(row, place));
-        place += 1;
     }
     show_note(b"note", row.note);
 }

@@ -1,7 +1,7 @@
 // Fields and regions as items.
 use crate::items::{done, signed, value};
 use output::print;
-use policy::{Field, Policy, field_in};
+use policy::{Field, Policy};
 
 // A field's values, which end the item.
 pub fn end_field(f: Field) {
@@ -15,44 +15,25 @@ pub fn end_field(f: Field) {
     done();
 }
 
-// A field of a region.
-fn show_field(policy: Policy, region: usize, k: usize) {
-    let place = 16 * (region % 8) + k % 16;
-    let f = field_in(
-        &policy.fields.elements,
-        &policy.fields.permissions,
-        &policy.fields.offsets,
-        &policy.fields.counts,
-        &policy.values.targets,
-        &policy.values.lows,
-        &policy.values.highs,
-        place,
-    );
+// The field k of a region.
+fn show_field(k: usize, f: Field) {
     print(b"field");
     value(k as u64);
     end_field(f);
 }
 
-// The fields of a region, `count` of them.
-fn show_fields(policy: Policy, region: usize, count: usize) {
-    let mut k: usize = 0;
-    while k < count {
-        show_field(policy, region, k);
-        k += 1;
-    }
-}
-
 // A region with its fields.
-pub fn show_region(policy: Policy, region: usize) {
-    let regions = policy.regions;
+pub fn show_region(policy: &Policy, region: usize) {
     if 8 <= region {
         return;
     }
-    let count = regions.fields[region] as usize;
+    let count = policy.regions.fields[region] as usize;
     print(b"region");
     value(region as u64);
-    value(regions.sizes[region] as u64);
+    value(policy.regions.sizes[region] as u64);
     value(count as u64);
     done();
-    show_fields(policy, region, count);
+    for k in 0..count {
+        show_field(k, policy.fields[16 * region + k % 16]);
+    }
 }

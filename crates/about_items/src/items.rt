@@ -10,10 +10,7 @@ pub fn value(n: u64) {
 
 // A yes or no, as 1 or 0.
 pub fn flag(holds: bool) {
-    if holds {
-        return value(1);
-    }
-    value(0)
+    value(u64::from(holds))
 }
 
 // A signed number, which stands in excess form.
@@ -47,14 +44,8 @@ pub fn single(name: &[u8], n: u64) {
 // The bytes of a part, as an item.
 pub fn show_bytes(part: &[u8]) {
     print(b"bytes");
-    let mut i: usize = 0;
-    while i < part.len() {
-        print_byte(part[i]);
-        i += 1;
+    for &byte in part {
+        value(byte as u64);
     }
     done();
-}
-
-fn print_byte(byte: u8) {
-    value(byte as u64)
 }

@@ -22,7 +22,7 @@ fn print_offsets(region: u8, s: NumberSet) {
 }
 
 // What an access reaches in a region, and the region.
-fn show_reach(policy: Policy, a: Access, region: u8, s: NumberSet) {
+fn show_reach(policy: &Policy, a: Access, region: u8, s: NumberSet) {
     print(b"reach");
     print_offsets(region, s);
     value(width_of(a) as u64);
@@ -31,18 +31,16 @@ fn show_reach(policy: Policy, a: Access, region: u8, s: NumberSet) {
 }
 
 // What an access reaches, where its operands are an address and a number.
-fn show_access(policy: Policy, a: Access, o: Operands) {
-    let x = o.first;
-    let y = o.second;
-    if (x.kind == ADDRESS) & (y.kind == NUMBER) {
-        show_reach(policy, a, x.region, add_sets(x.set, y.set));
-    }
-    if (x.kind == NUMBER) & (y.kind == ADDRESS) {
-        show_reach(policy, a, y.region, add_sets(x.set, y.set));
+fn show_access(policy: &Policy, a: Access, o: Operands) {
+    let sum = add_sets(o.first.set, o.second.set);
+    match (o.first.kind, o.second.kind) {
+        (ADDRESS, NUMBER) => show_reach(policy, a, o.first.region, sum),
+        (NUMBER, ADDRESS) => show_reach(policy, a, o.second.region, sum),
+        _ => {}
     }
 }
 
-fn show_offsets(policy: Policy, region: u8, s: NumberSet) {
+fn show_offsets(policy: &Policy, region: u8, s: NumberSet) {
     print(b"offsets");
     print_offsets(region, s);
     done();
@@ -50,20 +48,13 @@ fn show_offsets(policy: Policy, region: u8, s: NumberSet) {
 }
 
 // The offsets that a sum or a difference makes, where an operand is an address.
-fn show_sum(policy: Policy, op: AluOp, o: Operands) {
-    let x = o.first;
-    let y = o.second;
-    if is_sub(op) {
-        if x.kind == ADDRESS {
-            show_offsets(policy, x.region, sub_sets(x.set, y.set));
-        }
-        return;
-    }
-    if x.kind == ADDRESS {
-        return show_offsets(policy, x.region, add_sets(x.set, y.set));
-    }
-    if y.kind == ADDRESS {
-        show_offsets(policy, y.region, add_sets(x.set, y.set));
+fn show_sum(policy: &Policy, op: AluOp, o: Operands) {
+    let (x, y) = (o.first, o.second);
+    match (x.kind, y.kind) {
+        (ADDRESS, _) if is_sub(op) => show_offsets(policy, x.region, sub_sets(x.set, y.set)),
+        (ADDRESS, _) => show_offsets(policy, x.region, add_sets(x.set, y.set)),
+        (_, ADDRESS) if !is_sub(op) => show_offsets(policy, y.region, add_sets(x.set, y.set)),
+        _ => {}
     }
 }
 
@@ -80,7 +71,7 @@ fn show_operands(o: Operands) {
 }
 
 // The operands of an operation in a row, and what it reaches or makes with them.
-fn show_operation_in(policy: Policy, row: Row, x: Operation) {
+fn show_operation_in(policy: &Policy, row: Row, x: Operation) {
     match x {
         Operation::Sethi { .. } => {}
         Operation::Alu {
@@ -111,7 +102,7 @@ fn show_operation_in(policy: Policy, row: Row, x: Operation) {
 }
 
 // The operands of an instruction in a row.
-fn show_instruction_in(policy: Policy, row: Row, x: Instruction) {
+fn show_instruction_in(policy: &Policy, row: Row, x: Instruction) {
     match x {
         Instruction::Plain(operation) => show_operation_in(policy, row, operation),
         Instruction::Branch(_) => {}
@@ -120,9 +111,8 @@ fn show_instruction_in(policy: Policy, row: Row, x: Instruction) {
 }
 
 // The operands of a word in a row.
-pub fn show_word_in(policy: Policy, row: Row, x: Reading) {
-    match x {
-        Reading::Read(instruction) => show_instruction_in(policy, row, instruction),
-        Reading::Unread(_) => {}
+pub fn show_word_in(policy: &Policy, row: Row, x: Reading) {
+    if let Reading::Read(instruction) = x {
+        show_instruction_in(policy, row, instruction);
     }
 }

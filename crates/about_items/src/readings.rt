@@ -1,61 +1,15 @@
-// How a word is read, as an item.
+// How a word is read, as an item. An operation is shown as its number in the order of the crate v8.
 use crate::items::{done, flag, signed, single, value};
 use access::addend_of;
 use output::print;
 use v8::signed::excess;
-use v8::{
-    Access, AluOp, BranchForm, Instruction, LoadOp, Operand, Operation, Reading, ShiftOp, StoreOp,
-};
-
-fn alu_number(op: AluOp) -> u64 {
-    match op {
-        AluOp::Add => 0,
-        AluOp::And => 1,
-        AluOp::Or => 2,
-        AluOp::Xor => 3,
-        AluOp::Sub => 4,
-        AluOp::Andn => 5,
-        AluOp::Orn => 6,
-        AluOp::Xnor => 7,
-    }
-}
-
-fn shift_number(op: ShiftOp) -> u64 {
-    match op {
-        ShiftOp::Sll => 0,
-        ShiftOp::Srl => 1,
-        ShiftOp::Sra => 2,
-    }
-}
-
-fn load_number(op: LoadOp) -> u64 {
-    match op {
-        LoadOp::Ld => 0,
-        LoadOp::Ldub => 1,
-        LoadOp::Lduh => 2,
-        LoadOp::Ldsb => 3,
-        LoadOp::Ldsh => 4,
-    }
-}
-
-fn store_number(op: StoreOp) -> u64 {
-    match op {
-        StoreOp::St => 0,
-        StoreOp::Stb => 1,
-        StoreOp::Sth => 2,
-    }
-}
+use v8::{Access, BranchForm, Instruction, Operand, Operation, Reading};
 
 // How a branch is predicted.
 fn hint_number(form: BranchForm) -> u64 {
     match form {
         BranchForm::Unpredicted => 0,
-        BranchForm::Predicted(taken) => {
-            if taken {
-                return 2;
-            }
-            1
-        }
+        BranchForm::Predicted(taken) => 1 + u64::from(taken),
     }
 }
 
@@ -64,11 +18,11 @@ fn print_access(a: Access) {
     match a {
         Access::Loads(op) => {
             print(b"load");
-            value(load_number(op));
+            value(op as u64);
         }
         Access::Stores(op) => {
             print(b"store");
-            value(store_number(op));
+            value(op as u64);
         }
     }
 }
@@ -104,13 +58,13 @@ fn show_operation(x: Operation) {
             operand,
         } => {
             print(b"alu");
-            value(alu_number(op));
+            value(op as u64);
             flag(cc);
             print_operands(rd, rs1, operand);
         }
         Operation::Shift { op, rd, rs1, count } => {
             print(b"shift");
-            value(shift_number(op));
+            value(op as u64);
             print_operands(rd, rs1, count);
         }
         Operation::Memory {
@@ -132,8 +86,7 @@ fn show_instruction(x: Instruction) {
             print(b"branch");
             flag(b.annul);
             value(b.cond as u64);
-            let form = b.form;
-            value(hint_number(form));
+            value(hint_number(b.form));
         }
         Instruction::Return => print(b"return"),
     }

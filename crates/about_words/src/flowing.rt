@@ -1,38 +1,40 @@
 // What the flow pass refuses: a broken flow, with the edges of the word and what stands where they end; a
 // word that would write a register of the caller, with the word whose slot it is.
-use crate::edges::{show_edge, show_slot, slot_at};
+use crate::Routine;
+use crate::edges::show_slot;
 use about_items::items::single;
 use flow_code::{reading_at, transfers};
 use flow_edges::edges::edge_of;
 use v8::numbers::MOST_WORDS;
 use v8::{Instruction, Reading, WordIndex};
 
-fn show_edges(at: usize, i: Instruction, words: usize, readings: [Reading; MOST_WORDS]) {
-    if MOST_WORDS <= at {
-        return;
+impl Routine<'_> {
+    fn show_edges(&self, at: usize, i: Instruction) {
+        if MOST_WORDS <= at {
+            return;
+        }
+        let index = WordIndex(at as u32);
+        self.show_edge(edge_of(index, i, true), true);
+        self.show_edge(edge_of(index, i, false), false);
     }
-    let index = WordIndex(at as u32);
-    show_edge(edge_of(index, i, true), true, words, readings);
-    show_edge(edge_of(index, i, false), false, words, readings);
-}
 
-// The flow of a word. A slot that is no transfer has one where a branch lands on it.
-pub fn show_flow(at: usize, words: usize, readings: [Reading; MOST_WORDS]) {
-    single(b"words", words as u64);
-    let x = reading_at(readings, at);
-    if slot_at(readings, at) {
-        show_slot(at, !transfers(x));
+    // The flow of a word. A slot that is no transfer has one where a branch lands on it.
+    pub fn show_flow(&self, at: usize) {
+        single(b"words", self.words as u64);
+        let x = reading_at(self.readings, at);
+        if self.slot_at(at) {
+            show_slot(at, !transfers(x));
+        }
+        if let Reading::Read(i) = x {
+            self.show_edges(at, i);
+        }
     }
-    match x {
-        Reading::Read(i) => show_edges(at, i, words, readings),
-        Reading::Unread(_) => {}
-    }
-}
 
-// A word that would write a register of the caller: it is refused in a slot too, also in one that never
-// runs.
-pub fn show_written(at: usize, readings: [Reading; MOST_WORDS]) {
-    if slot_at(readings, at) {
-        show_slot(at, false);
+    // A word that would write a register of the caller: it is refused in a slot too, also in one that
+    // never runs.
+    pub fn show_written(&self, at: usize) {
+        if self.slot_at(at) {
+            show_slot(at, false);
+        }
     }
 }

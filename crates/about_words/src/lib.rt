@@ -2,6 +2,20 @@
 // the functions that the check itself calls.
 #![tactic(auto)]
 
+use policy::Policy;
+use v8::Reading;
+use v8::numbers::MOST_WORDS;
+
+// A routine of so many words: its policy, its rows and its result entry, and how its words are read.
+#[derive(Clone, Copy)]
+pub struct Routine<'a> {
+    pub policy: &'a Policy,
+    pub rows: &'a [u8],
+    pub res: &'a [u8],
+    pub words: usize,
+    pub readings: &'a [Reading; MOST_WORDS],
+}
+
 // The rows of words, and what does not fit them.
 mod arriving;
 // A row along an edge.
@@ -14,6 +28,3 @@ mod flowing;
 mod looking;
 // The refusal of a word, by its number.
 mod words;
-
-pub use arriving::show_flaw;
-pub use words::show_refused_word;

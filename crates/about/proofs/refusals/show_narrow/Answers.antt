@@ -20,7 +20,7 @@ widen-requires-2 c = let pre = c.requires in
     (omega (arith, laid.1, places.6), omega (arith, places.1), places.1)
 
 pub slice_bounds-show_refusal-end : goal.slice_bounds-show_refusal-end
-slice_bounds-show_refusal-end c = let opened = c.args.opened in
+slice_bounds-show_refusal-end c = let opened = c.args.opened.now in
     let places = c.requires.1 in
     let written = c.widen-2 in
     sym (length-take-le (row_bytes * opened.count) written.new.room (omega (arith, places.1)))
