@@ -69,7 +69,7 @@ fn narrowed_edge(
     ensures { result ≡ narrowed_edge policy.now rows.now res.now at.0 x e row }
 {
     let note = row.note;
-    if !(narrows(e.narrowing) & (note.kind == NOTE_COMPARISON)) {
+    if !(narrows(e.narrowing) && note.kind == NOTE_COMPARISON) {
         return cross(policy, rows, res, at, x, e, row);
     }
     match narrow_entry(e.narrowing, entry_at(row, note.register), note.number) {
@@ -98,7 +98,7 @@ fn edge_pass(
     if !e.exists {
         return accept();
     }
-    if !e.slot & !narrows(e.narrowing) {
+    if !e.slot && !narrows(e.narrowing) {
         return arrive(rows, res, at, e.to, row);
     }
     narrowed_edge(policy, rows, res, at, x, e, row)

@@ -37,16 +37,15 @@ fn kept_at(row: Row, a: Access, to: u8, e: Entry, k: u8) -> Change
     ensures { result ≡ kept_at row a to e (scratch_entry k) }
 {
     let i = scratch_entry(k);
-    let note = row.note;
     match a {
         Access::Loads(_) => {
             let held = entry_at(row, i);
             if held.kind == UNSET {
                 return Change::Breaks(UNSET_OPERAND, scratch_name(k));
             }
-            Change::Writes(to, held, note_after(note, to))
+            Change::Writes(to, held, note_after(row.note, to))
         }
-        Access::Stores(_) => Change::Writes(i, e, note_after(note, i)),
+        Access::Stores(_) => Change::Writes(i, e, note_after(row.note, i)),
     }
 }
 
@@ -70,10 +69,10 @@ pub fn access_change(policy: &Policy, row: Row, a: Access, to: u8, rd: u8, o: Op
         return Change::Breaks(UNSET_OPERAND, o.rs2);
     }
     let reads = stores(a);
-    if reads & (e.kind == UNSET) {
+    if reads && e.kind == UNSET {
         return Change::Breaks(UNSET_OPERAND, rd);
     }
-    match reach_of(policy, a, reads & (e.kind == FRAME_ADDRESS), o) {
+    match reach_of(policy, a, reads && e.kind == FRAME_ADDRESS, o) {
         Reach::Inside(place) => accessed(row.note, a, to, rd, e, field_entry(policy.fields[place])),
         Reach::Scratch(k) => kept_at(row, a, to, e, k),
         Reach::Outside(number, named) => Change::Breaks(number, named),

@@ -99,7 +99,7 @@ fn operation_change(policy: &Policy, row: Row, x: Operation) -> Change
 fn branch_change(n: Note, condition: u8) -> Change
     ensures { result ≡ branch_change n condition }
 {
-    if (n.kind == NOTE_UNSET) & reads_codes(condition) {
+    if n.kind == NOTE_UNSET && reads_codes(condition) {
         return Change::Breaks(UNSET_OPERAND, NOTE_NAME);
     }
     Change::Keeps

@@ -34,7 +34,7 @@ pub fn narrow_entry(class: Narrowing, e: Entry, n: u32) -> Option<Entry>
     if e.kind == NUMBER {
         return Some(number_in(narrow_set(class, e.set, n)?));
     }
-    if (e.kind == START_OR_NULL) & (n == BIAS) {
+    if e.kind == START_OR_NULL && n == BIAS {
         return Some(narrow_start(class, e));
     }
     Some(e)

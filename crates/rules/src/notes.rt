@@ -13,7 +13,7 @@ use v8::AluOp;
 pub fn note_after(n: Note, rd: u8) -> Note
     ensures { result ≡ note_after n rd }
 {
-    if (n.kind == NOTE_COMPARISON) & (n.register == rd) {
+    if n.kind == NOTE_COMPARISON && n.register == rd {
         return codes_set();
     }
     n
@@ -25,7 +25,7 @@ pub fn note_after(n: Note, rd: u8) -> Note
 fn codes_note(op: AluOp, rd: u8, rs1: u8, b: Entry) -> Note
     ensures { result ≡ codes_note op rd rs1 b }
 {
-    if is_sub(op) & (1 <= rs1) & is_constant(b) & !(rd == rs1) {
+    if is_sub(op) && 1 <= rs1 && is_constant(b) && rd != rs1 {
         return comparison(rs1, b.set.lo);
     }
     codes_set()

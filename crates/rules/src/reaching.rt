@@ -41,7 +41,7 @@ fn on_grid(s: NumberSet, a: Access) -> bool
     ensures { result ≡ on_grid s (access_width a) }
 {
     let width = width_of(a);
-    (s.lo % width == 0) & (s.step as u32 % width == 0)
+    s.lo % width == 0 && s.step as u32 % width == 0
 }
 
 // Where an access to offsets of a field lies, which stands at a place.
@@ -100,10 +100,10 @@ fn in_frame(a: Access, rs1: u8, offset: u32) -> Reach
 fn frame_reach(a: Access, rs1: u8, x: Entry, y: Entry) -> Reach
     ensures { result ≡ frame_reach a rs1 x y }
 {
-    if (x.kind == FRAME_ADDRESS) & is_constant(y) {
+    if x.kind == FRAME_ADDRESS && is_constant(y) {
         return in_frame(a, rs1, word_of(y));
     }
-    if is_constant(x) & (y.kind == FRAME_ADDRESS) {
+    if is_constant(x) && y.kind == FRAME_ADDRESS {
         return in_frame(a, rs1, word_of(x));
     }
     Reach::Outside(NO_RULE, rs1)
@@ -126,10 +126,10 @@ pub fn reach_of(policy: &Policy, a: Access, frame: bool, o: Operands) -> Reach
     if frame {
         return Reach::Outside(NO_RULE, o.rs1);
     }
-    if (x.kind == ADDRESS) & (y.kind == NUMBER) {
+    if x.kind == ADDRESS && y.kind == NUMBER {
         return in_region(policy, a, o.rs1, x.region, add_sets(x.set, y.set));
     }
-    if (x.kind == NUMBER) & (y.kind == ADDRESS) {
+    if x.kind == NUMBER && y.kind == ADDRESS {
         return in_region(policy, a, o.rs1, y.region, add_sets(x.set, y.set));
     }
     frame_reach(a, o.rs1, x, y)

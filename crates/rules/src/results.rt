@@ -29,14 +29,14 @@ pub fn word_of(e: Entry) -> u32
 fn both_constants(a: Entry, b: Entry) -> bool
     ensures { result ≡ constants a b }
 {
-    is_constant(a) & is_constant(b)
+    is_constant(a) && is_constant(b)
 }
 
 // Whether both entries are numbers.
 fn both_numbers(a: Entry, b: Entry) -> bool
     ensures { result ≡ both_numbers a b }
 {
-    (a.kind == NUMBER) & (b.kind == NUMBER)
+    a.kind == NUMBER && b.kind == NUMBER
 }
 
 // Offsets of a region, if none lies outside it.
@@ -45,7 +45,7 @@ fn offsets_give(regions: &Regions, r: u8, s: NumberSet) -> Result
     ensures { result ≡ offsets_give regions.now.sizes r s }
 {
     let size = size_in(regions, r);
-    if (BIAS <= s.lo) & (s.hi <= BIAS + size) {
+    if BIAS <= s.lo && s.hi <= BIAS + size {
         return Result::Gives(address_in(r, s));
     }
     Result::Fails(OUTSIDE_REGION)
@@ -56,10 +56,10 @@ fn offsets_give(regions: &Regions, r: u8, s: NumberSet) -> Result
 fn address_sum(regions: &Regions, a: Entry, b: Entry) -> Result
     ensures { result ≡ address_sum regions.now.sizes a b }
 {
-    if (a.kind == ADDRESS) & (b.kind == NUMBER) {
+    if a.kind == ADDRESS && b.kind == NUMBER {
         return offsets_give(regions, a.region, add_sets(a.set, b.set));
     }
-    if (a.kind == NUMBER) & (b.kind == ADDRESS) {
+    if a.kind == NUMBER && b.kind == ADDRESS {
         return offsets_give(regions, b.region, add_sets(a.set, b.set));
     }
     Result::Fails(NO_RULE)
@@ -70,10 +70,10 @@ fn address_sum(regions: &Regions, a: Entry, b: Entry) -> Result
 fn address_difference(regions: &Regions, a: Entry, b: Entry) -> Result
     ensures { result ≡ address_difference regions.now.sizes a b }
 {
-    if (a.kind == ADDRESS) & (b.kind == NUMBER) {
+    if a.kind == ADDRESS && b.kind == NUMBER {
         return offsets_give(regions, a.region, sub_sets(a.set, b.set));
     }
-    if (a.kind == START_OR_NULL) & is_zero(b) {
+    if a.kind == START_OR_NULL && is_zero(b) {
         return Result::Gives(a);
     }
     Result::Fails(NO_RULE)
@@ -109,22 +109,21 @@ pub fn is_sub(op: AluOp) -> bool
 pub fn alu_result(regions: &Regions, op: AluOp, a: Entry, b: Entry) -> Result
     ensures { result ≡ alu_result regions.now.sizes op a b }
 {
-    if (a.kind == FRAME_ADDRESS) | (b.kind == FRAME_ADDRESS) {
+    if a.kind == FRAME_ADDRESS || b.kind == FRAME_ADDRESS {
         return Result::Fails(NO_RULE);
     }
     let constants = both_constants(a, b);
-    let numbers = both_numbers(a, b);
     let or = is_or(op);
     if constants {
         return Result::Gives(constant(alu(op, word_of(a), word_of(b))));
     }
-    if or & is_zero(a) {
+    if or && is_zero(a) {
         return Result::Gives(b);
     }
-    if or & is_zero(b) {
+    if or && is_zero(b) {
         return Result::Gives(a);
     }
-    if numbers {
+    if both_numbers(a, b) {
         return Result::Gives(number_in(alu_sets(op, a.set, b.set)));
     }
     address_rule(regions, op, a, b)
@@ -139,7 +138,7 @@ pub fn shift_result(op: ShiftOp, a: Entry, b: Entry) -> Result
         return Result::Gives(constant(shift(op, word_of(a), word_of(b))));
     }
     let numbers = both_numbers(a, b);
-    if numbers & is_constant(b) {
+    if numbers && is_constant(b) {
         return Result::Gives(number_in(shift_set(op, a.set, word_of(b))));
     }
     if numbers {
