@@ -24,7 +24,7 @@ use Rattle.passes.specs.Answer.{accepted, passes}
 use Rattle.passes_shape.specs.Shape.{result_register}
 use Rattle.passes.specs.Passes.{row_at}
 use Rattle.checker.specs.Routine.{result_entry}
-use Rattle.checker.specs.Passes.{made, change_by, arrive, cross, if_left, narrowed_edge, edge_pass}
+use Rattle.checker.specs.Passes.{made, change_by, cross, if_left, narrowed_edge, edge_pass}
 use Rattle.checker.specs.Laws.{After, WordMakes, EdgesLooked, SlotApplied, SlotSkipped, Arrives}
 use Rattle.passes.proofs.Accepting.{both_pass, need_holds, no_fault}
 

@@ -32,7 +32,8 @@ pub fn arrive(rows: &[u8], res: &[u8], at: WordIndex, to: Destination, row: Row)
 {
     match to {
         Destination::To(next) => {
-            unless_fault(EDGE_MISFIT, at, misfit(row, rows, ROW_BYTES * next.0 as usize))
+            let flaw = misfit(row, rows, ROW_BYTES * next.0 as usize);
+            unless_fault(EDGE_MISFIT, at, flaw)
         }
         Destination::Caller => {
             let holds = fits(entry_at(row, RESULT), read_entry(res, 0));

@@ -1,5 +1,5 @@
 // The check: the passes in their order (specs/Passes.antt).
-ghost use Rattle.std.specs.Prelude.{◌≡◌, length};
+ghost use Rattle.std.specs.Prelude.{◌≡◌};
 ghost use Rattle.checker.specs.Passes.{check_of};
 
 use crate::looking::word_pass;

@@ -1,4 +1,6 @@
 // The edges of a word: each is narrowed, applies its slot, and then its row arrives (specs/Passes.antt).
+// Policy, rows and result entry stay parameters: of a struct that borrows them each clause would have
+// to say `lent.entry.rows.now`.
 ghost use Rattle.std.specs.Prelude.{◌≡◌, ◌<◌, ◌≤◌, length};
 ghost use Rattle.v8.specs.Numbers.{most_words};
 ghost use Rattle.v8.specs.declared.Reading.TheVariants.{Read};

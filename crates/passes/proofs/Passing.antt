@@ -7,11 +7,11 @@ use native.Mathlib.Omega.{arith}
 use lib.Dec.{ltb}
 use lib.ListN.{get_or}
 use borrow.Author.Tests.{lt-ltb, le-ltb, eq-eqb, ne_eqb}
-use Rattle.std.specs.Prelude.{Option, Some, None}
+use Rattle.std.specs.Prelude.{Some, None}
 use Rattle.v8.specs.Numbers.{bad_row}
 use Rattle.v8.specs.declared.Reading.{Reading}
-use Rattle.flow_code.specs.Readings.{reading_at, transfers, is_slot, examined}
-use Rattle.flow.specs.Flow.{flow_with, flow_of}
+use Rattle.flow_code.specs.Readings.{reading_at, transfers, is_slot}
+use Rattle.flow.specs.Flow.{flow_with}
 use Rattle.flow_code.specs.Lent.{code_of, Formed, Examines}
 use Rattle.flow_code.proofs.Fetched.{array_has, code_count}
 use Rattle.flow_code.proofs.Examined.{slot_next}

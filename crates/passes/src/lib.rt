@@ -13,7 +13,7 @@ mod words;
 pub use words::{entry_pass, flow_pass, read_pass, row_pass};
 
 // An answer: the number of the first condition that is broken, the word and the register named;
-// accepted is 0 0 0.
+// accepted is 0 0 0. The passes compare the number with that, until the error type follows.
 #[derive(Clone, Copy)]
 pub struct Answer {
     pub number: u8,

@@ -96,5 +96,6 @@ pub fn entry_pass(rows: &[u8], entry: &[u8]) -> Answer
     requires { RowIn 0 (length rows.now) × RowIn 0 (length entry.now) }
     ensures { result ≡ entry_pass rows.now entry.now }
 {
-    unless_fault(ENTRY_MISFIT, WordIndex(0), misfit(read_row(entry, 0), rows, 0))
+    let flaw = misfit(read_row(entry, 0), rows, 0);
+    unless_fault(ENTRY_MISFIT, WordIndex(0), flaw)
 }

@@ -43,7 +43,7 @@ narrow_entry c e n =
     (cond (is_start_or_null e && eqb n bias) (Some (narrow_start c e))
     (Some e))
 
--- what is left of a row: "An edge with no members left is not examined."
+-- what is left of a row: "An edge with no members left is not examined." It stays beside Option, since the guarantee's proofs name its two cases.
 pub data RowLeft : Type 0 where
   left : Row → RowLeft
   nothing : RowLeft

@@ -34,7 +34,7 @@ pub struct Operands {
 }
 
 // What an instruction makes of its operands: an entry, or the number of the condition that is broken.
-// It carries document 01's number, as Reach and Change do; the error type is to follow.
+// Like Reach and Change it carries a number of document 01, until the error type follows.
 #[derive(Clone, Copy)]
 pub enum Result {
     Gives(Entry),

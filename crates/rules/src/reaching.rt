@@ -115,22 +115,26 @@ fn frame_reach(a: Access, rs1: u8, x: Entry, y: Entry) -> Reach
 pub fn reach_of(policy: &Policy, a: Access, frame: bool, o: Operands) -> Reach
     ensures { result ≡ reach_of policy.now.regions.fields policy.now.fields a frame o.rs1 o.first o.rs2 o.second }
 {
-    let x = o.first;
-    let y = o.second;
+    let Operands {
+        rs1,
+        first: x,
+        rs2,
+        second: y,
+    } = o;
     if x.kind == START_OR_NULL {
-        return Reach::Outside(MAYBE_NULL, o.rs1);
+        return Reach::Outside(MAYBE_NULL, rs1);
     }
     if y.kind == START_OR_NULL {
-        return Reach::Outside(MAYBE_NULL, o.rs2);
+        return Reach::Outside(MAYBE_NULL, rs2);
     }
     if frame {
-        return Reach::Outside(NO_RULE, o.rs1);
+        return Reach::Outside(NO_RULE, rs1);
     }
     if x.kind == ADDRESS && y.kind == NUMBER {
-        return in_region(policy, a, o.rs1, x.region, add_sets(x.set, y.set));
+        return in_region(policy, a, rs1, x.region, add_sets(x.set, y.set));
     }
     if x.kind == NUMBER && y.kind == ADDRESS {
-        return in_region(policy, a, o.rs1, y.region, add_sets(x.set, y.set));
+        return in_region(policy, a, rs1, y.region, add_sets(x.set, y.set));
     }
-    frame_reach(a, o.rs1, x, y)
+    frame_reach(a, rs1, x, y)
 }

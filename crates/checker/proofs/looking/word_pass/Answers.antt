@@ -1,5 +1,5 @@
 -- The loop's invariant: the pass from the present word on gives the answer of the whole pass.
-use mathlib.Core.Path.{◌≡◌, sym, ap, ◌∙◌}
+use mathlib.Core.Path.{◌≡◌, sym, ◌∙◌}
 use native.Mathlib.Omega.{arith}
 use Rattle.flow_code.specs.Lent.{code_of}
 use Rattle.checker.specs.Passes.{word_pass}
