@@ -1,22 +1,21 @@
 -- The words are read one by one: after i of them the array has, at every index below i, what the word there is read as, and nothing
 -- is read from there on; after all of them its first readings are those of the words.
-use Prim.Native.Nat.{ℕ, zero, suc, ◌+◌, ◌<◌, ◌≤◌}
+use Prim.Native.Nat.{ℕ, zero, suc, ◌<◌, ◌≤◌}
 use mathlib.Core.Path.{◌≡◌, refl, sym, ◌∙◌}
-use mathlib.Core.Bool.{Bool, true, false, cond}
+use mathlib.Core.Bool.{cond}
 use mathlib.Core.List.{List}
 use native.Mathlib.Omega.{arith}
-use lib.Dec.{ltb, eqb}
-use lib.ListN.{length, get_or, set, replicate}
-use lib.Seq.{length-take-le, get_or-take, get_or-set_same, get_or-set_other, ext_get_or}
-use borrow.Author.Tests.{lt-ltb, le-ltb, ltb-true, ltb-false, eqb-true, eqb-false}
+use lib.Dec.{ltb}
+use lib.ListN.{length, replicate}
+use lib.Seq.{length-take-le, get_or-take, ext_get_or}
+use borrow.Author.Tests.{lt-ltb, le-ltb}
 use Rattle.v8.specs.declared.Edition.{Edition}
 use Rattle.v8.specs.declared.Reading.{Reading}
 use Rattle.v8.specs.declared.Reading.TheVariants.{Unread}
 use Rattle.v8.specs.Numbers.{not_read, most_words}
-use Rattle.v8.specs.Read.{reading_of}
 use Rattle.flow_code.specs.Readings.{readings_of, reading_at}
 use Rattle.flow_code.specs.Lent.{code_of, Formed, ReadAs}
-use Rattle.flow_code.proofs.Fetched.{read_count, fetched}
+use Rattle.flow_code.proofs.Fetched.{read_count}
 
 -- the first i words are read
 abbrev pub Filled : Edition → List ℕ → List Reading → ℕ → Type 0
