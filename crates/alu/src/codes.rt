@@ -22,13 +22,15 @@ fn negative(x: u32) -> bool
     x.cast_signed().is_negative()
 }
 
-// Whether the signed result leaves 32 bits, from bit 31 of the operands and of the result.
+// Whether the signed result leaves 32 bits, from bit 31 of the operands and of the result. A sum does
+// where its sign is neither operand's; a difference, where the operands differ in sign and it has not
+// the sign of the first.
 fn overflow(op: AluOp, x: bool, y: bool, r: bool) -> bool
     ensures { result ≡ overflow_of op x y r }
 {
     match op {
-        AluOp::Add => (x & y & !r) | (!x & !y & r),
-        AluOp::Sub => (x & !y & !r) | (!x & y & r),
+        AluOp::Add => x == y && r != x,
+        AluOp::Sub => x != y && r != x,
         _ => false,
     }
 }

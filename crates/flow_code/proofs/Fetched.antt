@@ -7,6 +7,7 @@ use mathlib.Core.List.{List, [], ◌∷◌}
 use native.Mathlib.Omega.{arith}
 use native.Mathlib.Nat.{le_of_suc-le-suc, not-suc-le-zero}
 use lib.Dec.{ltb}
+use Rattle.std.proofs.lemmas.List.{length-map, get_or-map, get_or_past, get_or_default}
 use lib.ListN.{length, get_or}
 use lib.Seq.{length-take-le, get_or-take}
 use borrow.Author.Tests.{ltb-true, ltb-false}
@@ -20,26 +21,15 @@ use Rattle.flow_code.specs.Lent.{code_of, Formed}
 
 -- as many words are read as there are
 pub read_count : (e : Edition) (words : List ℕ) → length (readings_of e words) ≡ length words
-read_count e [] = refl
-read_count e (x ∷ xs) = ap suc (read_count e xs)
+read_count e words = length-map words (reading_of e)
 
 -- a word of the code
 pub fetched : (e : Edition) (words : List ℕ) (w : ℕ) → w < length words → reading_at (readings_of e words) w ≡ reading_of e (get_or words w 0)
-fetched e [] w l = absurd (not-suc-le-zero l)
-fetched e (x ∷ xs) zero l = refl
-fetched e (x ∷ xs) (suc w) l = fetched e xs w (le_of_suc-le-suc l)
+fetched e words w l = get_or-map (reading_of e) words w 0 (Unread not_read) l
 
 -- one outside it
 pub outside : (readings : List Reading) (w : ℕ) → length readings ≤ w → reading_at readings w ≡ Unread not_read
-outside [] w l = refl
-outside (x ∷ xs) zero l = absurd (not-suc-le-zero l)
-outside (x ∷ xs) (suc w) l = outside xs w (le_of_suc-le-suc l)
-
--- an element of a list, whatever stands for those outside it
-pub any_default : (readings : List Reading) (w : ℕ) (x y : Reading) → w < length readings → get_or readings w x ≡ get_or readings w y
-any_default [] w x y h = absurd (not-suc-le-zero h)
-any_default (r ∷ rs) zero x y h = refl
-any_default (r ∷ rs) (suc w) x y h = any_default rs w x y (le_of_suc-le-suc h)
+outside readings w l = get_or_past readings w (Unread not_read) l
 
 module _ (readings : List Reading) (n : ℕ) (ok : Formed readings n) where
   -- how many words there are
@@ -60,7 +50,7 @@ module _ (readings : List Reading) (n : ℕ) (ok : Formed readings n) where
 
   -- what the array has, whatever stands for what is outside it
   pub array_has : (w : ℕ) (other : Reading) → w < most_words → get_or readings w other ≡ reading_at (code_of readings n) w
-  array_has w other h = any_default readings w other (Unread not_read) (omega (arith, ok.long, h)) ∙ at_index w
+  array_has w other h = get_or_default readings w other (Unread not_read) (omega (arith, ok.long, h)) ∙ at_index w
 
   -- what is read where it ends
   pub past_array : (w : ℕ) → most_words ≤ w → Unread not_read ≡ reading_at (code_of readings n) w
