@@ -5,8 +5,8 @@ use crate::record::{AFTER, BEFORE, REGIONS, SIZES, field_count, words_end};
 use policy::Policy;
 use records::given::policy_given;
 use records::reading::Numbers;
-use std::array;
 use states::codes_of;
+use std::array;
 use step::{MARKS, MarkedCodes, Registers};
 
 // The policy, as it stands: it may break rules.
