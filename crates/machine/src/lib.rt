@@ -27,10 +27,7 @@ fn refusal(
     if !policy.well_formed() {
         return BAD_POLICY;
     }
-    if words.len() < 1 {
-        return BAD_SHAPE;
-    }
-    if MOST_WORDS < words.len() {
+    if words.is_empty() || MOST_WORDS < words.len() {
         return BAD_SHAPE;
     }
     if !placed(policy, bases, returns, frame, memory) {

@@ -27,6 +27,7 @@ fn apart(base: u32, size: u16, other: u32, extent: u16) -> bool
 }
 
 // Whether bytes at a base share none with the first n regions.
+#[tactic(auto, using(v8::proofs::Search::all_none, v8::proofs::Search::all_more))]
 fn apart_from_all(regions: &Regions, bases: &[u32], base: u32, size: u16, n: usize) -> bool
     requires { (n ≤ 8) × (n ≤ length bases.now) }
     ensures { result ≡ apart_from_all regions.now.sizes bases.now base size n }

@@ -45,6 +45,13 @@ pub struct Ended {
     pub steps: u64,
 }
 
+// A run that ends after some steps.
+fn end_after(end: End, steps: u64) -> Ended
+    ensures { result ≡ record { end = end; steps = steps } }
+{
+    Ended { end, steps }
+}
+
 // Runs from word 0 until the run has returned, has spent the allowance, or stops at a fault.
 pub fn run_steps(
     edition: Edition,
@@ -72,10 +79,7 @@ pub fn run_steps(
     while steps < allowance {
         let i = control.at.0 as usize;
         if MOST_WORDS <= i {
-            return Ended {
-                end: End::Fault(NO_WORD),
-                steps,
-            };
+            return end_after(End::Fault(NO_WORD), steps);
         }
         let r = one_step(control, registers, readings[i], returns);
         match r.progress {
@@ -83,45 +87,22 @@ pub fn run_steps(
                 control = r.control;
                 steps += 1;
             }
-            Progress::Returned => {
-                return Ended {
-                    end: End::Returned,
-                    steps: steps + 1,
-                };
-            }
-            Progress::Stopped(n) => {
-                return Ended {
-                    end: End::Fault(n),
-                    steps,
-                };
-            }
+            Progress::Returned => return end_after(End::Returned, steps + 1),
+            Progress::Stopped(n) => return end_after(End::Fault(n), steps),
             Progress::Accesses(a, rd, address) => {
                 match access_to(policy, bases, frame, registers, memory, a, rd, address) {
                     Moved::Done => {}
-                    Moved::Missed(n) => {
-                        return Ended {
-                            end: End::Fault(n),
-                            steps,
-                        };
-                    }
+                    Moved::Missed(n) => return end_after(End::Fault(n), steps),
                 }
                 match due(control) {
                     Destination::To(at) => {
                         control = Control { at, pending: None };
                         steps += 1;
                     }
-                    Destination::Caller => {
-                        return Ended {
-                            end: End::Returned,
-                            steps: steps + 1,
-                        };
-                    }
+                    Destination::Caller => return end_after(End::Returned, steps + 1),
                 }
             }
         }
     }
-    Ended {
-        end: End::Spent,
-        steps,
-    }
+    end_after(End::Spent, steps)
 }

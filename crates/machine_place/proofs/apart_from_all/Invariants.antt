@@ -1,4 +1,3 @@
-use Prim.Native.Nat.{◌≤◌}
 use mathlib.Core.Path.{◌≡◌}
 use mathlib.Core.Bool.{true}
 use Rattle.v8.specs.Search.{all}
@@ -6,4 +5,4 @@ use Rattle.machine_place.specs.Placement.{apart_from_region}
 use Rattle.machine_place.proofs.apart_from_all.Given as goal
 
 abbrev pub invariant-loop-i : goal.invariant-loop-i
-invariant-loop-i l = (l.i ≤ l.n) × (all (apart_from_region l.regions.sizes l.bases l.base l.size) l.i ≡ true)
+invariant-loop-i l = (all (apart_from_region l.regions.sizes l.bases l.base l.size) l.i ≡ true)

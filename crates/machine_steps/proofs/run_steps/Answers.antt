@@ -81,7 +81,7 @@ returns-then-i-ge-MOST_WORDS c =
     let r = (goal.at.returns-then-i-ge-MOST_WORDS c).After-read_all-readings in
     let outside = past_array c.read_all-readings.result _ c.read_all-readings.ensures.formed c.loop-steps.control.at.0 c.if-i-ge-MOST_WORDS.true in
     let run = turn_outside (setting_read c.args.policy.now c.args.words.now c.args.bases.now c.args.returns c.args.frame c.read_all-readings.result) _ _ (record { control = c.loop-steps.control; core = core_of c.loop-steps.registers c.loop-steps.memory }) (sym outside) c.loop-steps-test.true in
-    sym (c.loop-steps.invariant.2 ∙ run) ∙ run-as r _ _ _
+    rw c.end_after.ensures (sym (c.loop-steps.invariant.2 ∙ run) ∙ run-as r _ _ _)
 
 pub loop-steps-preserved-in-Goes : goal.loop-steps-preserved-in-Goes
 loop-steps-preserved-in-Goes c =
@@ -91,12 +91,12 @@ loop-steps-preserved-in-Goes c =
 pub returns-in-Returned : goal.returns-in-Returned
 returns-in-Returned c =
     let at = goal.at.returns-in-Returned c in
-    sym (c.loop-steps.invariant.2 ∙ turn_returned (turned at.After-one_step-r) c.in-Returned.is) ∙ run-as at.After-read_all-readings _ _ _
+    rw c.end_after-in-Returned.ensures (sym (c.loop-steps.invariant.2 ∙ turn_returned (turned at.After-one_step-r) c.in-Returned.is) ∙ run-as at.After-read_all-readings _ _ _)
 
 pub returns-in-Stopped : goal.returns-in-Stopped
 returns-in-Stopped c =
     let at = goal.at.returns-in-Stopped c in
-    sym (c.loop-steps.invariant.2 ∙ turn_stopped (turned at.After-one_step-r) _ c.in-Stopped.is) ∙ run-as at.After-read_all-readings _ _ _
+    rw c.end_after-in-Stopped.ensures (sym (c.loop-steps.invariant.2 ∙ turn_stopped (turned at.After-one_step-r) _ c.in-Stopped.is) ∙ run-as at.After-read_all-readings _ _ _)
 
 pub access_to-requires : goal.access_to-requires
 access_to-requires c =
@@ -107,7 +107,7 @@ pub returns-in-Missed : goal.returns-in-Missed
 returns-in-Missed c =
     let at = goal.at.returns-in-Missed c in
     let a = accessed at.After-access_to (turned at.After-one_step-r) in
-    sym (c.loop-steps.invariant.2 ∙ turn_missed a _ c.in-Missed.is) ∙ run-as at.After-read_all-readings _ _ _
+    rw c.end_after-in-Missed.ensures (sym (c.loop-steps.invariant.2 ∙ turn_missed a _ c.in-Missed.is) ∙ run-as at.After-read_all-readings _ _ _)
 
 pub loop-steps-preserved : goal.loop-steps-preserved
 loop-steps-preserved c =
@@ -121,9 +121,9 @@ returns-in-Caller c =
     let at = goal.at.returns-in-Caller c in
     let a = accessed at.After-access_to (turned at.After-one_step-r) in
     let to = sym c.due.ensures ∙ c.in-Caller.is in
-    sym (c.loop-steps.invariant.2 ∙ turn_left a c.in-Done.is to) ∙ run-as at.After-read_all-readings _ _ _
+    rw c.end_after-in-Caller.ensures (sym (c.loop-steps.invariant.2 ∙ turn_left a c.in-Done.is to) ∙ run-as at.After-read_all-readings _ _ _)
 
 pub returns : goal.returns
 returns c =
     let r = (goal.at.returns c).After-read_all-readings in
-    sym (c.loop-steps.invariant.2 ∙ turn_spent _ _ _ _ c.loop-steps-test.false) ∙ run-as r _ _ _
+    rw c.end_after-2.ensures (sym (c.loop-steps.invariant.2 ∙ turn_spent _ _ _ _ c.loop-steps-test.false) ∙ run-as r _ _ _)
