@@ -22,10 +22,11 @@ fn list_wide(edition: Edition, bytes: &[u8], opened: &Opened, table: &mut [u8]) 
     ensures { record { answer = result; table = table.new }
         ≡ bundle_listed edition bytes.now table.old }
 {
+    let words = &opened.words[..opened.count];
     list_kinds(
         edition,
         &opened.policy,
-        &opened.words[..opened.count],
+        words,
         &bytes[opened.entry..opened.result],
         table,
     )
@@ -41,13 +42,8 @@ fn list_narrow(edition: Edition, bytes: &[u8], opened: &Opened, table: &mut [u8]
 {
     let mut row = [0u8; ROW_BYTES];
     widen(bytes, opened.entry, 1, &mut row);
-    list_kinds(
-        edition,
-        &opened.policy,
-        &opened.words[..opened.count],
-        &row,
-        table,
-    )
+    let words = &opened.words[..opened.count];
+    list_kinds(edition, &opened.policy, words, &row, table)
 }
 
 // Lists the kinds of a bundle's routine, for a terminal of the edition, in a lent table. Any bytes have

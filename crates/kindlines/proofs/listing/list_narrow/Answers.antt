@@ -13,8 +13,8 @@ widen-requires c = let pre = c.requires in
     let laid = narrow_laid _ _ pre.0 pre.2 in
     (omega (arith, laid.0, places.3, places.4, places.5, places.6), omega arith, omega arith)
 
-pub slice_bounds-list_kinds-end : goal.slice_bounds-list_kinds-end
-slice_bounds-list_kinds-end c = let opened = c.args.opened.now in
+pub slice_bounds-words-end : goal.slice_bounds-words-end
+slice_bounds-words-end c = let opened = c.args.opened.now in
     let places = c.requires.1 in
     sym (length-take-le opened.count opened.words (omega (arith, places.0, places.1)))
 

@@ -5,8 +5,8 @@ use lib.Seq.{length-take-le}
 use Rattle.kindlines.proofs.Lent.{wide_is}
 use Rattle.kindlines.proofs.listing.list_wide.Goals as goal
 
-pub slice_bounds-list_kinds-end : goal.slice_bounds-list_kinds-end
-slice_bounds-list_kinds-end c = let opened = c.args.opened.now in
+pub slice_bounds-words-end : goal.slice_bounds-words-end
+slice_bounds-words-end c = let opened = c.args.opened.now in
     let places = c.requires.1 in
     sym (length-take-le opened.count opened.words (omega (arith, places.0, places.1)))
 
