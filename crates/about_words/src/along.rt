@@ -50,13 +50,9 @@ pub fn along(policy: &Policy, e: Edge, x: Reading, row: Row) -> Option<OnWay> {
     Some(OnWay { handed, made })
 }
 
-// Whether two entries are the same.
+// Whether two entries are the same; rows has no other use for a derived equality of entries.
 fn same(a: Entry, b: Entry) -> bool {
-    a.kind == b.kind
-        && a.region == b.region
-        && a.set.step == b.set.step
-        && a.set.lo == b.set.lo
-        && a.set.hi == b.set.hi
+    a.kind == b.kind && a.region == b.region && a.set == b.set
 }
 
 // Why an edge of a class narrowed nothing, by the number of the item `kept`, or none where it did: the

@@ -2,7 +2,7 @@
 ghost use Rattle.std.specs.Prelude.{◌≡◌, length};
 ghost use Rattle.lister.specs.Listing.{listable, listed};
 
-use crate::raising::raised_until_closed;
+use crate::raising::raise_until_closed;
 use flow_code::{examine_all, read_all};
 use lister_rules::TABLE_MARKS;
 use passes::answers::{accept, refuse};
@@ -49,6 +49,6 @@ pub fn list_kinds(
     if flows.number != ACCEPTED {
         return flows;
     }
-    table.copy_from_slice(&raised_until_closed(&readings, count, &examined, entry));
+    table.copy_from_slice(&raise_until_closed(&readings, count, &examined, entry));
     accept()
 }

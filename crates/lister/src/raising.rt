@@ -15,7 +15,7 @@ use v8::{Reading, WordIndex};
 
 // The table raised by the entry row's kinds at word 0 and by all that the words send, from no marks
 // until it is closed.
-pub fn raised_until_closed(
+pub fn raise_until_closed(
     readings: &[Reading; MOST_WORDS],
     count: usize,
     examined: &[bool; MOST_WORDS],

@@ -16,7 +16,8 @@ use v8::numbers::MOST_WORDS;
 use v8::{Instruction, Reading, WordIndex};
 
 // A table that is being raised, for `count` words. A word that is raised has its own marks to pass on,
-// and is flagged; `next` is the lowest that may have some.
+// and is flagged; `next` is the lowest that may have some. The bound of `count` stands in the contracts: as
+// a ghost field it would leave the fields without names in the invariant of the loop that raises.
 #[derive(Clone, Copy)]
 pub struct Work {
     pub table: [u8; TABLE_MARKS],

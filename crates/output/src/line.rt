@@ -5,7 +5,8 @@ ghost use Rattle.output.specs.Line.{Adds, LineOf};
 const SPACE: u8 = b' ';
 const NEWLINE: u8 = b'\n';
 
-// A line: the first `count` bytes of the text.
+// A line: the first `count` bytes of the text. It is its own value, and no slice, since LineOf and all that
+// is proved of replies speak of a line that is returned.
 #[derive(Clone, Copy)]
 pub struct Line {
     pub text: [u8; 64],

@@ -54,4 +54,4 @@ pub returns : goal.returns
 returns c =
     let p = c.flow_pass-flows in
     let e = left3 (goal.at.returns c).Else-read-ne-ACCEPTED ∙ sym (p.ensures ∙ over _ _ flow_pass _ c.read_all-readings.ensures.is) ∙ pass_accepts _ _ p.result p.ensures c.if-flows-ne-ACCEPTED.false in
-    rw (c.accept.ensures, c.copy_from_slice.ensures.after, c.raised_until_closed.ensures, c.read_all-readings.ensures.is) (lists c.args.edition c.args.policy.now c.args.words.now c.args.entry.now c.args.table.now e)
+    rw (c.accept.ensures, c.copy_from_slice.ensures.after, c.raise_until_closed.ensures, c.read_all-readings.ensures.is) (lists c.args.edition c.args.policy.now c.args.words.now c.args.entry.now c.args.table.now e)

@@ -13,8 +13,8 @@ use Rattle.flow_code.proofs.Fetched.{array_has, at_index, code_count}
 use Rattle.lister_rules.specs.Table.{raised_at}
 use Rattle.lister_rules.specs.Work.{is_pending}
 use Rattle.lister.proofs.Closing.{Raises, left, raises_start, raises_over, goes_on, raises_end}
-use Rattle.lister.proofs.raising.raised_until_closed.Goals as goal
-use Rattle.lister.proofs.raising.raised_until_closed.Goals.{After-pass_on, else-work-w-via-then-work-w+else-examined-w, else-work-w-via-else-work-w}
+use Rattle.lister.proofs.raising.raise_until_closed.Goals as goal
+use Rattle.lister.proofs.raising.raise_until_closed.Goals.{After-pass_on, else-work-w-via-then-work-w+else-examined-w, else-work-w-via-else-work-w}
 
 -- the word passes on what it sends
 abbrev At : After-pass_on → Type 0
