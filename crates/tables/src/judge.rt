@@ -1,15 +1,13 @@
 // A listing made again, and compared with the one that is expected.
 use crate::record::{
-    EDITION, MOST_BYTES, NUMBER, REGIONS, REGISTER, SIZES, WORD, WORDS, entry_length, field_count,
-    read_entry, read_marks, table_length, words_end,
+    EDITION, MOST_BYTES, NUMBER, REGISTER, WORD, entry_length, policy_of, read_entry, read_marks,
+    table_length, words_of,
 };
 use lister::list_kinds;
 use lister_rules::TABLE_MARKS;
 use output::print_wrong;
 use passes::Answer;
-use policy::Policy;
 use records::edition::edition_of;
-use records::given::policy_given;
 use records::judging::Wrong;
 use records::reading::{BadRecord, Numbers};
 use v8::Edition;
@@ -59,13 +57,6 @@ fn table_after(numbers: &Numbers, marks: &[u8; MOST_BYTES]) -> [u8; MOST_BYTES] 
     table
 }
 
-// The policy, as it stands: it may break rules.
-fn policy_of(numbers: &Numbers) -> Policy {
-    let first = words_end(numbers);
-    let fields = &numbers[first..first + 4 * field_count(numbers)];
-    policy_given(numbers[REGIONS], &numbers[SIZES..SIZES + 16], fields)
-}
-
 // The answer to the record's routine, with the table lent.
 fn answer_of(
     edition: Edition,
@@ -73,9 +64,8 @@ fn answer_of(
     row: &[u8; MOST_BYTES],
     table: &mut [u8],
 ) -> Answer {
-    let policy = policy_of(numbers);
-    let words = &numbers[WORDS..words_end(numbers)];
-    list_kinds(edition, &policy, words, &row[..entry_length(numbers)], table)
+    let entry = &row[..entry_length(numbers)];
+    list_kinds(edition, &policy_of(numbers), words_of(numbers), entry, table)
 }
 
 // Makes the listing again, and compares its answer and all bytes of the table and behind it.

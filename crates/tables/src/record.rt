@@ -10,6 +10,8 @@
 // accepted listing must have; those after them are 0.
 ghost use Rattle.std.specs.Prelude.{◌≤◌};
 
+use policy::Policy;
+use records::given::policy_given;
 use records::reading::{BadRecord, Numbers, count_of, read_bytes};
 
 pub const EDITION: usize = 0;
@@ -26,15 +28,15 @@ const ENTRY_LENGTH: usize = 5;
 
 const WORD_COUNT: usize = 6;
 
-pub const REGIONS: usize = 7;
+const REGIONS: usize = 7;
 
 const FIELD_COUNT: usize = 8;
 
 const MARK_COUNT: usize = 9;
 
-pub const SIZES: usize = 10;
+const SIZES: usize = 10;
 
-pub const WORDS: usize = 26;
+const WORDS: usize = 26;
 
 // The most words and fields of a record.
 const MOST_WORDS: u32 = 200;
@@ -45,17 +47,23 @@ const MOST_FIELDS: u32 = 128;
 pub const MOST_BYTES: usize = 4104;
 
 // Where the words end and the fields begin.
-pub fn words_end(numbers: &Numbers) -> usize
+fn words_end(numbers: &Numbers) -> usize
     ensures { (26 ≤ result) × (result ≤ 226) }
 {
     WORDS + count_of(numbers[WORD_COUNT], MOST_WORDS)
 }
 
-// How many fields there are.
-pub fn field_count(numbers: &Numbers) -> usize
-    ensures { result ≤ 128 }
-{
-    count_of(numbers[FIELD_COUNT], MOST_FIELDS)
+// The words.
+pub fn words_of(numbers: &Numbers) -> &[u32] {
+    &numbers[WORDS..words_end(numbers)]
+}
+
+// The policy, as it stands: it may break rules.
+pub fn policy_of(numbers: &Numbers) -> Policy {
+    let first = words_end(numbers);
+    let count = count_of(numbers[FIELD_COUNT], MOST_FIELDS);
+    let fields = &numbers[first..first + 4 * count];
+    policy_given(numbers[REGIONS], &numbers[SIZES..SIZES + 16], fields)
 }
 
 // How long the lent table is.
