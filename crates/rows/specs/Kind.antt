@@ -1,5 +1,5 @@
 -- The kinds of entries (document 01, "Rows"), told apart once: what an entry says is defined by its kind, a clause for each.
-use Rattle.std.specs.Prelude.{ℕ, List, [], ◌∷◌, get_or}
+use Rattle.std.specs.Prelude.{ℕ, [], ◌∷◌, get_or}
 
 -- "0 unset, 4 return address"; "1 number"; "2 address: region start plus an offset"; "3 address of a region's start, or null"; request 7: "Kind
 -- 5 is the frame address"; any other number is no kind

@@ -42,7 +42,6 @@ pub fn scratch_unset(bytes: &[u8], at: usize) -> bool
 }
 
 // Whether the place so named of a row fits that of the row that begins at a byte.
-#[tactic(auto, using(v8::proofs::Choice::tests), unfolding(crate::specs::Row::fits_at))]
 fn fits_at(row: &Row, bytes: &[u8], at: usize, place: u8) -> bool
     requires { RowLies at (length bytes.now) × (place < places) }
     ensures { result ≡ fits_at row.now (row_of bytes.now at) place }

@@ -1,11 +1,11 @@
 -- `store` meets its contract: the bytes that are put over a part of the slice are the value's low bytes, and the store's width gives the
 -- bounds.
-use Rattle.std.proofs.Common.{ℕ, ◌+◌, ◌-◌, ◌%◌, ◌≤◌, ◌≡◌, ◌∙◌, ◌/◌, List, length, append_assoc, arith}
+use Rattle.std.proofs.Common.{ℕ, ◌+◌, ◌%◌, ◌≤◌, ◌≡◌, ◌∙◌, ◌/◌, List, length, append_assoc, arith}
 use native.Mathlib.Nat.{div-one}
 use lib.Seq.{sets, sets-eq, drop-drop}
 use borrow.Rule.Slice.PartMut.{put_mid}
 use Rattle.std.specs.Int.{w16, w32, to_be_bytes}
-use Rattle.memory.specs.Memory.{low_bytes, store_width}
+use Rattle.memory.specs.Memory.{low_bytes}
 use Rattle.memory.proofs.big_endian.store.Goals as goal
 
 -- bytes put over a part of a memory stand in the whole one after the other

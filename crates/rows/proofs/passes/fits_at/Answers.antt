@@ -1,7 +1,5 @@
 -- `fits_at` meets its contract: the note where its place is named, else the entry that the place names.
-use mathlib.Core.Path.{sym, ◌∙◌, ap}
 use borrow.Author.Tests.{ne_eqb}
-use Rattle.rows.specs.Entry.{fits, fits_note}
 use Rattle.rows.proofs.RowFit.{fits_entry, fits_note_named}
 use Rattle.rows.proofs.passes.fits_at.Goals as goal
 
