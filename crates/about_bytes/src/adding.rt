@@ -1,4 +1,6 @@
 // A policy that is refused: the region or the field whose add is.
+ghost use Rattle.std.specs.Prelude.{◌<◌};
+
 use about_items::fields::end_field;
 use about_items::items::{done, single, value};
 use bundle_layout::{
