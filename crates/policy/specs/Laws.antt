@@ -1,6 +1,6 @@
 -- What later parts rest on, in plain facts: what a policy that obeys the rules says of each region and field, that a byte lies in one
 -- field at most, and that the operations keep the rules (document 01, "Policy"). The proofs are in proofs/.
-use Rattle.std.specs.Prelude.{ℕ, ◌+◌, ◌-◌, ◌%◌, ◌≤◌, ◌<◌, ◌≡◌, true, length}
+use Rattle.std.specs.Prelude.{ℕ, ◌+◌, ◌%◌, ◌≤◌, ◌<◌, ◌≡◌, true, length}
 use Rattle.policy.specs.Element.{width_of, least_of, most_of}
 use Rattle.policy.specs.Policy.{size_of, count_of, place_of, field_at, field_end, size_ok, field_fits, policy_ok}
 use Rattle.v8.specs.Signed.{bias}

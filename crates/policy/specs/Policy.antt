@@ -1,6 +1,6 @@
 -- The rules that a policy obeys (document 01, "Policy"), each a test of numbers. A policy holds its fields in one list:
 -- field k of region r stands at place 16 r + k. No rule reads a place that is not in use.
-use Rattle.std.specs.Prelude.{ℕ, ◌+◌, ◌*◌, ◌-◌, ◌%◌, Bool, cond, ◌&&◌, ◌||◌, List, leb, ltb, eqb, get_or}
+use Rattle.std.specs.Prelude.{ℕ, ◌+◌, ◌*◌, ◌-◌, ◌%◌, Bool, cond, ◌&&◌, ◌||◌, leb, ltb, eqb, get_or}
 use Rattle.v8.specs.Signed.{bias}
 use Rattle.v8.specs.Search.{all}
 use Rattle.policy.specs.Element.{width_of, least_of, most_of}

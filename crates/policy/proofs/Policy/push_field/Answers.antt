@@ -1,17 +1,14 @@
 -- The tests of the add, one by one. The region exists, so it is one of the eight, and it has room, so the field has a place in the
 -- arrays; the next policy is the one defined.
-use Prim.Native.Nat.{ℕ, ◌+◌, ◌<◌}
+use Prim.Native.Nat.{ℕ, ◌<◌}
 use mathlib.Core.Path.{◌≡◌, sym, ◌∙◌}
 use mathlib.Core.Bool.{true, false}
-use mathlib.Core.List.{List}
-use lib.ListN.{set}
 use lib.Dec.{leb}
 use native.Mathlib.Omega.{arith}
 use borrow.Author.Tests.{lt-leb, le-leb}
 use Rattle.v8.specs.Numbers.{acceptance}
 use Rattle.policy.specs.declared.Field.{Field}
 use Rattle.policy.specs.declared.Policy.{Policy}
-use Rattle.policy.specs.declared.Built.{Built}
 use Rattle.policy.specs.Policy.{size_of, count_of, place_of, end_before, field_follows, field_fits, policy_ok}
 use Rattle.policy.specs.Build.{with_field, field_number, built, add_field_of}
 use Rattle.policy.proofs.WellFormed.{regions_at_most}

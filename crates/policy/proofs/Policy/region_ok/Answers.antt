@@ -1,4 +1,4 @@
--- The test of a region is the one that is defined. Invariant: the fields below k obey the rules, and `end` is where they end. 
+-- The test of a region is the one that is defined. Invariant: the fields below k obey the rules, and `end` is where they end.
 use Prim.Native.Nat.{ℕ, ◌≤◌}
 use mathlib.Core.Bool.{true, and-false}
 use mathlib.Core.Path.{◌≡◌, refl, sym, ◌∙◌}
