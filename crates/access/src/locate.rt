@@ -63,13 +63,7 @@ fn in_frame(frame: u32, a: Access, address: u32) -> Located
 
 // Where an access to an address lies. A region that the address lies in is found first, and there the
 // field; else the frame is looked at.
-pub fn locate_access(
-    policy: &Policy,
-    bases: &[u32],
-    frame: u32,
-    a: Access,
-    address: u32,
-) -> Located
+pub fn locate_access(policy: &Policy, bases: &[u32], frame: u32, a: Access, address: u32) -> Located
     requires { (policy.now.regions.count ≤ 8) × (policy.now.regions.count ≤ length bases.now) }
     ensures { result ≡ locate (layout_of policy.now bases.now frame) a address }
 {

@@ -71,12 +71,7 @@ pub fn find_in(policy: &Policy, region: u8, low: ByteOffset, end: ByteOffset) ->
 
 // The lowest field of a region that holds the bytes from low up to end, which is not among them, and
 // how many fields were looked at. Refused: 20 if the policy breaks a rule or has no such region.
-pub fn find_field(
-    policy: &Policy,
-    region: u8,
-    low: ByteOffset,
-    end: ByteOffset,
-) -> FieldSearch
+pub fn find_field(policy: &Policy, region: u8, low: ByteOffset, end: ByteOffset) -> FieldSearch
     ensures { result ≡ search_of policy.now region low.0 end.0 }
 {
     if policy.well_formed() & (region < policy.regions.count) {

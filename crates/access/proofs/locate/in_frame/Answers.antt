@@ -1,7 +1,4 @@
 -- `in_frame` meets its contract: its three tests are those of the definition, and the offset of a scratch word is one.
-use mathlib.Core.Path.{sym, ◌∙◌}
-use borrow.Author.Tests.{leb-true}
-use Rattle.v8.proofs.Choice.{and_went}
 use Rattle.access.specs.Locate.{scratch_in}
 use Rattle.access.proofs.locate.in_frame.Goals as goal
 

@@ -27,7 +27,7 @@ loop-r-preserved c =
     let a = c.args in (
       omega arith,
       c.loop-r.invariant.1
-      ∙ first_next (inside_region a.regions.now.sizes a.bases.now a.address) _ _ c.loop-r-test.true (rw c.extent.ensures.0 at c.if-base-address.false),
+          ∙ first_next (inside_region a.regions.now.sizes a.bases.now a.address) _ _ c.loop-r-test.true (rw c.extent.ensures.0 at c.if-base-address.false),
     )
 
 pub returns-clause-none : goal.returns-clause-none
