@@ -40,8 +40,8 @@ pub fn checked_run(
     ensures ran { checked_left result memory.new
         ≡ checked_run_of edition policy.now words.now rows.now entry.now res.now
         bases.now returns frame registers allowance memory.old }
-    ensures guaranteed { HoldsTo edition policy.now words.now entry.now res.now bases.now returns frame registers allowance
-        memory.old (checked_left result memory.new) }
+    ensures guaranteed { HoldsTo edition policy.now words.now entry.now res.now
+        bases.now returns frame registers allowance memory.old (checked_left result memory.new) }
 {
     let answer = check(edition, policy, words, rows, entry, res);
     if answer.number != ACCEPTED {

@@ -50,8 +50,11 @@ pub fn run(
     allowance: u64,
     memory: &mut [u8],
 ) -> Outcome
-    ensures ran { left_by result memory.new ≡ run_of edition policy.now words.now bases.now returns frame registers allowance memory.old }
-    ensures number { end_number result.end ≡ end_number (run_of edition policy.now words.now bases.now returns frame registers allowance memory.old).outcome.end }
+    ensures ran { left_by result memory.new
+        ≡ run_of edition policy.now words.now bases.now returns frame registers allowance memory.old }
+    ensures number { end_number result.end
+        ≡ end_number
+        (run_of edition policy.now words.now bases.now returns frame registers allowance memory.old).outcome.end }
 {
     let number = refusal(policy, words, bases, returns, frame, memory);
     if number != ACCEPTED {

@@ -63,7 +63,8 @@ fn access_at(
 )
     requires { Covered regions.now.sizes (length memory.old) (access_width a) region offset.0 }
     ensures { done (core_of registers.new memory.new)
-        ≡ touching (core_of registers.old memory.old) a rd (part_start regions.now.sizes region + offset.0) }
+        ≡ touching (core_of registers.old memory.old)
+        a rd (part_start regions.now.sizes region + offset.0) }
 {
     let i = region as usize;
     let size = extent(regions.sizes[i]);
@@ -116,7 +117,8 @@ pub fn access_to(
     requires { (policy.now.regions.count ≤ 8) × (policy.now.regions.count ≤ length bases.now)
         × Covers (layout_of policy.now bases.now frame) (length memory.old) }
     ensures { Moves result (core_of registers.new memory.new) (core_of registers.old memory.old)
-        (access_to (layout_of policy.now bases.now frame) (core_of registers.old memory.old) a rd address) }
+        (access_to (layout_of policy.now bases.now frame) (core_of registers.old memory.old)
+        a rd address) }
 {
     let regions = &policy.regions;
     match locate_access(policy, bases, frame, a, address) {

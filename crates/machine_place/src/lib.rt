@@ -3,7 +3,8 @@
 #![tactic(auto)]
 
 ghost use Rattle.std.specs.Prelude.{◌≡◌, ◌≤◌, length};
-ghost use Rattle.machine_place.specs.Placement.{base_placed, apart_from, apart_from_all, laid_in, frame_placed, placed_in};
+ghost use Rattle.machine_place.specs.Placement.{base_placed, apart_from, apart_from_all, laid_in};
+ghost use Rattle.machine_place.specs.Placement.{frame_placed, placed_in};
 
 use memory::frame::FRAME_BYTES;
 use memory::part_start;
@@ -70,7 +71,8 @@ fn frame_ok(regions: &Regions, bases: &[u32], frame: u32, n: usize) -> bool
 // together and the frame.
 pub fn placed(policy: &Policy, bases: &[u32], returns: u32, frame: u32, memory: &[u8]) -> bool
     requires { policy.now.regions.count ≤ 8 }
-    ensures { result ≡ placed_in policy.now.regions.count policy.now.regions.sizes bases.now returns frame memory.now }
+    ensures { result
+        ≡ placed_in policy.now.regions.count policy.now.regions.sizes bases.now returns frame memory.now }
 {
     let regions = &policy.regions;
     let count = regions.count as usize;

@@ -11,8 +11,8 @@
 //   9   the length of memory
 //   10  1 if memory is changed
 // A state is 34 numbers: 32 registers, their marks (bit r is that of register r), and the codes NZVC,
-// 16 more if they are set, with the marks of scratch words (bit 5 + k is that of word k). A field is 4 numbers: place, element, permission and target, a byte each;
-// offset and count, 16 bits each; lo; hi. The bytes are memory before, and memory after if it is changed.
+// 16 more if they are set, with the marks of scratch words (bit 5 + k is that of word k). A field is 4
+// numbers, as crates/records reads them. The bytes are memory before, and memory after if it is changed.
 ghost use Rattle.std.specs.Prelude.{◌≤◌};
 
 use records::reading::{BadRecord, Numbers, count_of, read_bytes};
