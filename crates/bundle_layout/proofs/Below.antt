@@ -1,7 +1,7 @@
 -- A test of every number below a bound, as an iterator makes it: the numbers one after the other, the first of them first.
 use Prim.Native.Nat.{ℕ, zero, suc, ◌+◌}
 use mathlib.Core.Path.{◌≡◌, refl, sym, ap, ◌∙◌}
-use mathlib.Core.Bool.{Bool, true, ◌&&◌, and-true, and_assoc}
+use mathlib.Core.Bool.{Bool, ◌&&◌, and-true, and_assoc}
 use native.Mathlib.Omega.{arith}
 use Rattle.std.specs.List.{range_with_len, list_all}
 use Rattle.v8.specs.Search.{all}

@@ -62,7 +62,7 @@ row_written b t x y z at place l m e f g =
     let k : length z ≡ 8 = ap length last ∙ length-part b (at + 384) 8 (omega arith) in
     let h : length u ≡ length t = length-put_mid t x place (place + 384 - place) (omega arith, omega arith) in
     let zeros : y ≡ replicate 72 0 =
-      f ∙ ap (λ (j : ℕ). replicate j 0) (ap length (between-part u (place + 384) (place + 456) 72 (omega arith)) ∙ length-part u (place + 384) 72 (omega arith)) in
+    f ∙ ap (λ (j : ℕ). replicate j 0) (ap length (between-part u (place + 384) (place + 456) 72 (omega arith)) ∙ length-part u (place + 384) 72 (omega arith)) in
     let j : length y ≡ 72 = ap length zeros ∙ length-replicate {A = ℕ} 72 0 in
     three_written t x y z place (place + 384) (place + 456) (place + row_bytes) _ _ _ (omega arith) (omega arith) (omega arith) (omega arith)
     ∙ cc

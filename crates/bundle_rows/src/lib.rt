@@ -22,8 +22,9 @@ fn widen_row(bytes: &[u8], at: usize, to: &mut [u8], place: usize)
 {
     to[place..place + REGISTERS_BYTES].copy_from_slice(&bytes[at..at + REGISTERS_BYTES]);
     to[place + REGISTERS_BYTES..place + NOTE_OFFSET].fill(0);
-    to[place + NOTE_OFFSET..place + ROW_BYTES]
-        .copy_from_slice(&bytes[at + REGISTERS_BYTES..at + NARROW_ROW_BYTES]);
+    to[place + NOTE_OFFSET..place + ROW_BYTES].copy_from_slice(
+        &bytes[at + REGISTERS_BYTES..at + NARROW_ROW_BYTES],
+    );
 }
 
 // Writes the n rows that stand from a place on, each with six unset entries, into a room.

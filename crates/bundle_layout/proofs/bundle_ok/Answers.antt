@@ -1,6 +1,6 @@
 -- The tests are those of the definition, one after the other; each is made only where those before it passed.
 use mathlib.Core.Bool.{Bool, true, false, ◌&&◌}
-use mathlib.Core.Path.{◌≡◌, sym, ap, ◌∙◌}
+use mathlib.Core.Path.{◌≡◌, sym, ◌∙◌}
 use lib.Dec.{eqb, leb}
 use lib.ListN.{length}
 use borrow.Author.Tests.{le-leb, lt-leb}
@@ -23,20 +23,20 @@ tested : (c : Joined-bytes-length_given) → c.if-bytes-length_given.value
 tested c =
     let b = c.args.bytes.now in
     let size : c.if-bytes-most_bytes.value ≡ leb (length b) c.most_bytes.result && head_ok b =
-      elim c.if-bytes-most_bytes.branch [
-        | then-bytes-most_bytes w ↦ both _ (le-leb _ _ w.if-bytes-most_bytes.true) (w.value-is ∙ w.head_ok.ensures)
-        | else-bytes-most_bytes w ↦ none _ (lt-leb _ _ w.if-bytes-most_bytes.false) w.value-is
-      ] in
+    elim c.if-bytes-most_bytes.branch [
+      | then-bytes-most_bytes w ↦ both _ (le-leb _ _ w.if-bytes-most_bytes.true) (w.value-is ∙ w.head_ok.ensures)
+      | else-bytes-most_bytes w ↦ none _ (lt-leb _ _ w.if-bytes-most_bytes.false) w.value-is
+    ] in
     let head : c.if-head_ok.value ≡ c.if-bytes-most_bytes.value && eqb (length b) (length_given b) =
-      elim c.if-head_ok.branch [
-        | then-head_ok w ↦ both _ w.if-head_ok.true (rw w.length_given.ensures at w.value-is)
-        | else-head_ok w ↦ none _ w.if-head_ok.false w.value-is
-      ] in
+    elim c.if-head_ok.branch [
+      | then-head_ok w ↦ both _ w.if-head_ok.true (rw w.length_given.ensures at w.value-is)
+      | else-head_ok w ↦ none _ w.if-head_ok.false w.value-is
+    ] in
     let given : c.if-bytes-length_given.value ≡ c.if-head_ok.value && all (region_zero b) (region_count b) =
-      elim c.if-bytes-length_given.branch [
-        | then-bytes-length_given w ↦ both _ w.if-bytes-length_given.true (w.value-is ∙ w.regions_zero.ensures)
-        | else-bytes-length_given w ↦ none _ w.if-bytes-length_given.false w.value-is
-      ] in
+    elim c.if-bytes-length_given.branch [
+      | then-bytes-length_given w ↦ both _ w.if-bytes-length_given.true (w.value-is ∙ w.regions_zero.ensures)
+      | else-bytes-length_given w ↦ none _ w.if-bytes-length_given.false w.value-is
+    ] in
     given ∙ rw (head, size, c.most_bytes.ensures)
 
 pub returns-then-regions_zero : goal.returns-then-regions_zero

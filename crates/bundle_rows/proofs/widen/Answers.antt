@@ -1,5 +1,4 @@
--- `widen` meets its contract. Invariant: i rows are written. Measure: the rows left.
-use Prim.Native.Nat.{◌-◌}
+-- `widen` meets its contract. Invariant: i rows are written.
 use mathlib.Core.Path.{refl}
 use native.Mathlib.Nat.{le_antisymm}
 use borrow.Author.Rules.{rules}

@@ -1,5 +1,4 @@
--- `built_of` meets its contract. Invariant: the fields of the regions below r are added. Measure: the regions left.
-use Prim.Native.Nat.{◌-◌}
+-- `built_of` meets its contract. Invariant: the fields of the regions below r are added.
 use mathlib.Core.Path.{sym, ap, ◌∙◌}
 use native.Mathlib.Nat.{le_antisymm}
 use borrow.Author.Rules.{rules}

@@ -1,5 +1,4 @@
--- `with_fields_of` meets its contract. Invariant: the region's fields below i are added. Measure: the fields left.
-use Prim.Native.Nat.{◌-◌}
+-- `with_fields_of` meets its contract. Invariant: the region's fields below i are added.
 use mathlib.Core.Path.{sym, ap, ◌∙◌}
 use native.Mathlib.Nat.{le_antisymm}
 use borrow.Author.Rules.{rules}

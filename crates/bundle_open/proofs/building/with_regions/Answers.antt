@@ -1,5 +1,4 @@
--- `with_regions` meets its contract. Invariant: the regions below i are added. Measure: the regions left.
-use Prim.Native.Nat.{◌-◌}
+-- `with_regions` meets its contract. Invariant: the regions below i are added.
 use mathlib.Core.Path.{ap, ◌∙◌}
 use native.Mathlib.Nat.{le_antisymm}
 use borrow.Author.Rules.{rules}

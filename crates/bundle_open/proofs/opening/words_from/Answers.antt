@@ -1,5 +1,4 @@
--- `words_from` meets its contract. Invariant: the array holds the first i words. Measure: the words left.
-use Prim.Native.Nat.{◌-◌}
+-- `words_from` meets its contract. Invariant: the array holds the first i words.
 use mathlib.Core.Path.{refl, sym, ◌∙◌}
 use native.Mathlib.Nat.{le_antisymm}
 use native.Mathlib.Omega.{arith}
