@@ -44,7 +44,7 @@ pub struct Attempt {
 fn strand_all(routine: &Routine, draft: &mut Draft, sweeps: u32) {
     let mut left = sweeps;
     for w in 0..routine.count {
-        if routine.examined[w] & !is_there(&draft.rows[w]) {
+        if routine.examined[w] && !is_there(&draft.rows[w]) {
             draft.rows[w] = strand(routine, &draft.rows, w);
             draft.pending = [false; MOST_WORDS];
             draft.pending[w] = true;

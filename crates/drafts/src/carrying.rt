@@ -10,7 +10,7 @@ use v8::Reading;
 // Whether an edge is there and ends at word w.
 pub fn leads_to(e: Edge, w: usize) -> bool {
     match e.to {
-        Destination::To(d) => e.exists & (d.0 as usize == w),
+        Destination::To(d) => e.exists && d.0 as usize == w,
         Destination::Caller => false,
     }
 }
@@ -18,7 +18,7 @@ pub fn leads_to(e: Edge, w: usize) -> bool {
 // A row narrowed by an edge's class; none where no values are left on it.
 pub fn narrowed(row: Row, e: Edge) -> Option<Row> {
     let note = row.note;
-    if !narrows(e.narrowing) | (note.kind != NOTE_COMPARISON) {
+    if !narrows(e.narrowing) || note.kind != NOTE_COMPARISON {
         return Some(row);
     }
     let held = entry_at(row, note.register);

@@ -49,9 +49,9 @@ fn load_hope(policy: &Policy, op: LoadOp, o: Operands) -> Entry {
     let a = o.first;
     let b = o.second;
     let any = number_in(loadable(op));
-    let region = if points(a) & (b.kind == NUMBER) {
+    let region = if points(a) && b.kind == NUMBER {
         a.region
-    } else if (a.kind == NUMBER) & points(b) {
+    } else if a.kind == NUMBER && points(b) {
         b.region
     } else {
         return any;
@@ -90,7 +90,7 @@ fn cut_sum(regions: &Regions, op: AluOp, o: Operands) -> Entry {
 
 // The note after rd was written: of a comparison of rd it is left that the codes are set.
 fn note_left(n: Note, rd: u8) -> Note {
-    if (n.kind == NOTE_COMPARISON) & (n.register == rd) {
+    if n.kind == NOTE_COMPARISON && n.register == rd {
         return codes_set();
     }
     n

@@ -40,7 +40,7 @@ fn name_of(i: usize) -> usize {
 
 // Whether an answer names a way back, and entry i.
 fn is_way(a: Answer, way: Way, i: usize) -> bool {
-    (a.register as usize == name_of(i)) & (a.word.0 == way.word as u32)
+    a.register as usize == name_of(i) && a.word.0 == way.word as u32
 }
 
 // Whether it is an entry's turn, counted from 1.
@@ -55,7 +55,7 @@ fn next_turn(growths: &[Growth; TABLE_ENTRIES], limits: &Limits, from: usize) ->
 {
     for k in from..TURNS * TABLE_ENTRIES {
         let i = k % TABLE_ENTRIES;
-        if is_turn(&growths[i], k / TABLE_ENTRIES + 1) & limits[i].is_none() {
+        if is_turn(&growths[i], k / TABLE_ENTRIES + 1) && limits[i].is_none() {
             return Some(k);
         }
     }
@@ -68,16 +68,16 @@ fn is_named(growths: &[Growth; TABLE_ENTRIES], limits: &Limits, a: Answer) -> bo
         return false;
     }
     for i in 0..TABLE_ENTRIES {
-        if limits[i].is_some() & growths[i].way.is_some_and(|way| is_way(a, way, i)) {
+        if limits[i].is_some() && growths[i].way.is_some_and(|way| is_way(a, way, i)) {
             return true;
         }
     }
     false
 }
 
-// Whether two answers are the same.
+// Whether two answers are the same. (The crate passes derives no == for an Answer.)
 fn same(a: Answer, b: Answer) -> bool {
-    (a.number == b.number) & (a.word.0 == b.word.0) & (a.register == b.register)
+    a.number == b.number && a.word.0 == b.word.0 && a.register == b.register
 }
 
 // Gives all entries that are limited the same limit.
@@ -128,7 +128,7 @@ pub fn blame(
             stretch(asked, rows, &mut limits, found);
             return limits;
         }
-        if (found.number != EDGE_MISFIT) & (answer.word.0 < found.word.0) {
+        if found.number != EDGE_MISFIT && answer.word.0 < found.word.0 {
             answer = found;
             from = 0;
         } else {

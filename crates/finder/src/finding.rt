@@ -36,7 +36,7 @@ fn flows(edition: Edition, words: &[u32]) -> bool
     let examined = examine_all(&readings, count);
     let read = read_pass(&readings, count);
     let flow = flow_pass(&readings, count, &examined);
-    (read.number == ACCEPTED) & (flow.number == ACCEPTED)
+    read.number == ACCEPTED && flow.number == ACCEPTED
 }
 
 // Writes the rows that are not given, as they are found: where an entry that grows is to blame for a

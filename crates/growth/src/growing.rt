@@ -23,7 +23,7 @@ const LAST_SWEEPS: u32 = 254;
 fn compared_with(x: Reading, after: &Row) -> Option<u32> {
     match x {
         Reading::Read(Instruction::Plain(Operation::Alu { op, cc: true, .. }))
-            if is_sub(op) & (after.note.kind == NOTE_COMPARISON) => { Some(after.note.number) }
+            if is_sub(op) && after.note.kind == NOTE_COMPARISON => { Some(after.note.number) }
         _ => None,
     }
 }
@@ -42,13 +42,7 @@ fn arrive(routine: &Routine, draft: &mut Draft, d: WordIndex, row: Row, w: usize
     requires { w < most_words }
 {
     let i = d.0 as usize;
-    if routine.count <= i {
-        return;
-    }
-    if routine.given[i] {
-        return;
-    }
-    if draft.merge(routine, i, row, w, spent) {
+    if i < routine.count && !routine.given[i] && draft.merge(routine, i, row, w, spent) {
         draft.pending[i] = true;
     }
 }

@@ -13,7 +13,7 @@ fn lower_to(row: &mut Row, fresh: Row) -> bool {
         *row = no_row();
         return true;
     }
-    if !fits_row(&fresh, row) | fits_row(row, &fresh) {
+    if !fits_row(&fresh, row) || fits_row(row, &fresh) {
         return false;
     }
     *row = fresh;
@@ -24,7 +24,7 @@ fn lower_to(row: &mut Row, fresh: Row) -> bool {
 fn lower_once(routine: &Routine, rows: &mut [Row; MOST_WORDS]) -> bool {
     let mut changed = false;
     for w in 0..routine.count {
-        if is_there(&rows[w]) & !routine.given[w] {
+        if is_there(&rows[w]) && !routine.given[w] {
             let before = if w == 0 { routine.entry } else { no_row() };
             let fresh = take_all(routine, rows, w, before);
             changed |= lower_to(&mut rows[w], fresh);

@@ -110,7 +110,7 @@ impl Draft {
             self.rows[d] = comes;
             return true;
         }
-        if spent & (d <= w) {
+        if spent && d <= w {
             if fits_row(&comes, &self.rows[d]) {
                 return false;
             }

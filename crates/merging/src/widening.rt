@@ -93,11 +93,9 @@ impl Climb {
     // The nearest place by the numbers that words compare with.
     fn by_bounds(&self, bounds: &[Option<u32>]) -> Option<u32> {
         let mut best = None;
-        for &bound in bounds {
-            if let Some(n) = bound {
-                let seen = if self.mirrored { mirror(n) } else { n };
-                best = nearer(best, self.by_bound(seen));
-            }
+        for &n in bounds.iter().flatten() {
+            let seen = if self.mirrored { mirror(n) } else { n };
+            best = nearer(best, self.by_bound(seen));
         }
         best
     }
@@ -146,7 +144,7 @@ fn widen_set(
     let low = down.rest(bounds);
     let lo = mirror(low.unwrap_or(down.last()));
     let hi = high.unwrap_or(up.last());
-    (ended(new.step, lo, hi), high.is_some() & low.is_some())
+    (ended(new.step, lo, hi), high.is_some() && low.is_some())
 }
 
 // An entry that grew on a way back for the `grown`th time.
@@ -163,7 +161,7 @@ pub fn widen_entry(
             bounded: true,
         };
     }
-    if (TAKEN < grown) & (old.kind == NUMBER) & (new.kind == NUMBER) {
+    if TAKEN < grown && old.kind == NUMBER && new.kind == NUMBER {
         let asked = if grown <= TO_BOUND {
             Some(bounds)
         } else {
@@ -175,7 +173,7 @@ pub fn widen_entry(
             bounded,
         };
     }
-    if (TAKEN < grown) & (old.kind == ADDRESS) & (new.kind == ADDRESS) {
+    if TAKEN < grown && old.kind == ADDRESS && new.kind == ADDRESS {
         let most = BIAS + size_in(regions, new.region);
         let (set, bounded) = widen_set(None, old.set, new.set, BIAS, most);
         return Widened {

@@ -59,10 +59,10 @@ fn scratch_bit(offset: u32) -> u64 {
 fn reached_bit(o: Operands) -> u64 {
     let a = o.first;
     let b = o.second;
-    if (a.kind == FRAME_ADDRESS) & is_constant(b) {
+    if a.kind == FRAME_ADDRESS && is_constant(b) {
         return scratch_bit(excess(b.set.lo));
     }
-    if is_constant(a) & (b.kind == FRAME_ADDRESS) {
+    if is_constant(a) && b.kind == FRAME_ADDRESS {
         return scratch_bit(excess(a.set.lo));
     }
     0

@@ -66,7 +66,7 @@ fn goal_of(routine: &Routine, rows: &[Row; MOST_WORDS], u: usize) -> Row {
         if is_there(&rows[v]) {
             return rows[v];
         }
-        if routine.examined[v] & returns(routine.readings[v]) {
+        if routine.examined[v] && returns(routine.readings[v]) {
             return at_return(routine.res);
         }
     }
@@ -143,7 +143,7 @@ impl Choice<'_> {
             return;
         }
         let p = self.u - 2;
-        if transfers(self.routine.readings[p]) & is_there(&self.rows[p]) {
+        if transfers(self.routine.readings[p]) && is_there(&self.rows[p]) {
             self.try_source(self.rows[p]);
         }
     }

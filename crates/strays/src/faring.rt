@@ -33,7 +33,7 @@ fn made_by(policy: &Policy, row: Row, x: Reading) -> Option<Row> {
 fn arrival(routine: &Routine, rows: &[Row; MOST_WORDS], to: Destination, row: Row) -> Fate {
     match to {
         Destination::To(d) => match rows.get(d.0 as usize) {
-            Some(next) if is_there(next) & !fits_row(&row, next) => Fate::Misfits,
+            Some(next) if is_there(next) && !fits_row(&row, next) => Fate::Misfits,
             _ => Fate::Fits,
         },
         Destination::Caller if fits(entry_at(row, RESULT), routine.res) => Fate::Fits,
