@@ -12,7 +12,7 @@ pub use serve::{addend_of, allowed, is_word, serves_element, width_of};
 use v8::ByteOffset;
 
 // Where an access lies: at an offset of a region, in a field that allows it; at a scratch word of the
-// frame; or nowhere.
+// frame; or nowhere. Three cases, so that it is no `Option`.
 #[derive(Clone, Copy)]
 pub enum Located {
     At(u8, ByteOffset),

@@ -47,7 +47,8 @@ pub fn allowed(a: Access, permission: u8) -> bool
     }
 }
 
-// An address's second part, as the operand that is added.
+// An address's second part, as the operand that is added. A `From` could stand only in v8, beside both
+// types.
 pub fn addend_of(d: Displacement) -> Operand
     ensures { result ≡ addend d }
 {

@@ -14,7 +14,8 @@ pub use opening::open;
 
 // A bundle, opened: 0 and its policy, how many words it has and the words, with zeros after them, and
 // the places in its bytes where the entry row, the result entry, the words and the rows begin and the
-// rows end; or the number of the refusal, and all else is empty.
+// rows end; or the number of the refusal, and all else is empty. The number with values beside it is to
+// follow.
 #[derive(Clone, Copy)]
 pub struct Opened {
     pub number: u8,

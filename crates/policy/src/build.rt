@@ -20,7 +20,7 @@ const NO_FIELD: Field = Field {
     hi: 0,
 };
 
-// The adds take the policy by value and give a `Built`, whose number's type is to follow.
+// The adds take the policy by value, since a `Built` holds the next one or the one given.
 impl Policy {
     // The policy with no regions.
     pub fn empty() -> Policy

@@ -4,7 +4,8 @@ ghost use Rattle.policy.specs.Element.{width_of};
 
 // The width in bytes of each element, by its number; 0 is no element.
 pub const WIDTHS: [u8; 8] = [1, 1, 1, 2, 2, 4, 4, 4];
-// The least number of each of the elements 1 to 5, in excess form.
+// The least number of each of the elements 1 to 5, in excess form. It stays apart from the greatest
+// ones, as the definitions `leasts` and `mosts` do.
 pub const LEASTS: [u32; 6] = [
     2147483648, 2147483648, 2147483520, 2147483648, 2147450880, 0,
 ];

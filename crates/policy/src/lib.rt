@@ -25,6 +25,7 @@ pub struct Field {
 }
 
 // The regions of a policy: how many there are, and of each its size in bytes and how many fields it has.
+// Sizes and counts stay two arrays, since the definitions of rows and of the memory take a list of sizes.
 #[derive(Clone, Copy)]
 pub struct Regions {
     pub count: u8,
@@ -40,7 +41,8 @@ pub struct Policy {
     pub fields: [Field; 128],
 }
 
-// What an add gives: the next policy and 0, or the policy given and the number of the refusal.
+// What an add gives: the next policy and 0, or the policy given and the number of the refusal. The
+// number's type is to follow.
 #[derive(Clone, Copy)]
 pub struct Built {
     pub policy: Policy,

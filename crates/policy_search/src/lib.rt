@@ -16,7 +16,7 @@ pub struct Search {
 }
 
 // What a search in a policy handed in gives: 0 and what the search gives; or the number of the refusal,
-// with nothing found and no field looked at.
+// with nothing found and no field looked at. The number's type is to follow.
 #[derive(Clone, Copy)]
 pub struct FieldSearch {
     pub number: u8,

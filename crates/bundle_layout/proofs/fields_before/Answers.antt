@@ -1,5 +1,4 @@
--- `fields_before` meets its contract. Invariant: the sum is that of the regions below i, none of which has more than 255. Measure:
--- the regions left.
+-- `fields_before` meets its contract. Invariant: the sum is that of the regions below i, none of which has more than 255.
 use mathlib.Core.Path.{sym, ap, ◌∙◌}
 use native.Mathlib.Nat.{le_antisymm}
 use borrow.Author.Rules.{rules}

@@ -1,4 +1,4 @@
--- The test of a policy is the one that is defined. Invariant: the regions below r obey the rules. Measure: the regions left.
+-- The test of a policy is the one that is defined. Invariant: the regions below r obey the rules.
 use mathlib.Core.Bool.{and-false}
 use mathlib.Core.Path.{sym, ◌∙◌}
 use native.Mathlib.Omega.{arith}
