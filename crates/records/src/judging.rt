@@ -30,7 +30,10 @@ impl Totals {
 pub fn judge_all<W: Wrong, I: Iterator<Item = Result<(), W>>>(most: usize, verdicts: I) -> Totals
     requires { I.can_next verdicts }
 {
-    let mut totals = Totals { judged: 0, wrong: 0 };
+    let mut totals = Totals {
+        judged: 0,
+        wrong: 0,
+    };
     for verdict in verdicts.take(most) {
         totals.judged += 1;
         if let Err(wrong) = verdict {

@@ -65,7 +65,13 @@ fn answer_of(
     table: &mut [u8],
 ) -> Answer {
     let entry = &row[..entry_length(numbers)];
-    list_kinds(edition, &policy_of(numbers), words_of(numbers), entry, table)
+    list_kinds(
+        edition,
+        &policy_of(numbers),
+        words_of(numbers),
+        entry,
+        table,
+    )
 }
 
 // Makes the listing again, and compares its answer and all bytes of the table and behind it.
