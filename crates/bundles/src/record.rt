@@ -55,6 +55,7 @@ impl Wrong for Fault {
     }
 }
 
+// By hand, since an `Answer` of crate passes has no equality.
 fn same(a: Answer, b: Answer) -> bool {
     a.number == b.number && a.word.0 == b.word.0 && a.register == b.register
 }

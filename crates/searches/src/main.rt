@@ -19,6 +19,7 @@ fn main() {
     let mut searches: u64 = 0;
     let verdicts = Records::new(read_numbers).map(|record| {
         let numbers = record?;
+        // A closure counts here, which no bound of a loop reaches: so the sum saturates.
         searches = searches.saturating_add(searches_of(&numbers).len() as u64);
         judge(&numbers)
     });
