@@ -7,7 +7,6 @@ use Rattle.std.proofs.lemmas.Grind.{common_steps}
 use lib.ListN.{length, replicate}
 use borrow.Rule.Slice.PartMut.{mid_of}
 use Rattle.std.proofs.lemmas.Slice.{put_mid-paste}
-use Rattle.step.specs.declared.Registers.{Registers}
 use Rattle.step.proofs.ScratchMarks.{unset_paste}
 use Rattle.step.proofs.Registers.unset_scratch.Goals as goal
 
