@@ -15,7 +15,7 @@ widen-requires-2 c = let pre = c.requires in
     let laid = narrow_laid _ _ pre.0 pre.2 in
     (omega (arith, laid.1, places.6), omega (arith, places.1), places.1)
 
-pub narrow_rows-requires : goal.narrow_rows-requires
-narrow_rows-requires c = let pre = c.requires in
+pub put_rows-requires : goal.put_rows-requires
+put_rows-requires c = let pre = c.requires in
     let places = pre.1 in
-    (places.1, omega (arith, (narrow_laid _ _ pre.0 pre.2).1, places.6))
+    (places.1, omega (arith, (narrow_laid _ _ pre.0 pre.2).1, places.6), omega arith, omega arith)
