@@ -66,13 +66,7 @@ fn show_refusal(edition: Edition, bytes: &[u8], opened: &Opened, parts: Parts<'_
     match a.number {
         BAD_SHAPE => show_shape(bytes, opened, parts.entry),
         BAD_ROW => show_broken_row(bytes, opened.rows, a.word.0 as usize, a.register),
-        _ => show_named(
-            edition,
-            opened,
-            &opened.words[..opened.count],
-            parts,
-            a,
-        ),
+        _ => show_named(edition, opened, &opened.words[..opened.count], parts, a),
     }
 }
 

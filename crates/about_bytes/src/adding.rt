@@ -60,7 +60,7 @@ fn show_field(at: usize, size: u64, end: u64, r: usize, k: usize, f: Field) {
 // The adds of a region's fields, up to the first that is refused, which is shown; the policy after them,
 // or none.
 fn add_fields(bytes: &[u8], region: usize, mut policy: Policy) -> Option<Policy>
-    requires { region < 256 }
+    requires { region < 255 }
 {
     let first = fields_before(bytes, region);
     let size = region_size(bytes, region) as u64;
@@ -97,8 +97,13 @@ fn add_regions(bytes: &[u8]) -> Option<Policy> {
 
 // The region or the field whose add is refused.
 pub fn show_adds(bytes: &[u8]) {
-    let mut policy = add_regions(bytes);
+    let Some(mut policy) = add_regions(bytes) else {
+        return;
+    };
     for r in 0..region_count(bytes) {
-        policy = policy.and_then(|before| add_fields(bytes, r, before));
+        let Some(after) = add_fields(bytes, r, policy) else {
+            return;
+        };
+        policy = after;
     }
 }

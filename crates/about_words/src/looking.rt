@@ -24,9 +24,12 @@ impl Routine<'_> {
             return false;
         }
         match along(self.policy, e, x, row) {
-            Some(OnWay {
-                made: Some(made), ..
-            }) => self.is_refused_at(e.to, made),
+            Some(
+                OnWay {
+                    made: Some(made),
+                    ..
+                },
+            ) => self.is_refused_at(e.to, made),
             Some(OnWay { made: None, .. }) => true,
             None => false,
         }

@@ -166,15 +166,17 @@ module _ (readings : List Reading) (entry : List ℕ) where
 
     -- the table goes on to be raised, and what is left falls
     pub goes_on : Raises to.table to.pending to.next × (left to.table to.next < left from.table w)
-    goes_on =
-        (record {
-          held = worked.held;
-          entered = taken_higher from.table to.table (entry_sent count entry) higher h.entered;
-          least = λ other c. subst (λ (t : List ℕ). TableAtMost t other) (sym sent)
-              (word_lowest readings entry from.table from.table other c (h.least other c) (h.least other c) w l);
-          passed = passes;
-          below = under;
-        }, falls (ltb to.next (w + 1)) refl)
+    goes_on = (
+      record {
+        held = worked.held;
+        entered = taken_higher from.table to.table (entry_sent count entry) higher h.entered;
+        least = λ other c. subst (λ (t : List ℕ). TableAtMost t other) (sym sent)
+            (word_lowest readings entry from.table from.table other c (h.least other c) (h.least other c) w l);
+        passed = passes;
+        below = under;
+      },
+      falls (ltb to.next (w + 1)) refl,
+    )
 
   -- the listing has the places of a whole table
   pub listing_whole : count ≤ most_words → length (whole_table (listing_of readings entry)) ≡ table_marks

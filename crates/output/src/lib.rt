@@ -10,6 +10,7 @@ pub use line::{Line, line_of};
 
 // The descriptors of standard input and output.
 pub const STDIN_FILENO: i32 = 0;
+
 pub const STDOUT_FILENO: i32 = 1;
 
 pub fn print(text: &[u8]) {

@@ -3,6 +3,7 @@ ghost use Rattle.std.specs.Prelude.{◌+◌, ◌≤◌, ◌<◌, ◌≡◌, [], 
 ghost use Rattle.output.specs.Line.{Adds, LineOf};
 
 const SPACE: u8 = b' ';
+
 const NEWLINE: u8 = b'\n';
 
 // A line: the first `count` bytes of the text. It is its own value, and no slice, since LineOf and all that

@@ -41,20 +41,24 @@ on c =
 
 pub loop-work-init : goal.loop-work-init
 loop-work-init c =
-    let count = code_count c.args.readings.now c.args.count c.requires.1 in
-    (refl, raises_start _ c.args.entry.now _ _ (omega (arith, c.requires.0, count)) (omega (arith, c.requires.1.most, count))
-    c.raise_at.ensures.table c.entry_marks.ensures)
+    let count = code_count c.args.readings.now c.args.count c.requires.1 in (
+      refl,
+      raises_start _ c.args.entry.now _ _ (omega (arith, c.requires.0, count)) (omega (arith, c.requires.1.most, count))
+          c.raise_at.ensures.table c.entry_marks.ensures,
+    )
 
 pub loop-work-preserved : goal.loop-work-preserved
 loop-work-preserved c =
     let l = c.loop-work in
     let inside : l.work.next < length (code_of c.args.readings.now c.args.count) = omega (arith, c.loop-work-test.true, code_count c.args.readings.now c.args.count c.requires.1) in
-    let examined = c.requires.2 l.work.next inside in
-    (l.invariant.0, raises_over _ c.args.entry.now l.work.table l.work.pending l.work.next l.invariant.1
-    (elim c.else-work-w.branch [
-      | else-work-w-via-then-work-w+else-examined-w w ↦ rw (← examined, w.if-examined-w.false, and-false)
-      | else-work-w-via-else-work-w w ↦ rw w.if-work-w.false
-    ]))
+    let examined = c.requires.2 l.work.next inside in (
+      l.invariant.0,
+      raises_over _ c.args.entry.now l.work.table l.work.pending l.work.next l.invariant.1
+          (elim c.else-work-w.branch [
+            | else-work-w-via-then-work-w+else-examined-w w ↦ rw (← examined, w.if-examined-w.false, and-false)
+            | else-work-w-via-else-work-w w ↦ rw w.if-work-w.false
+          ]),
+    )
 
 pub loop-work-smaller-then-examined-w : goal.loop-work-smaller-then-examined-w
 loop-work-smaller-then-examined-w c = (on (goal.at.loop-work-smaller-then-examined-w c).After-pass_on).1
