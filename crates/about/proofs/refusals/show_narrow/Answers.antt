@@ -19,8 +19,8 @@ widen-requires-2 c = let pre = c.requires in
     let laid = narrow_laid _ _ pre.0 pre.2 in
     (omega (arith, laid.1, places.6), omega (arith, places.1), places.1)
 
-pub slice_bounds-show_refusal-end : goal.slice_bounds-show_refusal-end
-slice_bounds-show_refusal-end c = let opened = c.args.opened.now in
+pub slice_bounds-parts-end : goal.slice_bounds-parts-end
+slice_bounds-parts-end c = let opened = c.args.opened.now in
     let places = c.requires.1 in
     let written = c.widen-2 in
     sym (length-take-le (row_bytes * opened.count) written.new.room (omega (arith, places.1)))
