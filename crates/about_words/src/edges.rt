@@ -1,7 +1,7 @@
 // An edge of a word, and where it ends; slots.
 use crate::Routine;
 use about_items::items::{bare, done, flag, single, value};
-use flow_code::{reading_at, transfers};
+use flow_code::transfers;
 use flow_edges::{Destination, Edge};
 use output::print;
 
@@ -20,7 +20,7 @@ pub fn show_slot(at: usize, ordinary: bool) {
 impl Routine<'_> {
     // Whether a word is a slot, examined as an ordinary word too or not: the word before it is a transfer.
     pub fn slot_at(&self, at: usize) -> bool {
-        1 <= at && transfers(reading_at(self.readings, at - 1))
+        1 <= at && transfers(self.reading_at(at - 1))
     }
 
     // Where an edge ends, and whether a slot stands there.

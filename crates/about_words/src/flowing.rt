@@ -3,7 +3,7 @@
 use crate::Routine;
 use crate::edges::show_slot;
 use about_items::items::single;
-use flow_code::{reading_at, transfers};
+use flow_code::transfers;
 use flow_edges::edges::edge_of;
 use v8::numbers::MOST_WORDS;
 use v8::{Instruction, Reading, WordIndex};
@@ -21,7 +21,7 @@ impl Routine<'_> {
     // The flow of a word. A slot that is no transfer has one where a branch lands on it.
     pub fn show_flow(&self, at: usize) {
         single(b"words", self.words as u64);
-        let x = reading_at(self.readings, at);
+        let x = self.reading_at(at);
         if self.slot_at(at) {
             show_slot(at, !transfers(x));
         }

@@ -4,7 +4,7 @@
 
 use policy::Policy;
 use v8::Reading;
-use v8::numbers::MOST_WORDS;
+use v8::numbers::{MOST_WORDS, NOT_READ};
 
 // A routine of so many words: its policy, its rows and its result entry, and how its words are read.
 #[derive(Clone, Copy)]
@@ -14,6 +14,18 @@ pub struct Routine<'a> {
     pub res: &'a [u8],
     pub words: usize,
     pub readings: &'a [Reading; MOST_WORDS],
+}
+
+impl Routine<'_> {
+    // What the word at an index is read as; what no word stands at is not read. (That of the crate flow_code
+    // asks for the array's length, which is not known of one that a struct borrows.)
+    fn reading_at(&self, at: usize) -> Reading {
+        let readings = self.readings;
+        readings
+            .get(at)
+            .copied()
+            .unwrap_or(Reading::Unread(NOT_READ))
+    }
 }
 
 // The rows of words, and what does not fit them.

@@ -9,7 +9,6 @@ use crate::edges::show_slot;
 use about_items::entries::show_row;
 use about_items::items::{bare, single};
 use about_items::operands::show_word_in;
-use flow_code::reading_at;
 use flow_edges::Edge;
 use flow_edges::edges::edge_of;
 use rows::Row;
@@ -55,7 +54,7 @@ impl Routine<'_> {
         requires { at < most_words }
     {
         let e = edge_of(WordIndex(at as u32), i, taken);
-        self.is_refused(e, reading_at(self.readings, at + 1), row)
+        self.is_refused(e, self.reading_at(at + 1), row)
     }
 
     // The row that an instruction makes; the row given where it breaks a condition.
@@ -71,7 +70,7 @@ impl Routine<'_> {
         let taken = self.is_way_refused(at, i, true, row);
         let e = edge_of(WordIndex(at as u32), i, taken);
         self.show_edge(e, taken);
-        self.show_refused(e, reading_at(self.readings, at + 1), row)
+        self.show_refused(e, self.reading_at(at + 1), row)
     }
 
     // The row of a word; that of word 0 where there is no such word.
@@ -91,7 +90,7 @@ impl Routine<'_> {
         let Some(before) = self.row_or_first(from) else {
             return false;
         };
-        let Reading::Read(i) = reading_at(self.readings, from) else {
+        let Reading::Read(i) = self.reading_at(from) else {
             return false;
         };
         let row = self.row_after(i, before);
@@ -107,7 +106,7 @@ impl Routine<'_> {
         };
         single(b"row", at as u64);
         show_row(row);
-        let x = reading_at(self.readings, at);
+        let x = self.reading_at(at);
         if !edge {
             return show_word_in(self.policy, row, x);
         }

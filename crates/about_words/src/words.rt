@@ -1,6 +1,5 @@
 // The refusal of a word, by its number.
 use crate::Routine;
-use flow_code::reading_at;
 use passes::Answer;
 use v8::Reading;
 use v8::numbers::{BAD_FLOW, CALLERS_REGISTER, EDGE_MISFIT, RESULT_MISFIT};
@@ -14,7 +13,7 @@ impl Routine<'_> {
             CALLERS_REGISTER => return self.show_written(at),
             _ => {}
         }
-        if let Reading::Read(_) = reading_at(self.readings, at) {
+        if let Reading::Read(_) = self.reading_at(at) {
             let edge = a.number == EDGE_MISFIT || a.number == RESULT_MISFIT;
             self.show_looked(at, edge);
         }
