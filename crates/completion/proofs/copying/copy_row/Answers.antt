@@ -1,5 +1,4 @@
 -- `copy_row` meets its contract: two parts are written, one after the other.
-use mathlib.Core.Path.{ap, ◌∙◌}
 use native.Mathlib.Omega.{arith}
 use Prim.Native.Nat.{◌+◌, ◌-◌}
 use Rattle.completion.proofs.Keeping.{outside_mid, outside_on}

@@ -1,7 +1,7 @@
 -- `put_rows` meets its contract. Invariant: i rows are put.
 use mathlib.Core.Path.{refl}
 use native.Mathlib.Omega.{arith}
-use native.Mathlib.Nat.{mul-le-mul_left, mul-le-mul_right, mul-add, mul-one}
+use native.Mathlib.Nat.{mul-le-mul_left, mul-add, mul-one}
 use borrow.Author.Rules.{rules}
 use Rattle.completion.proofs.Keeping.{none_put, more_put, all_put}
 use Rattle.completion.proofs.copying.put_rows.Goals as goal

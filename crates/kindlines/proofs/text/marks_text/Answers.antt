@@ -1,5 +1,5 @@
 -- The text is written place by place. Invariant: the places before k are those of the definition. Measure: the places left.
-use Prim.Native.Nat.{ℕ, ◌-◌, ◌≤◌}
+use Prim.Native.Nat.{ℕ, ◌≤◌}
 use mathlib.Core.Path.{◌≡◌, refl, sym, ◌∙◌}
 use mathlib.Core.List.{List}
 use native.Mathlib.Nat.{le_antisymm, not-suc-le-zero}
