@@ -6,7 +6,7 @@ use mathlib.Core.List.{List}
 use native.Mathlib.Omega.{arith}
 use lib.Dec.{eqb}
 use lib.ListN.{length}
-use Rattle.core.specs.List.{IsAnyAnswer}
+use Rattle.std.specs.List.{IsAnyAnswer}
 use Rattle.v8.proofs.Search.{all_each, all_not}
 use Rattle.marks.specs.Marks.{not_reached, register_count, has_mark}
 use Rattle.lister_rules.specs.Table.{reached}
