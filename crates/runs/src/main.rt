@@ -9,12 +9,12 @@ mod start;
 
 use crate::judge::judge;
 use records::judging::judge_all;
-use records::reading::Records;
+use records::reading::{Records, read_numbers};
 
 // The most runs that are read.
 const MOST_RUNS: usize = 100000;
 
 fn main() {
-    let verdicts = Records::new().map(|record| judge(&record?));
+    let verdicts = Records::new(read_numbers).map(|record| judge(&record?));
     judge_all(MOST_RUNS, verdicts).print(b"runs");
 }
