@@ -6,5 +6,5 @@
 use bundles::check_bundles;
 
 fn main() {
-    check_bundles(completion::complete)
+    check_bundles(|edition, bytes| completion::complete(edition, bytes))
 }
