@@ -4,7 +4,7 @@
 // One record.
 mod record;
 
-use crate::record::{Bundle, Fault, read_bundle};
+use crate::record::{Fault, Head, next_head};
 use passes::Answer;
 use records::judging::judge_all;
 use records::reading::{BadRecord, Records};
@@ -18,9 +18,9 @@ const MOST_BUNDLES: usize = 100000;
 pub fn check_bundles<F: Fn(Edition, &mut [u8]) -> Answer + Drop>(answer: F)
     requires { F.IsAlwaysCallable answer }
 {
-    let judge = |bundle: Result<Bundle, BadRecord>| -> Result<(), Fault>
+    let judge = |head: Result<Head, BadRecord>| -> Result<(), Fault>
         requires { F.IsAlwaysCallable answer }
-    { bundle?.judge(&answer) };
-    let verdicts = Records::new(read_bundle).map(judge);
+    { head?.judge(&answer) };
+    let verdicts = Records::new(next_head).map(judge);
     judge_all(MOST_BUNDLES, verdicts).print(b"bundles");
 }

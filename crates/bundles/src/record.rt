@@ -60,18 +60,17 @@ fn same(a: Answer, b: Answer) -> bool {
     a.number == b.number && a.word.0 == b.word.0 && a.register == b.register
 }
 
-// A bundle, with zeros after its bytes, and the answer that is expected.
-#[derive(Drop)]
-pub struct Bundle {
+// What a header says: the edition, the answer that is expected and the bundle's length.
+#[derive(Clone, Copy)]
+pub struct Head {
     edition: Edition,
     expected: Answer,
-    bytes: [u8; ROOM],
     length: usize,
     ghost fits: { length ≤ 62469 },
 }
 
-// Reads the bundle behind a header.
-fn bundle_after(header: [u8; 9]) -> Result<Bundle, BadRecord> {
+// The header in its bytes.
+fn head_in(header: [u8; 9]) -> Result<Head, BadRecord> {
     let [edition, number, register, w1, w0, l3, l2, l1, l0] = header;
     let edition = edition_of(u32::from(edition)).ok_or(BadRecord)?;
     let length = u32::from_be_bytes([l3, l2, l1, l0]) as usize;
@@ -79,39 +78,37 @@ fn bundle_after(header: [u8; 9]) -> Result<Bundle, BadRecord> {
         return Err(BadRecord);
     }
     let word = WordIndex(u32::from(u16::from_be_bytes([w1, w0])));
-    Ok(Bundle {
+    Ok(Head {
         edition,
         expected: Answer {
             number,
             word,
             register,
         },
-        bytes: read_bytes(length)?,
         length,
     })
 }
 
-// Reads the next bundle.
-pub fn read_bundle() -> Option<Result<Bundle, BadRecord>> {
+// Reads the next header.
+pub fn next_head() -> Option<Result<Head, BadRecord>> {
     let header = read_head()?;
-    Some(header.and_then(bundle_after))
+    Some(header.and_then(head_in))
 }
 
-impl Bundle {
-    // Fails where a function gives it another answer than the expected one.
+impl Head {
+    // Reads the bundle behind the header, and fails where a function gives it another answer than the
+    // expected one.
     pub fn judge<F: Fn(Edition, &mut [u8]) -> Answer>(self, answer: &F) -> Result<(), Fault>
         requires { F.IsAlwaysCallable answer.now }
     {
-        let Bundle {
-            edition,
-            expected,
-            mut bytes,
-            length,
-        } = self;
-        let answered = answer(edition, &mut bytes[..length]);
-        if same(answered, expected) {
+        let mut bytes = read_bytes::<ROOM>(self.length)?;
+        let answered = answer(self.edition, &mut bytes[..self.length]);
+        if same(answered, self.expected) {
             return Ok(());
         }
-        Err(Fault::Other { answered, expected })
+        Err(Fault::Other {
+            answered,
+            expected: self.expected,
+        })
     }
 }
