@@ -14,8 +14,8 @@ use flow::flows;
 use flow_code::transfers;
 use flow_writes::{is_callers, written_by};
 use policy::Policy;
-use rows::geometry::ROW_BYTES;
-use rows::{form_fault, misfit, read_row};
+use rows::geometry::{PLACES, ROW_BYTES};
+use rows::{formed_at, misfit, read_row};
 use v8::numbers::{ACCEPTED, BAD_FLOW, BAD_ROW, CALLERS_REGISTER, ENTRY_MISFIT, MOST_WORDS};
 use v8::{Reading, WordIndex};
 
@@ -24,10 +24,22 @@ pub fn row_pass(policy: &Policy, rows: &[u8], count: WordIndex) -> Answer
     requires { (count.0 ≤ most_words) × (row_bytes * count.0 ≡ length rows.now) }
     ensures { result ≡ pass_of (row_pass policy.now rows.now) count.0 }
 {
-    for at in 0..count.0 {
-        if let Some(place) = form_fault(&policy.regions, rows, ROW_BYTES * at as usize) {
-            return refuse(BAD_ROW, WordIndex(at), place);
+    // Counted by hand: document 01 names the form, nested loops that a label leaves at the first badly
+    // formed place, and after them both counts tell which place that is.
+    let mut at = WordIndex(0);
+    let mut place: u8 = 0;
+    'rows: while at.0 < count.0 {
+        place = 0;
+        while place < PLACES {
+            if !formed_at(&policy.regions, rows, ROW_BYTES * at.0 as usize, place) {
+                break 'rows;
+            }
+            place += 1;
         }
+        at = WordIndex(at.0 + 1);
+    }
+    if at.0 < count.0 {
+        return refuse(BAD_ROW, at, place);
     }
     accept()
 }

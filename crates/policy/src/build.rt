@@ -20,7 +20,7 @@ const NO_FIELD: Field = Field {
     hi: 0,
 };
 
-// The adds take the policy by value, since a `Built` holds the next one or the one given.
+// The adds take the policy by value and hand it back with a number: the form that document 01 names.
 impl Policy {
     // The policy with no regions.
     pub fn empty() -> Policy
@@ -102,29 +102,35 @@ impl Policy {
 
     // The policy with one region more, without fields. Refused: 20 if the policy given breaks a
     // rule, 18 if it has 8 regions, 19 if the size is not allowed.
-    pub fn add_region(self, size: u16) -> Built
+    pub fn add_region(mut self, size: u16) -> Built
         ensures { result ≡ add_region_of self size }
     {
+        let mut number = BAD_POLICY;
         if self.well_formed() {
-            return self.push_region(size);
+            let built = self.push_region(size);
+            self = built.policy;
+            number = built.number;
         }
         Built {
             policy: self,
-            number: BAD_POLICY,
+            number,
         }
     }
 
     // The policy with one field more in a region. Refused: 20 if the policy given breaks a rule or
     // has no such region, 18 if the region has 16 fields, 20 if the field breaks a rule.
-    pub fn add_field(self, region: u8, f: Field) -> Built
+    pub fn add_field(mut self, region: u8, f: Field) -> Built
         ensures { result ≡ add_field_of self region f }
     {
+        let mut number = BAD_POLICY;
         if self.well_formed() {
-            return self.push_field(region, f);
+            let built = self.push_field(region, f);
+            self = built.policy;
+            number = built.number;
         }
         Built {
             policy: self,
-            number: BAD_POLICY,
+            number,
         }
     }
 }

@@ -3,6 +3,6 @@ use mathlib.Core.Path.{sym, ◌∙◌}
 use Rattle.policy.specs.Build.{field_number, built}
 use Rattle.policy.proofs.Policy.add_field.Goals as goal
 
-pub returns : goal.returns
+pub returns-else-well_formed : goal.returns-else-well_formed
 unfolding built field_number
-returns c = simp (sym c.well_formed-2.ensures ∙ c.if-well_formed.false)
+returns-else-well_formed c = simp (sym c.well_formed-2.ensures ∙ c.if-well_formed.false)
