@@ -3,7 +3,7 @@
 
     tools/naming.py
 
-Reads README.md and the pages of docs/; the landing notes, PORT.md and DESIGN-PASS.md, which tell of the past, are not read. What stands in backticks is
+Reads README.md and the pages of docs/; the landing notes, PORT.md, DESIGN-PASS.md and LOOK-BACK.md, which tell of the past, are not read. What stands in backticks is
 taken so, with a and b for names, x and X for parts of a path:
 
     `crate` Module: `a`, `b`       a and b are declared in the crate's specs/Module.antt; so with a comma for the colon, and of
@@ -33,6 +33,7 @@ from script import Problem
 
 ROOT = os.path.dirname(os.path.dirname(os.path.abspath(__file__)))
 TRACE, ARCHITECTURE = "docs/TRACE.md", "docs/ARCHITECTURE.md"
+PAST = "PORT.md", "DESIGN-PASS.md", "LOOK-BACK.md"  # pages that tell of the past
 DEFINED, TRIED = "definition", "wrong versions that are told apart"  # heads of columns
 # Names that are not the product's, by the reason.
 OUTSIDE = {
@@ -269,7 +270,7 @@ def missing_in(product, trace, architecture):
 
 def documents(root=ROOT):
     """The documents, by name."""
-    pages = sorted(name for name in os.listdir(os.path.join(root, "docs")) if name.endswith(".md") and name not in ("PORT.md", "DESIGN-PASS.md"))
+    pages = sorted(name for name in os.listdir(os.path.join(root, "docs")) if name.endswith(".md") and name not in PAST)
     return {name: read_text(root, name) for name in ["README.md", *(f"docs/{page}" for page in pages)]}
 
 
