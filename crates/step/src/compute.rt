@@ -12,6 +12,7 @@ use v8::numbers::UNSET_READ;
 use v8::{AluOp, Operand, ShiftOp};
 
 // Arithmetic and logic: 102 where an operand is unset.
+#[inline(always)]
 pub fn step_alu(
     control: Control,
     registers: &mut Registers,
@@ -42,6 +43,7 @@ pub fn step_alu(
 }
 
 // Shifts: 102 where an operand is unset.
+#[inline(always)]
 pub fn step_shift(
     control: Control,
     registers: &mut Registers,
@@ -65,6 +67,7 @@ pub fn step_shift(
 }
 
 // SETHI.
+#[inline(always)]
 pub fn step_sethi(control: Control, registers: &mut Registers, rd: u8, imm22: u32) -> Went
     requires { control.at.0 < most_words }
     ensures { Does result registers.new control registers.old

@@ -13,6 +13,7 @@ use v8::{Instruction, Operation, Reading};
 
 // Runs one step, x being what the word that control stands at is read as: 101 where it is not read, or
 // is a transfer in a slot.
+#[inline(always)]
 pub fn one_step(control: Control, registers: &mut Registers, x: Reading, returns: u32) -> Went
     requires { control.at.0 < most_words }
     ensures { Does result registers.new control registers.old

@@ -14,6 +14,7 @@ use v8::{Access, Displacement};
 
 // Where an access aims: 102 where what it reads is unset, `others` being the rest of that, 104 where
 // the address is no multiple of the width.
+#[inline(always)]
 #[tactic(auto, unfolding(crate::specs::Effect::aim_in))]
 fn aim(registers: &Registers, others: bool, rs1: u8, d: Displacement, width: u32) -> Aim
     requires { 1 ≤ width }
@@ -33,6 +34,7 @@ fn aim(registers: &Registers, others: bool, rs1: u8, d: Displacement, width: u32
 }
 
 // Whether what an access moves is set: a store reads its register, a load reads no other.
+#[inline(always)]
 fn moved_set(registers: &Registers, a: Access, rd: u8) -> bool
     ensures { result ≡ moved_set registers.now.marks a rd }
 {
@@ -44,6 +46,7 @@ fn moved_set(registers: &Registers, a: Access, rd: u8) -> bool
 
 // A load or a store: 102 and 104 in this order. What is left is the access itself, which the run
 // does: whether it lies in a field, what it moves, and where control goes then.
+#[inline(always)]
 pub fn step_access(
     control: Control,
     registers: &Registers,

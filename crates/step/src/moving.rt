@@ -15,6 +15,7 @@ use v8::numbers::{UNALIGNED, UNSET_READ, WRONG_RETURN};
 use v8::{Bicc, WordIndex};
 
 // A step that stops at a fault: control stays.
+#[inline(always)]
 pub fn stop(control: Control, fault: u8) -> Went
     ensures { result ≡ record { progress = Progress.Stopped fault; control = control } }
 {
@@ -26,6 +27,7 @@ pub fn stop(control: Control, fault: u8) -> Went
 
 // Where control goes after the word that it stands at: to the next one, or where the transfer before
 // it goes.
+#[inline(always)]
 pub fn due(control: Control) -> Destination
     requires { control.at.0 < most_words }
     ensures { result ≡ due_at control.at.0 control.pending }
@@ -36,6 +38,7 @@ pub fn due(control: Control) -> Destination
 }
 
 // Moves on past a word: to the next one, to where the transfer before it goes, or out.
+#[inline(always)]
 pub fn move_on(control: Control) -> Went
     requires { control.at.0 < most_words }
     ensures { result ≡ arriving control (due_at control.at.0 control.pending) }
@@ -56,6 +59,7 @@ pub fn move_on(control: Control) -> Went
 }
 
 // Follows the edge of a branch that is taken, or the other: over the slot where that runs.
+#[inline(always)]
 fn follow_branch(control: Control, b: Bicc, taken: bool) -> Went
     requires { control.at.0 < most_words }
     ensures { (registers : Registers) → Does result registers control registers
@@ -81,6 +85,7 @@ fn follow_branch(control: Control, b: Bicc, taken: bool) -> Went
 }
 
 // A branch: 102 where its condition reads codes that are unset, else the edge that the codes decide.
+#[inline(always)]
 pub fn branch(control: Control, registers: &Registers, b: Bicc) -> Went
     requires { control.at.0 < most_words }
     ensures { Does result registers.now control registers.now
@@ -95,6 +100,7 @@ pub fn branch(control: Control, registers: &Registers, b: Bicc) -> Went
 
 // The leaf return: 102 where r15 is unset, 104 where it is no multiple of 4, 105 where it is not the
 // return address; else its slot runs, the end pending.
+#[inline(always)]
 pub fn leave(control: Control, registers: &Registers, returns: u32) -> Went
     requires { control.at.0 < most_words }
     ensures { Does result registers.now control registers.now
