@@ -23,7 +23,7 @@ pub enum Shown {
 }
 
 // What is wrong with a line.
-#[derive(Drop)]
+#[derive(Clone, Copy)]
 pub enum Fault {
     // No word and text.
     Malformed,

@@ -1,4 +1,6 @@
 // A whole listing, judged line by line, and what is printed of it.
+ghost use Rattle.listings.specs.Counts.{Grown};
+
 use crate::line::{Shown, judge};
 use output::{print, print_number};
 use records::judging::judge_all;
@@ -16,15 +18,17 @@ struct Tally {
 }
 
 impl Tally {
-    // One line more. (A closure counts, which no bound of a loop reaches: so the sum saturates.)
-    fn count(&mut self, shown: Shown) {
-        let count = match shown {
-            Shown::Kept => &mut self.kept,
-            Shown::KeptByNewer => &mut self.newer,
-            Shown::Refused => &mut self.refused,
-            Shown::Privileged => &mut self.privileged,
-        };
-        *count = count.saturating_add(1);
+    // One line more. Each count grows by at most one. (A closure counts, which no bound of a loop
+    // reaches: so the sum saturates.)
+    fn count(&mut self, shown: Shown)
+        ensures { Grown self.old self.new }
+    {
+        match shown {
+            Shown::Kept => self.kept = self.kept.saturating_add(1),
+            Shown::KeptByNewer => self.newer = self.newer.saturating_add(1),
+            Shown::Refused => self.refused = self.refused.saturating_add(1),
+            Shown::Privileged => self.privileged = self.privileged.saturating_add(1),
+        }
     }
 }
 

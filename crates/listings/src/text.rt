@@ -10,7 +10,7 @@ use v8::{
 struct Asm<T>(T);
 
 // A register, as `%o0`.
-#[derive(Drop)]
+#[derive(Clone, Copy)]
 struct Register(u8);
 
 impl fmt::Display for Register {

@@ -1,4 +1,6 @@
 // The things of the input judged one after another, and what is printed of them.
+ghost use Rattle.std.specs.Prelude.{◌≤◌};
+
 use output::{print, print_number};
 
 // What is wrong with a thing that is judged.
@@ -26,9 +28,12 @@ impl Totals {
     }
 }
 
-// Prints each thing that is wrong, and answers how many there are, of at most so many.
+// Prints each thing that is wrong, and answers how many there are, of at most so many. Each thing counts
+// once, and as wrong at most once.
 pub fn judge_all<W: Wrong, I: Iterator<Item = Result<(), W>>>(most: usize, verdicts: I) -> Totals
     requires { I.can_next verdicts }
+    ensures judged { result.judged ≤ most }
+    ensures wrong { result.wrong ≤ result.judged }
 {
     let mut totals = Totals {
         judged: 0,

@@ -39,12 +39,18 @@ impl<T, F: FnMut() -> Option<Result<T, BadRecord>> + Drop> Iterator for Records<
     }
 }
 
+// Fills a part with bytes that are read, and answers whether there were as many.
+pub fn fill(part: &mut [u8]) -> bool {
+    let n = io::read_full(STDIN_FILENO, part);
+    n == part.len()
+}
+
 // Reads so many bytes, and gives them with zeros after them.
 pub fn read_bytes<const N: usize>(length: usize) -> Result<[u8; N], BadRecord>
     requires { length ≤ N }
 {
     let mut bytes = [0; N];
-    if io::read_full(STDIN_FILENO, &mut bytes[..length]) < length {
+    if !fill(&mut bytes[..length]) {
         return Err(BadRecord);
     }
     Ok(bytes)
