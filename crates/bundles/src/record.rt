@@ -6,11 +6,12 @@
 //   5 to 8   the bundle's length
 ghost use Rattle.std.specs.Prelude.{◌≤◌};
 
+use crate::Answers;
 use output::{line_of, print, print_line, print_number, print_wrong};
 use passes::Answer;
 use records::edition::edition_of;
 use records::judging::Wrong;
-use records::reading::{BadRecord, read_bytes, read_head};
+use records::reading::{BadRecord, fill, read_head};
 use v8::{Edition, WordIndex};
 
 // The longest bundle that is read: one byte more than any that is well-formed.
@@ -89,26 +90,51 @@ fn head_in(header: [u8; 9]) -> Result<Head, BadRecord> {
     })
 }
 
-// Reads the next header.
-pub fn next_head() -> Option<Result<Head, BadRecord>> {
-    let header = read_head()?;
-    Some(header.and_then(head_in))
+// The verdicts on the bundles that are read, one after another, by what answers them. After bad data there
+// is none.
+#[derive(Drop)]
+pub struct Verdicts<A> {
+    answers: A,
+    ended: bool,
 }
 
-impl Head {
-    // Reads the bundle behind the header, and fails where a function gives it another answer than the
-    // expected one.
-    pub fn judge<F: Fn(Edition, &mut [u8]) -> Answer>(self, answer: &F) -> Result<(), Fault>
-        requires { F.IsAlwaysCallable answer.now }
-    {
-        let mut bytes = read_bytes::<ROOM>(self.length)?;
-        let answered = answer(self.edition, &mut bytes[..self.length]);
-        if same(answered, self.expected) {
-            return Ok(());
+impl<A> Verdicts<A> {
+    pub fn new(answers: A) -> Verdicts<A> {
+        Verdicts {
+            answers,
+            ended: false,
         }
-        Err(Fault::Other {
-            answered,
-            expected: self.expected,
-        })
+    }
+}
+
+// Reads the bundle behind a header, and says what is wrong where the answer to it is another than the
+// expected one.
+fn judge<A: Answers>(header: Result<[u8; 9], BadRecord>, answers: &A) -> Result<(), Fault> {
+    let head = head_in(header?)?;
+    let mut room = [0; ROOM];
+    let bytes = &mut room[..head.length];
+    if !fill(bytes) {
+        return Err(Fault::Bad);
+    }
+    let answered = answers.answer(head.edition, bytes);
+    if same(answered, head.expected) {
+        return Ok(());
+    }
+    Err(Fault::Other {
+        answered,
+        expected: head.expected,
+    })
+}
+
+impl<A: Answers> Iterator for Verdicts<A> {
+    type Item = Result<(), Fault>;
+
+    fn next(&mut self) -> Option<Result<(), Fault>> {
+        if self.ended {
+            return None;
+        }
+        let verdict = judge(read_head()?, &self.answers);
+        self.ended = matches!(verdict, Err(Fault::Bad));
+        Some(verdict)
     }
 }

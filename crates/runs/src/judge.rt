@@ -13,7 +13,7 @@ use states::{end_number, same_codes, same_registers};
 use v8::Edition;
 
 // What is wrong with a run.
-#[derive(Drop)]
+#[derive(Clone, Copy)]
 pub enum Fault {
     // The record is no run.
     Malformed,
@@ -96,17 +96,19 @@ fn judge_over(
 }
 
 // What the run must leave in memory: what is read, or what it began with.
-fn memory_after(numbers: &Numbers, start: Bytes) -> Result<Bytes, BadRecord> {
+fn memory_after(numbers: &Numbers, start: Result<Bytes, BadRecord>) -> Result<Bytes, BadRecord> {
     if numbers[CHANGED] == 1 {
         return read_memory(numbers);
     }
-    Ok(start)
+    start
 }
 
-// Reads the memory of a run, makes the run again and compares.
+// Reads the memory of a run, before and after, makes the run again and compares. The second part is read
+// where the first is cut short too.
 pub fn judge(numbers: &Numbers) -> Result<(), Fault> {
-    let start = read_memory(numbers)?;
+    let start = read_memory(numbers);
     let expected = memory_after(numbers, start)?;
+    let start = start?;
     let Some(edition) = edition_of(numbers[EDITION]) else {
         return Err(Fault::Malformed);
     };

@@ -8,7 +8,7 @@ use records::reading::{BadRecord, Numbers};
 use v8::ByteOffset;
 
 // What is wrong with a list.
-#[derive(Drop)]
+#[derive(Clone, Copy)]
 pub enum Fault {
     // The record is no list.
     Malformed,

@@ -14,7 +14,7 @@ use v8::Edition;
 use v8::numbers::ACCEPTED;
 
 // What is wrong with a case.
-#[derive(Drop)]
+#[derive(Clone, Copy)]
 pub enum Fault {
     // The record is no case.
     Malformed,
@@ -92,10 +92,12 @@ fn judge_over(
     Ok(())
 }
 
-// Reads the entry row and the marks of a case, makes its listing again and compares.
+// Reads the entry row and the marks of a case, makes its listing again and compares. The marks are read
+// where the row is cut short too.
 pub fn judge(numbers: &Numbers) -> Result<(), Fault> {
-    let row = read_entry(numbers)?;
+    let row = read_entry(numbers);
     let marks = read_marks(numbers)?;
+    let row = row?;
     let Some(edition) = edition_of(numbers[EDITION]) else {
         return Err(Fault::Malformed);
     };

@@ -11,7 +11,7 @@ use step::Registers;
 use v8::Edition;
 
 // What is wrong with a case.
-#[derive(Drop)]
+#[derive(Clone, Copy)]
 pub enum Fault {
     // The line is no case.
     Malformed,
