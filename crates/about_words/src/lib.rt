@@ -2,6 +2,9 @@
 // the functions that the check itself calls.
 #![tactic(auto)]
 
+ghost use Rattle.std.specs.Prelude.{◌≡◌};
+ghost use Rattle.flow_code.specs.Readings.{reading_at};
+
 use policy::Policy;
 use v8::Reading;
 use v8::numbers::{MOST_WORDS, NOT_READ};
@@ -17,9 +20,10 @@ pub struct Routine<'a> {
 }
 
 impl Routine<'_> {
-    // What the word at an index is read as; what no word stands at is not read. (That of the crate flow_code
-    // asks for the array's length, which is not known of one that a struct borrows.)
-    fn reading_at(&self, at: usize) -> Reading {
+    // What the word at an index is read as; what no word stands at is not read.
+    fn reading_at(&self, at: usize) -> Reading
+        ensures { result ≡ reading_at self.now.readings.now at }
+    {
         let readings = self.readings;
         readings
             .get(at)

@@ -1,4 +1,8 @@
 // Rows as a whole: whether one is there, whether it fits another, and rows that say little.
+ghost use Rattle.std.specs.Prelude.{◌≡◌};
+ghost use Rattle.rows.specs.Flaw.{flawless};
+ghost use Rattle.rows.specs.Row.{misfit};
+
 use joins::unset;
 use rows::entries::{NUMBER, UNSET, fits};
 use rows::geometry::ENTRIES;
@@ -13,7 +17,9 @@ pub fn is_there(row: &Row) -> bool {
 }
 
 // Whether all that a row says fits what another says.
-pub fn fits_row(held: &Row, asked: &Row) -> bool {
+pub fn fits_row(held: &Row, asked: &Row) -> bool
+    ensures { result ≡ flawless (misfit held.now asked.now) }
+{
     fits_note(held.note, asked.note)
         & held
             .entries
