@@ -51,6 +51,15 @@ fn search(asked: &Asked, rows: &mut [u8])
     }
 }
 
+// Writes rows that say nothing where none is given. (Not inlined, so that a search has no room for them.)
+#[inline(never)]
+fn write_none(asked: &Asked, rows: &mut [u8])
+    requires { row_bytes * length asked.now.words.now ≡ length rows.old }
+{
+    let none = [no_row(); MOST_WORDS];
+    fill(asked.words.len(), asked.given, &none, rows);
+}
+
 // Writes the rows that are not given: those that say nothing where no row can mend what is wrong.
 fn write_rows(asked: &Asked, rows: &mut [u8])
     requires { row_bytes * length asked.now.words.now ≡ length rows.old }
@@ -58,12 +67,7 @@ fn write_rows(asked: &Asked, rows: &mut [u8])
     if flows(asked.edition, asked.words) {
         search(asked, rows);
     } else {
-        fill(
-            asked.words.len(),
-            asked.given,
-            &[no_row(); MOST_WORDS],
-            rows,
-        );
+        write_none(asked, rows);
     }
 }
 

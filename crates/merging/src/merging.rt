@@ -39,7 +39,8 @@ pub struct Draft {
 }
 
 impl Draft {
-    // No row is there.
+    // No row is there. (Not inlined, so that what it is made of leaves the stack before rows are found.)
+    #[inline(never)]
     pub fn new() -> Draft {
         Draft {
             rows: [no_row(); MOST_WORDS],
