@@ -6,11 +6,11 @@ ghost use Rattle.rows.specs.Geometry.{row_bytes, entry_bytes, RowLies};
 
 use crate::tables::{begin, fill};
 use checker::check;
-use drafts::{Routine, TABLE_ENTRIES, is_there};
+use drafts::{Routine, TABLE_ENTRIES, is_there, no_row};
 use flow_code::{examine_all, read_all};
 use growth::{SWEEPS, grow};
 use lowering::lower;
-use merging::{Draft, Growth};
+use merging::{Draft, Growth, NOT_GROWN};
 use needs::{find_needs, shorten};
 use passes::Answer;
 use policy::Policy;
@@ -94,7 +94,13 @@ impl Asked<'_> {
             entry: read_row(self.entry, 0),
             res: read_entry(self.res, 0),
         };
-        let mut draft = Draft::new();
+        // Made here, since a function that hands it back takes the stack and the time for two more.
+        let mut draft = Draft {
+            rows: [no_row(); MOST_WORDS],
+            pending: [false; MOST_WORDS],
+            bounds: [None; MOST_WORDS],
+            growths: [NOT_GROWN; TABLE_ENTRIES],
+        };
         begin(rows, count, self.given, &mut draft.rows);
         find_all(&routine, &mut draft);
         fill(count, self.given, &draft.rows, rows);

@@ -7,4 +7,4 @@ mod widening;
 // A row taken up by another.
 mod merging;
 
-pub use merging::{Draft, Growth, Way};
+pub use merging::{Draft, Growth, NOT_GROWN, Way};

@@ -5,7 +5,7 @@ ghost use Rattle.v8.specs.Numbers.{most_words};
 ghost use Rattle.rows.specs.Geometry.{entry_count};
 
 use crate::widening::{Bounds, widen_entry};
-use drafts::{Routine, TABLE_ENTRIES, fits_row, is_there, no_row, unset_row};
+use drafts::{Routine, TABLE_ENTRIES, fits_row, is_there, unset_row};
 use joins::{join, join_note};
 use rows::geometry::ENTRIES;
 use rows::notes::fits_note;
@@ -28,6 +28,12 @@ pub struct Growth {
     pub way: Option<Way>,
 }
 
+// The growth of an entry that has not grown.
+pub const NOT_GROWN: Growth = Growth {
+    times: 0,
+    way: None,
+};
+
 // Rows in draft as they grow: the rows themselves; the words whose rows have changed; the number that each
 // word compares with, if it does; and the growth of each entry.
 #[derive(Clone, Copy)]
@@ -39,20 +45,6 @@ pub struct Draft {
 }
 
 impl Draft {
-    // No row is there. (Not inlined, so that what it is made of leaves the stack before rows are found.)
-    #[inline(never)]
-    pub fn new() -> Draft {
-        Draft {
-            rows: [no_row(); MOST_WORDS],
-            pending: [false; MOST_WORDS],
-            bounds: [None; MOST_WORDS],
-            growths: [Growth {
-                times: 0,
-                way: None,
-            }; TABLE_ENTRIES],
-        }
-    }
-
     // Entry i of word d takes up what comes from word w; whether it has changed.
     fn merge_entry(&mut self, routine: &Routine, d: usize, i: usize, comes: Entry, w: usize) -> bool
         requires { (d < most_words) × (w < most_words) × (i < entry_count) }
