@@ -27,15 +27,15 @@ pub fn store(op: StoreOp, part: &mut [u8], at: usize, v: u32)
 {
     match op {
         StoreOp::St => {
-            let bytes = v.to_be_bytes();
-            part[at..at + 4].copy_from_slice(&bytes);
+            let [first, second, third, fourth] = v.to_be_bytes();
+            part[at..at + 4].copy_from_slice(&[first, second, third, fourth]);
         }
         StoreOp::Stb => {
             part[at] = (v % 256) as u8;
         }
         StoreOp::Sth => {
-            let bytes = ((v % 65536) as u16).to_be_bytes();
-            part[at..at + 2].copy_from_slice(&bytes);
+            let [high, low] = ((v % 65536) as u16).to_be_bytes();
+            part[at..at + 2].copy_from_slice(&[high, low]);
         }
     }
 }
