@@ -4,9 +4,10 @@
 // One record.
 mod record;
 
-use crate::record::Verdicts;
+use crate::record::judge_next;
 use passes::Answer;
 use records::judging::judge_all;
+use records::reading::Records;
 use v8::Edition;
 
 // The most bundles that are read.
@@ -20,5 +21,6 @@ pub trait Answers: Drop {
 // Has each bundle answered, and prints which answers are wrong and how many. Bad data ends the run, and
 // counts as wrong.
 pub fn check_bundles<A: Answers>(answers: A) {
-    judge_all(MOST_BUNDLES, Verdicts::new(answers)).print(b"bundles");
+    let verdicts = Records::new(|| judge_next(&answers)).map(|verdict| verdict?);
+    judge_all(MOST_BUNDLES, verdicts).print(b"bundles");
 }

@@ -26,6 +26,9 @@ pub enum Fault {
     Other { answered: Answer, expected: Answer },
 }
 
+// What a bundle of a whole record shows.
+pub type Verdict = Result<(), Fault>;
+
 impl From<BadRecord> for Fault {
     fn from(_bad: BadRecord) -> Fault {
         Fault::Bad
@@ -90,51 +93,27 @@ fn head_in(header: [u8; 9]) -> Result<Head, BadRecord> {
     })
 }
 
-// The verdicts on the bundles that are read, one after another, by what answers them. After bad data there
-// is none.
-#[derive(Drop)]
-pub struct Verdicts<A> {
-    answers: A,
-    ended: bool,
-}
-
-impl<A> Verdicts<A> {
-    pub fn new(answers: A) -> Verdicts<A> {
-        Verdicts {
-            answers,
-            ended: false,
-        }
-    }
-}
-
 // Reads the bundle behind a header, and says what is wrong where the answer to it is another than the
 // expected one.
-fn judge<A: Answers>(header: Result<[u8; 9], BadRecord>, answers: &A) -> Result<(), Fault> {
-    let head = head_in(header?)?;
+fn judge<A: Answers>(header: [u8; 9], answers: &A) -> Result<Verdict, BadRecord> {
+    let head = head_in(header)?;
     let mut room = [0; ROOM];
     let bytes = &mut room[..head.length];
     if !fill(bytes) {
-        return Err(Fault::Bad);
+        return Err(BadRecord);
     }
     let answered = answers.answer(head.edition, bytes);
     if same(answered, head.expected) {
-        return Ok(());
+        return Ok(Ok(()));
     }
-    Err(Fault::Other {
+    Ok(Err(Fault::Other {
         answered,
         expected: head.expected,
-    })
+    }))
 }
 
-impl<A: Answers> Iterator for Verdicts<A> {
-    type Item = Result<(), Fault>;
-
-    fn next(&mut self) -> Option<Result<(), Fault>> {
-        if self.ended {
-            return None;
-        }
-        let verdict = judge(read_head()?, &self.answers);
-        self.ended = matches!(verdict, Err(Fault::Bad));
-        Some(verdict)
-    }
+// Reads the next record, and judges its bundle.
+pub fn judge_next<A: Answers>(answers: &A) -> Option<Result<Verdict, BadRecord>> {
+    let header = read_head()?;
+    Some(header.and_then(|header| judge(header, answers)))
 }

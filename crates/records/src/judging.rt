@@ -28,8 +28,8 @@ impl Totals {
     }
 }
 
-// Prints each thing that is wrong, and answers how many there are, of at most so many. Each thing counts
-// once, and as wrong at most once.
+// Prints each thing that is wrong, and answers how many there are, of at most so many. No more are wrong
+// than are judged.
 pub fn judge_all<W: Wrong, I: Iterator<Item = Result<(), W>>>(most: usize, verdicts: I) -> Totals
     requires { I.can_next verdicts }
     ensures judged { result.judged ≤ most }

@@ -1,8 +1,9 @@
 // One step of the machine: V8's effect of each instruction of the subset on registers and codes, and
 // which access to the lent memory it makes. (Document 01, "Machine run".)
 //
-// What a step is made of is always inlined, so that the loop of a run goes on from each way through a step
-// at once: else how the step went is packed into a number and told apart again, on every step.
+// All functions here but the methods of `Registers` are always inlined, so that the loop of a run goes on
+// from each way through a step at once. Where they are not, how a step went is packed into a number, and
+// the number is taken apart again on every step.
 #![tactic(auto)]
 
 // Registers read and written.
