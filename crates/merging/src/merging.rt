@@ -1,11 +1,11 @@
 // What a word hands on is taken up by the row of another: entry by entry, the least that both fit; on a
 // way back an entry that grows is widened.
-ghost use Rattle.std.specs.Prelude.{◌<◌};
+ghost use Rattle.std.specs.Prelude.{◌<◌, ◌≡◌, ◌*◌, false, None, replicate};
 ghost use Rattle.v8.specs.Numbers.{most_words};
 ghost use Rattle.rows.specs.Geometry.{entry_count};
 
 use crate::widening::{Bounds, widen_entry};
-use drafts::{Routine, TABLE_ENTRIES, fits_row, is_there, unset_row};
+use drafts::{Routine, TABLE_ENTRIES, fits_row, is_there, no_row, unset_row};
 use joins::{join, join_note};
 use rows::geometry::ENTRIES;
 use rows::notes::fits_note;
@@ -45,6 +45,20 @@ pub struct Draft {
 }
 
 impl Draft {
+    // No row is there. None has changed, no word compares with a number, and no entry has grown.
+    pub fn new() -> Draft
+        ensures pending { result.pending ≡ replicate most_words false }
+        ensures bounds { result.bounds ≡ replicate most_words None }
+        ensures growths { result.growths ≡ replicate (most_words * entry_count) (record { times = 0; way = None }) }
+    {
+        Draft {
+            rows: [no_row(); MOST_WORDS],
+            pending: [false; MOST_WORDS],
+            bounds: [None; MOST_WORDS],
+            growths: [NOT_GROWN; TABLE_ENTRIES],
+        }
+    }
+
     // Entry i of word d takes up what comes from word w; whether it has changed.
     fn merge_entry(&mut self, routine: &Routine, d: usize, i: usize, comes: Entry, w: usize) -> bool
         requires { (d < most_words) × (w < most_words) × (i < entry_count) }
@@ -115,5 +129,18 @@ impl Draft {
             changed |= self.merge_entry(routine, d, i, comes.entries[i], w);
         }
         changed
+    }
+}
+
+#[cfg(test)]
+mod tests {
+    use super::Draft;
+    use drafts::is_there;
+
+    // What no clause says of a new draft.
+    #[test]
+    fn no_row_is_there(rt: HostRuntime) {
+        let draft = Draft::new();
+        assert!(rt; draft.rows.iter().all(|row| !is_there(row)));
     }
 }
