@@ -2,6 +2,7 @@
 ghost use Rattle.std.specs.Prelude.{◌≡◌};
 ghost use Rattle.rows.specs.Flaw.{flawless};
 ghost use Rattle.rows.specs.Row.{misfit};
+ghost use Rattle.drafts.specs.Standing.{no_note, no_row};
 
 use joins::unset;
 use rows::entries::{NUMBER, UNSET, fits};
@@ -29,7 +30,9 @@ pub fn fits_row(held: &Row, asked: &Row) -> bool
 }
 
 // The note that nothing is known of the codes.
-pub fn no_note() -> Note {
+pub fn no_note() -> Note
+    ensures { result ≡ no_note }
+{
     Note {
         kind: NOTE_UNSET,
         register: 0,
@@ -38,7 +41,9 @@ pub fn no_note() -> Note {
 }
 
 // A row that is not there.
-pub fn no_row() -> Row {
+pub fn no_row() -> Row
+    ensures { result ≡ no_row }
+{
     Row {
         entries: [unset(); ENTRIES],
         note: no_note(),

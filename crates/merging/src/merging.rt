@@ -1,8 +1,9 @@
 // What a word hands on is taken up by the row of another: entry by entry, the least that both fit; on a
 // way back an entry that grows is widened.
-ghost use Rattle.std.specs.Prelude.{◌<◌, ◌≡◌, ◌*◌, false, None, replicate};
+ghost use Rattle.std.specs.Prelude.{◌<◌, ◌≡◌};
 ghost use Rattle.v8.specs.Numbers.{most_words};
 ghost use Rattle.rows.specs.Geometry.{entry_count};
+ghost use Rattle.merging.specs.Draft.{new_draft};
 
 use crate::widening::{Bounds, widen_entry};
 use drafts::{Routine, TABLE_ENTRIES, fits_row, is_there, no_row, unset_row};
@@ -47,9 +48,7 @@ pub struct Draft {
 impl Draft {
     // No row is there. None has changed, no word compares with a number, and no entry has grown.
     pub fn new() -> Draft
-        ensures pending { result.pending ≡ replicate most_words false }
-        ensures bounds { result.bounds ≡ replicate most_words None }
-        ensures growths { result.growths ≡ replicate (most_words * entry_count) (record { times = 0; way = None }) }
+        ensures { result ≡ new_draft }
     {
         Draft {
             rows: [no_row(); MOST_WORDS],
@@ -137,7 +136,7 @@ mod tests {
     use super::Draft;
     use drafts::is_there;
 
-    // What no clause says of a new draft.
+    // `is_there` promises nothing: in a new draft it sees no row.
     #[test]
     fn no_row_is_there(rt: HostRuntime) {
         let draft = Draft::new();
